@@ -1,0 +1,29 @@
+-- The number and the detail of each refusal: document 01, "What the replayer says back". Assumes nothing.
+use Prim.Native.Nat.{ℕ}
+use Rattle.answer.specs.declared.Refusal.{Refusal}
+use Rattle.answer.specs.declared.Refusal.the-variants.{Sizes, State, Line, Surplus, Missing, Point, ControlValue, ZonePointer, LoopCount, Range}
+
+abbrev pub numberOf : Refusal → ℕ
+numberOf Sizes = 2
+numberOf State = 3
+numberOf Line = 4
+numberOf Surplus = 5
+numberOf Missing = 6
+numberOf (Point at) = 7
+numberOf (ControlValue at) = 8
+numberOf (ZonePointer operand) = 9
+numberOf (LoopCount operand) = 10
+numberOf (Range start) = 11
+
+-- an index or an operand, widened with its sign to 64 bits; 0 where the paper names none
+abbrev pub detailOf : Refusal → ℕ
+detailOf Sizes = 0
+detailOf State = 0
+detailOf Line = 0
+detailOf Surplus = 0
+detailOf Missing = 0
+detailOf (Point at) = at
+detailOf (ControlValue at) = at
+detailOf (ZonePointer operand) = operand
+detailOf (LoopCount operand) = operand
+detailOf (Range start) = start

@@ -1,0 +1,65 @@
+// What the replayer says back: why a call was refused, with document 01's number and detail for each reason.
+//
+// Each reason is a case of `Refusal`; specs/Answer.antt gives its number and its detail, and every promise on refusals goes
+// through these two definitions. What a refusal leaves in coordinates, flags and state is said where it is given.
+ghost use mathlib.Core.Path.{_≡_};
+ghost use Rattle.answer.specs.Answer.{numberOf, detailOf};
+
+pub enum Refusal {
+    // Unequal lengths, or a size above its limit.
+    Sizes,
+    // A vector component outside -16,384..16,384, or Super45 with period 0.
+    State,
+    // A start beyond the sheet, an opcode word that is no known opcode, a count word that is missing, negative or past the end.
+    Line,
+    // More operands than the line takes.
+    Surplus,
+    // An operand is wanted and the list has run out.
+    Missing,
+    // A point outside its zone.
+    Point(u64),
+    // A control value outside the list.
+    ControlValue(u64),
+    // A zone pointer that is neither 0 nor 1.
+    ZonePointer(u64),
+    // A loop counter below 0.
+    LoopCount(u64),
+    // A range of points with its start above its end, or its end above the zone's length.
+    Range(u64),
+}
+
+impl Refusal {
+    pub fn number(self) -> u32
+        ensures { λ r. ⌜ r ≡ numberOf self ⌝ }
+    {
+        match self {
+            Refusal::Sizes => 2,
+            Refusal::State => 3,
+            Refusal::Line => 4,
+            Refusal::Surplus => 5,
+            Refusal::Missing => 6,
+            Refusal::Point(_) => 7,
+            Refusal::ControlValue(_) => 8,
+            Refusal::ZonePointer(_) => 9,
+            Refusal::LoopCount(_) => 10,
+            Refusal::Range(_) => 11,
+        }
+    }
+
+    pub fn detail(self) -> u64
+        ensures { λ r. ⌜ r ≡ detailOf self ⌝ }
+    {
+        match self {
+            Refusal::Sizes => 0,
+            Refusal::State => 0,
+            Refusal::Line => 0,
+            Refusal::Surplus => 0,
+            Refusal::Missing => 0,
+            Refusal::Point(at) => at,
+            Refusal::ControlValue(at) => at,
+            Refusal::ZonePointer(operand) => operand,
+            Refusal::LoopCount(operand) => operand,
+            Refusal::Range(start) => start,
+        }
+    }
+}
