@@ -2,6 +2,8 @@
 use Prim.Native.Nat.{ℕ}
 use Rattle.answer.specs.declared.Refusal.{Refusal}
 use Rattle.answer.specs.declared.Refusal.the-variants.{Sizes, State, Line, Surplus, Missing, Point, ControlValue, ZonePointer, LoopCount, Range}
+use Rattle.answer.specs.declared.Call.{Call}
+use Rattle.answer.specs.declared.Call.the-variants.{Done, Refused}
 
 abbrev pub numberOf : Refusal → ℕ
 numberOf Sizes = 2
@@ -27,3 +29,12 @@ detailOf (ControlValue at) = at
 detailOf (ZonePointer operand) = operand
 detailOf (LoopCount operand) = operand
 detailOf (Range start) = start
+
+-- a direct call that returns nothing: 0 where it is done
+abbrev pub numberOfCall : Call → ℕ
+numberOfCall Done = 0
+numberOfCall (Refused why) = numberOf why
+
+abbrev pub detailOfCall : Call → ℕ
+detailOfCall Done = 0
+detailOfCall (Refused why) = detailOf why

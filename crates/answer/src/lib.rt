@@ -3,7 +3,7 @@
 // Each reason is a case of `Refusal`; specs/Answer.antt gives its number and its detail, and every promise on refusals goes
 // through these two definitions. What a refusal leaves in coordinates, flags and state is said where it is given.
 ghost use mathlib.Core.Path.{_≡_};
-ghost use Rattle.answer.specs.Answer.{numberOf, detailOf};
+ghost use Rattle.answer.specs.Answer.{numberOf, detailOf, numberOfCall, detailOfCall};
 
 pub enum Refusal {
     // Unequal lengths, or a size above its limit.
@@ -60,6 +60,32 @@ impl Refusal {
             Refusal::ZonePointer(operand) => operand,
             Refusal::LoopCount(operand) => operand,
             Refusal::Range(start) => start,
+        }
+    }
+}
+
+// What a direct call that returns nothing says. Its place and its line count are 0.
+pub enum Call {
+    Done,
+    Refused(Refusal),
+}
+
+impl Call {
+    pub fn number(self) -> u32
+        ensures { λ r. ⌜ r ≡ numberOfCall self ⌝ }
+    {
+        match self {
+            Call::Done => 0,
+            Call::Refused(why) => why.number(),
+        }
+    }
+
+    pub fn detail(self) -> u64
+        ensures { λ r. ⌜ r ≡ detailOfCall self ⌝ }
+    {
+        match self {
+            Call::Done => 0,
+            Call::Refused(why) => why.detail(),
         }
     }
 }
