@@ -1,0 +1,73 @@
+-- `sheet::set_state` meets its contract: by the opcode and whether there is an operand. Assumes nothing.
+use mathlib.Core.Path.{sym, ap, _∙_}
+use borrow.Author.Needs.{needs}
+use borrow.Author.Tests.{lt-ltb, le-ltb}
+use denote.Ref.{now}
+use Rattle.graphics.specs.State.{withRoundMode}
+use Rattle.int.proofs.Words.{back32}
+use Rattle.line.specs.Line.{doneWith}
+use Rattle.sheet.proofs.Lines.{no-operand, an-operand}
+use Rattle.sheet.specs.Setters.{operandBy, setBy}
+use Rattle.sheet.proofs.set_state.Statement.{statement}
+use Rattle.sheet.proofs.set_state.Tie as tie
+
+set-vectors-requires : tie.Need-set-vectors-requires
+set-vectors-requires c κs = search needs
+
+done-requires : tie.Need-done-requires
+done-requires c κs = search needs
+
+returns : tie.Need-returns
+unfolding setBy
+returns c = let s = c .before .before .before in
+    rw (lt-ltb (s .args .opcode) 0x06 (c .before .before .if1 .taken)) (c .done .ensures ∙ ap doneWith (c .before .set-vectors .ensures))
+
+mode-by-requires : tie.Need-mode-by-requires
+mode-by-requires c κs = search needs
+
+with-round-mode-requires : tie.Need-with-round-mode-requires
+with-round-mode-requires c κs = search needs
+
+done-requires-2 : tie.Need-done-requires-2
+done-requires-2 c κs = search needs
+
+returns-2 : tie.Need-returns-2
+unfolding setBy
+returns-2 c = let s = c .before .before .before .before .before in
+    rw (le-ltb (s .args .opcode) 0x06 (c .before .before .before .before .if1 .left), lt-ltb 0x17 (s .args .opcode) (c .before .before .before .if2 .taken)) (c .done2 .ensures ∙ ap doneWith (c .before .with-round-mode .ensures ∙ ap (withRoundMode (s .args .s)) (c .before .before .mode-by .ensures)))
+
+refused-requires : tie.Need-refused-requires
+refused-requires c κs = search needs
+
+returns-3 : tie.Need-returns-3
+unfolding setBy
+returns-3 c = let s = c .before .before .before .before in
+    rw (le-ltb (s .args .opcode) 0x06 (c .before .before .before .if1 .left), le-ltb 0x17 (s .args .opcode) (c .before .before .if2 .left)) (c .refused .ensures ∙ sym (no-operand (s .args .s) (operandBy (s .args .s) (s .args .opcode)) (now (s .args .operands)) (c .before .if3 .taken)))
+
+shared-slice-copy-out-set-by-operand : tie.Need-shared-slice-copy-out-set-by-operand
+shared-slice-copy-out-set-by-operand c = search needs
+
+set-by-operand-requires : tie.Need-set-by-operand-requires
+set-by-operand-requires c κs = search needs
+
+returns-4 : tie.Need-returns-4
+unfolding setBy
+returns-4 c = let s = c .before .before .before .before .before in
+    rw (le-ltb (s .args .opcode) 0x06 (c .before .before .before .before .if1 .left), le-ltb 0x17 (s .args .opcode) (c .before .before .before .if2 .left)) (c .set-by-operand .ensures ∙ ap (operandBy (s .args .s) (s .args .opcode)) (back32 _ (c .before .set-by-operand-arg .given)) ∙ sym (an-operand (s .args .s) (operandBy (s .args .s) (s .args .opcode)) (now (s .args .operands)) (c .before .before .if3 .left)))
+
+pub set-state-spec : {M : Type 1} → statement M
+set-state-spec =
+    tie.close
+    (tie.spec
+    set-vectors-requires
+    done-requires
+    returns
+    mode-by-requires
+    with-round-mode-requires
+    done-requires-2
+    returns-2
+    refused-requires
+    returns-3
+    shared-slice-copy-out-set-by-operand
+    set-by-operand-requires
+    returns-4)

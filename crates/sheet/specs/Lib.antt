@@ -1,0 +1,2 @@
+pub mod Setters
+pub mod Table
