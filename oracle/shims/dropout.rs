@@ -1,0 +1,1 @@
+//! Stands in for the missing file; nothing that the oracle runs uses it.

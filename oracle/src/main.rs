@@ -1,0 +1,152 @@
+//! Runs the Rust that Taleviqa ports: samples, comparisons, coverage.
+
+mod answer;
+mod case;
+mod claims;
+mod compare;
+mod coverage;
+mod direct;
+mod entry;
+mod generate;
+mod lines_of;
+mod math_rows;
+mod notable;
+mod numbers;
+mod panics;
+mod projection_rows;
+mod random;
+mod record;
+mod replay;
+mod sample;
+mod scene;
+mod serve;
+mod show;
+mod shrink;
+mod vectors;
+mod words;
+mod world;
+
+use serve::Stream;
+use std::{path::Path, process::ExitCode};
+
+const USAGE: &str = "\
+usage: oracle/run COMMAND
+  sample FOLDER            write the six sample files, the same bytes every time
+  check FOLDER             make them again and compare with the folder's
+  show FILE                print a sample file as text
+  coverage N SEED          make N cases, count what came up, fail if a kind is missing
+  coverage FOLDER          count what a sample holds, fail if a kind is missing
+  claims                   run document 01's numbers and the findings
+  compare [--math|--projection] N SEED PROGRAM
+                           run the Rust and a program, print differences
+  serve cases|math|projection         answer a stream from standard input
+  serve-wrongly cases|math|projection the same with one answer wrong
+  record FILE              write document 01's whole run as a record
+  replay FILE [START BUDGET]  run a record and print everything
+  panics N SEED            find where the Rust panics (build it as checked)";
+
+fn main() -> ExitCode {
+    panics::watch();
+    let arguments: Vec<String> = std::env::args().skip(1).collect();
+    let arguments: Vec<&str> = arguments.iter().map(String::as_str).collect();
+    match command(&arguments) {
+        Ok(true) => ExitCode::SUCCESS,
+        Ok(false) => ExitCode::FAILURE,
+        Err(error) => {
+            eprintln!("oracle: {error}");
+            ExitCode::from(2)
+        }
+    }
+}
+
+fn command(arguments: &[&str]) -> Result<bool, String> {
+    match arguments {
+        ["sample", folder] => sample::write(Path::new(folder)).map(|()| true),
+        ["check", folder] => sample::check(Path::new(folder)),
+        ["show", file] => show_file(file).map(|()| true),
+        ["coverage", folder] => sample::coverage(Path::new(folder)),
+        ["coverage", count, seed] => Ok(coverage::of_random(count_of(count)?, number(seed)?)),
+        ["claims"] => Ok(claims::check_all()),
+        ["compare", "--math", rest @ ..] => compare(Stream::Math, rest),
+        ["compare", "--projection", rest @ ..] => compare(Stream::Projection, rest),
+        ["compare", rest @ ..] => compare(Stream::Cases, rest),
+        ["serve", name] => serve::serve(stream(name)?).map(|()| true),
+        ["serve-wrongly", name] => serve::serve_wrongly(stream(name)?).map(|()| true),
+        ["record", file] => write_record(file).map(|()| true),
+        ["replay", file] => replay(file, None),
+        ["replay", file, start, budget] => replay(file, Some((number(start)?, number(budget)?))),
+        ["panics", count, seed] => {
+            panics::find(count_of(count)?, number(seed)?);
+            Ok(true)
+        }
+        ["help" | "-h" | "--help"] => {
+            println!("{USAGE}");
+            Ok(true)
+        }
+        _ => Err(format!("no such command\n{USAGE}")),
+    }
+}
+
+fn number(text: &str) -> Result<u64, String> {
+    text.parse().map_err(|_| format!("{text} is no number"))
+}
+
+fn count_of(text: &str) -> Result<usize, String> {
+    text.parse().map_err(|_| format!("{text} is no number"))
+}
+
+fn stream(name: &str) -> Result<Stream, String> {
+    Stream::named(name).ok_or(format!("{name} is none of cases, math, projection"))
+}
+
+fn compare(stream: Stream, arguments: &[&str]) -> Result<bool, String> {
+    let [count, seed, program] = arguments else {
+        return Err("compare takes N, SEED and a PROGRAM".into());
+    };
+    compare::compare(stream, count_of(count)?, number(seed)?, program)
+}
+
+fn show_file(file: &str) -> Result<(), String> {
+    let words = words::from_bytes(&read_file(file)?)?;
+    let name = Path::new(file).file_name().and_then(|name| name.to_str());
+    let text = match name {
+        Some("math") => show::math(&words)?,
+        Some("projection") => show::projection(&words)?,
+        _ => show::cases(&words)?,
+    };
+    print_text(&text)
+}
+
+fn write_record(file: &str) -> Result<(), String> {
+    let world = generate::whole_run_of_01().world;
+    let bytes = words::to_bytes(&record::write(&world));
+    std::fs::write(file, bytes).map_err(|error| format!("{file}: {error}"))
+}
+
+/// Runs a record; document 02's start and budget unless others are given.
+fn replay(file: &str, given: Option<(u64, u64)>) -> Result<bool, String> {
+    let mut world = match record::read(&read_file(file)?) {
+        Ok(world) => world,
+        Err(number) => {
+            println!("{number} 0 0 0");
+            return Ok(false);
+        }
+    };
+    let (start, budget) = given.unwrap_or((0, world.lists[world::SHEET].len() as u64));
+    let answer = replay::run(&mut world, start, budget);
+    print_text(&format!("{answer}\n{}", show::world_text(&world)))?;
+    Ok(true)
+}
+
+fn read_file(file: &str) -> Result<Vec<u8>, String> {
+    std::fs::read(file).map_err(|error| format!("{file}: {error}"))
+}
+
+/// A reader that has seen enough and closes the pipe is no error.
+fn print_text(text: &str) -> Result<(), String> {
+    use std::io::{ErrorKind, Write};
+    match std::io::stdout().write_all(text.as_bytes()) {
+        Err(error) if error.kind() != ErrorKind::BrokenPipe => Err(error.to_string()),
+        _ => Ok(()),
+    }
+}

@@ -1,0 +1,153 @@
+//! The committed sample: six files, the same bytes every time.
+
+use crate::{
+    case::Case,
+    coverage,
+    direct::Call,
+    generate::{
+        every_opcode, every_setter, iup_case, limit_cases, line_case, long_iup_case,
+        long_iup_shift_case, run_case, runs_of_01, zone_case, OUTLINE_LINES,
+    },
+    math_rows, notable, projection_rows,
+    random::Random,
+    words,
+    world::MOST_POINTS,
+};
+use std::path::Path;
+
+const ZONE_SEED: u64 = 0x7A6F_6E65;
+const IUP_SEED: u64 = 0x0069_7570;
+const OUTLINE_SEED: u64 = 0x6F75_746C;
+const RUNS_SEED: u64 = 0x7275_6E73;
+const ZONE_CASES: usize = 5_000;
+const IUP_CASES: usize = 3_400;
+const LINES_EACH: usize = 480;
+const RUN_CASES: usize = 2_800;
+
+const NAMES: [&str; 6] = ["math", "projection", "zone", "iup", "outline", "runs"];
+
+/// Writes the six files into a folder and says how large each is.
+pub fn write(folder: &Path) -> Result<(), String> {
+    std::fs::create_dir_all(folder).map_err(|error| error.to_string())?;
+    for name in NAMES {
+        let (count, words) = make(name);
+        let path = folder.join(name);
+        let bytes = words::to_bytes(&words);
+        std::fs::write(&path, &bytes).map_err(|error| format!("{}: {error}", path.display()))?;
+        println!("{name}: {count} cases, {} bytes", bytes.len());
+    }
+    Ok(())
+}
+
+/// True if the folder's files are what would be written today.
+pub fn check(folder: &Path) -> Result<bool, String> {
+    let mut all_alike = true;
+    for name in NAMES {
+        let path = folder.join(name);
+        let kept = std::fs::read(&path).map_err(|error| format!("{}: {error}", path.display()))?;
+        let alike = kept == words::to_bytes(&make(name).1);
+        println!("{name}: {}", if alike { "the same" } else { "DIFFERENT" });
+        all_alike &= alike;
+    }
+    Ok(all_alike)
+}
+
+/// Counts what the folder's files hold; true if nothing is missing.
+pub fn coverage(folder: &Path) -> Result<bool, String> {
+    let mut files = Vec::new();
+    for name in NAMES {
+        let path = folder.join(name);
+        let bytes = std::fs::read(&path).map_err(|error| format!("{}: {error}", path.display()))?;
+        files.push((name.to_string(), words::from_bytes(&bytes)?));
+    }
+    coverage::of_sample(&files)
+}
+
+/// How many cases a file has, and its words.
+fn make(name: &str) -> (usize, Vec<u32>) {
+    match name {
+        "math" => {
+            let rows = math_rows::sample();
+            (
+                rows.len(),
+                rows.iter().flat_map(|row| row.words()).collect(),
+            )
+        }
+        "projection" => {
+            let rows = projection_rows::sample();
+            (
+                rows.len(),
+                rows.iter().flat_map(|row| row.words()).collect(),
+            )
+        }
+        _ => {
+            let cases = cases_of(name);
+            let words = cases.iter().flat_map(|case| case.words(&case.outcome()));
+            (cases.len(), words.collect())
+        }
+    }
+}
+
+/// The cases of one of the four files that hold cases.
+fn cases_of(name: &str) -> Vec<Case> {
+    match name {
+        "zone" => zone_cases(),
+        "iup" => iup_cases(),
+        "outline" => outline_cases(),
+        _ => runs(),
+    }
+}
+
+fn zone_cases() -> Vec<Case> {
+    let mut random = Random::new(ZONE_SEED);
+    let at_limits = limit_cases(&mut random).into_iter().filter(is_zone_call);
+    let mut cases: Vec<Case> = at_limits.collect();
+    cases.extend((0..ZONE_CASES).map(|_| zone_case(&mut random)));
+    cases
+}
+
+fn iup_cases() -> Vec<Case> {
+    let mut random = Random::new(IUP_SEED);
+    let at_limits = limit_cases(&mut random).into_iter().filter(is_iup);
+    let mut cases = notable::iups();
+    cases.extend(at_limits);
+    for points in [2, 3, 40, 300] {
+        cases.push(long_iup_case(&mut random, points));
+        cases.push(long_iup_shift_case(&mut random, points));
+    }
+    cases.push(long_iup_shift_case(&mut random, MOST_POINTS));
+    cases.extend((0..IUP_CASES).map(|_| iup_case(&mut random)));
+    cases
+}
+
+fn outline_cases() -> Vec<Case> {
+    let mut random = Random::new(OUTLINE_SEED);
+    let mut cases = notable::lines();
+    for (_, opcodes) in OUTLINE_LINES {
+        cases.extend((0..LINES_EACH).map(|_| line_case(&mut random, opcodes)));
+    }
+    cases
+}
+
+/// 01's runs first, then each opcode and setter, the limits, and random ones.
+fn runs() -> Vec<Case> {
+    let mut random = Random::new(RUNS_SEED);
+    let mut cases = runs_of_01().to_vec();
+    cases.extend(every_opcode());
+    cases.extend(every_setter());
+    cases.extend(limit_cases(&mut random).into_iter().filter(is_run));
+    cases.extend((0..RUN_CASES).map(|_| run_case(&mut random)));
+    cases
+}
+
+fn is_run(case: &Case) -> bool {
+    matches!(case.call, Call::Run { .. })
+}
+
+fn is_iup(case: &Case) -> bool {
+    matches!(case.call, Call::Iup { .. })
+}
+
+fn is_zone_call(case: &Case) -> bool {
+    !is_run(case) && !is_iup(case)
+}
