@@ -1,11 +1,12 @@
--- Which states pass the state test: the fresh one does, and no setter but of a vector or the round state is asked about. A second run starts
--- from the state that the first one left, so each line has to keep what the test asks. Each law goes by the parts of the test. Assumes nothing.
+-- Which states pass the state test. It reads the vectors and the round state alone, so every other setter keeps its answer, and a vector in
+-- range or a mode that can be rounded by keeps a yes: a second run, which starts from the state that the first one left, passes it again.
+-- Each law goes by the parts of the test. Assumes nothing.
 use mathlib.Core.Path.{_≡_, refl}
 use mathlib.Core.Bool.{Bool, true, false, _&&_}
 use Prim.Native.Nat.{ℕ}
 use Rattle.round.specs.Round.{usable, usableBy}
 use Rattle.round.specs.declared.RoundMode.{RoundMode}
-use Rattle.graphics.specs.State.{xAxis, yAxis, vectorInRange, vectorsInRange, usableState, freshState, withReferences, withLoopCounter, withPointers, withFacts, withAllVectors, withProjectionVectors, withFreedomVector, withRoundMode}
+use Rattle.graphics.specs.State.{xAxis, yAxis, inRange, vectorInRange, vectorsInRange, usableState, freshState, withReferences, withLoopCounter, withPointers, withFacts, withVectors, withRound, allAlong, measuredAlong, movedAlong, inMode}
 use Rattle.graphics.specs.declared.Vector.{Vector}
 use Rattle.graphics.specs.declared.References.{References}
 use Rattle.graphics.specs.declared.ZonePointers.{ZonePointers}
@@ -13,13 +14,22 @@ use Rattle.graphics.specs.declared.Facts.{Facts}
 use Rattle.graphics.specs.declared.GraphicsState.{GraphicsState}
 
 -- ---- each of two tests
-first : (a b : Bool) → a && b ≡ true → a ≡ true
-first true b e = refl
-first false b e = cc e
+pub and-left : (a b : Bool) → a && b ≡ true → a ≡ true
+and-left true b e = refl
+and-left false b e = cc e
 
-second : (a b : Bool) → a && b ≡ true → b ≡ true
-second true b e = e
-second false b e = cc e
+pub and-right : (a b : Bool) → a && b ≡ true → b ≡ true
+and-right true b e = e
+and-right false b e = cc e
+
+-- ---- the components of a vector in range
+pub x-of : (v : Vector) → vectorInRange v ≡ true → inRange (v .x) ≡ true
+unfolding vectorInRange
+x-of v h = and-left (inRange (v .x)) (inRange (v .y)) h
+
+pub y-of : (v : Vector) → vectorInRange v ≡ true → inRange (v .y) ≡ true
+unfolding vectorInRange
+y-of v h = and-right (inRange (v .x)) (inRange (v .y)) h
 
 -- ---- the axes and the fresh state
 pub x-in-range : vectorInRange xAxis ≡ true
@@ -53,35 +63,35 @@ usable-facts s f = refl
 
 -- ---- what it reads
 module _ (s : GraphicsState) (ok : usableState s ≡ true) where
-  vectors-ok : vectorsInRange (s .vectors) ≡ true
+  pub vectors-ok : vectorsInRange (s .vectors) ≡ true
   unfolding usableState
-  vectors-ok = first _ (usable (s .round)) ok
+  vectors-ok = and-left _ (usable (s .round)) ok
 
-  round-ok : usable (s .round) ≡ true
+  pub round-ok : usable (s .round) ≡ true
   unfolding usableState
-  round-ok = second (vectorsInRange (s .vectors)) _ ok
+  round-ok = and-right (vectorsInRange (s .vectors)) _ ok
 
-  measured-ok : vectorInRange (s .vectors .projection) && vectorInRange (s .vectors .dual) ≡ true
+  pub measured-ok : vectorInRange (s .vectors .projection) && vectorInRange (s .vectors .dual) ≡ true
   unfolding vectorsInRange
-  measured-ok = first _ (vectorInRange (s .vectors .freedom)) vectors-ok
+  measured-ok = and-left _ (vectorInRange (s .vectors .freedom)) vectors-ok
 
-  freedom-ok : vectorInRange (s .vectors .freedom) ≡ true
+  pub freedom-ok : vectorInRange (s .vectors .freedom) ≡ true
   unfolding vectorsInRange
-  freedom-ok = second (vectorInRange (s .vectors .projection) && vectorInRange (s .vectors .dual)) _ vectors-ok
+  freedom-ok = and-right (vectorInRange (s .vectors .projection) && vectorInRange (s .vectors .dual)) _ vectors-ok
 
-  pub usable-all-vectors : (v : Vector) → vectorInRange v ≡ true → usableState (withAllVectors s v) ≡ true
+  pub usable-all-vectors : (v : Vector) → vectorInRange v ≡ true → usableState (withVectors s (allAlong v)) ≡ true
   unfolding usableState vectorsInRange
   usable-all-vectors v h = rw (h, round-ok)
 
-  pub usable-projection-vectors : (v : Vector) → vectorInRange v ≡ true → usableState (withProjectionVectors s v) ≡ true
+  pub usable-projection-vectors : (v : Vector) → vectorInRange v ≡ true → usableState (withVectors s (measuredAlong (s .vectors) v)) ≡ true
   unfolding usableState vectorsInRange
   usable-projection-vectors v h = rw (h, freedom-ok, round-ok)
 
-  pub usable-freedom-vector : (v : Vector) → vectorInRange v ≡ true → usableState (withFreedomVector s v) ≡ true
+  pub usable-freedom-vector : (v : Vector) → vectorInRange v ≡ true → usableState (withVectors s (movedAlong (s .vectors) v)) ≡ true
   unfolding usableState vectorsInRange
   usable-freedom-vector v h = rw (measured-ok, h, round-ok)
 
   -- every mode but Super45, and that one with a period
-  pub usable-round-mode : (m : RoundMode) → usableBy (s .round .period) m ≡ true → usableState (withRoundMode s m) ≡ true
+  pub usable-round-mode : (m : RoundMode) → usableBy (s .round .period) m ≡ true → usableState (withRound s (inMode (s .round) m)) ≡ true
   unfolding usableState
   usable-round-mode m h = rw (vectors-ok, h)

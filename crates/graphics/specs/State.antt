@@ -1,7 +1,7 @@
 -- The graphics state: OpenType, "The graphics state" (tt_graphics_state) with its defaults, and the instructions SVTCA, SPVTCA, SFVTCA, RTG and
--- its kin, SLOOP, SRP0 to SRP2, SZP0 to SZP2 and SZPS, each of which sets one group of it. The five facts are FreeType 2.13.3's, ttinterp.h
--- (backward_compatibility, pedantic_hinting, iupx_called, iupy_called), with the native ClearType fact of document 01, which gives the
--- range of a vector and the state that a glyph starts with. Each builder sets one group and names every other once. Assumes nothing.
+-- its kin, SLOOP, SRP0 to SRP2, SZP0 to SZP2 and SZPS, each of which sets a part of one group. The facts are those that FreeType 2.13.3 keeps
+-- beside it (ttinterp.c: backward_compatibility, pedantic_hinting, iupx_called, iupy_called), and native ClearType x, which the host gives.
+-- Document 01 gives a vector's range and the state that a glyph starts with. Assumes nothing.
 use mathlib.Core.Bool.{Bool, true, false, _&&_}
 use Prim.Native.Nat.{ℕ}
 use lib.IntN.{ℤ, pos, negℤ}
@@ -30,17 +30,62 @@ xAxis = record { x = one; y = pos 0 }
 abbrev pub yAxis : Vector
 yAxis = record { x = pos 0; y = one }
 
+-- SVTCA; SPVTCA; SFVTCA
 abbrev pub allAlong : Vector → Vectors
 allAlong v = record { projection = v; dual = v; freedom = v }
 
-abbrev pub allZones : ZonePointer → ZonePointers
-allZones zone = record { zp0 = zone; zp1 = zone; zp2 = zone }
+abbrev pub measuredAlong : Vectors → Vector → Vectors
+measuredAlong vs v = record { projection = v; dual = v; freedom = vs .freedom }
+
+abbrev pub movedAlong : Vectors → Vector → Vectors
+movedAlong vs v = record { projection = vs .projection; dual = vs .dual; freedom = v }
+
+-- RTG and its kin: the mode alone
+abbrev pub inMode : RoundState → RoundMode → RoundState
+inMode r m = record { mode = m; threshold = r .threshold; phase = r .phase; period = r .period }
+
+-- SRP0; SRP1; SRP2
+abbrev pub rp0At : References → ℕ → References
+rp0At p at = record { rp0 = at; rp1 = p .rp1; rp2 = p .rp2 }
+
+abbrev pub rp1At : References → ℕ → References
+rp1At p at = record { rp0 = p .rp0; rp1 = at; rp2 = p .rp2 }
+
+abbrev pub rp2At : References → ℕ → References
+rp2At p at = record { rp0 = p .rp0; rp1 = p .rp1; rp2 = at }
 
 abbrev pub isTwilight : ZonePointer → Bool
 isTwilight Twilight = true
 isTwilight Glyph = false
 
--- whether points are held fast
+-- SZPS
+abbrev pub allZones : ZonePointer → ZonePointers
+allZones zone = record { zp0 = zone; zp1 = zone; zp2 = zone }
+
+-- SZP0; SZP1; SZP2
+abbrev pub zp0In : ZonePointers → ZonePointer → ZonePointers
+zp0In p zone = record { zp0 = zone; zp1 = p .zp1; zp2 = p .zp2 }
+
+abbrev pub zp1In : ZonePointers → ZonePointer → ZonePointers
+zp1In p zone = record { zp0 = p .zp0; zp1 = zone; zp2 = p .zp2 }
+
+abbrev pub zp2In : ZonePointers → ZonePointer → ZonePointers
+zp2In p zone = record { zp0 = p .zp0; zp1 = p .zp1; zp2 = zone }
+
+abbrev pub allNo : Facts
+allNo = record { «backward_compatibility» = false; pedantic = false; «native_clear_type_x» = false; «did_iup_x» = false; «did_iup_y» = false }
+
+-- the marks that IUP sets
+abbrev pub marked : Facts → Bool → Bool → Facts
+marked f x y = record { «backward_compatibility» = f .«backward_compatibility»; pedantic = f .pedantic; «native_clear_type_x» = f .«native_clear_type_x»; «did_iup_x» = x; «did_iup_y» = y }
+
+abbrev pub markedX : Facts → Facts
+markedX f = marked f true (f .«did_iup_y»)
+
+abbrev pub markedY : Facts → Facts
+markedY f = marked f (f .«did_iup_x») true
+
+-- whether y is held fast too
 abbrev pub pastBothIups : Facts → Bool
 pastBothIups f = f .«backward_compatibility» && f .«did_iup_x» && f .«did_iup_y»
 
@@ -66,7 +111,7 @@ freshState = record {
   «loop_counter» = 1;
   pointers = allZones Glyph;
   «cut_in» = pos 68;
-  facts = record { «backward_compatibility» = false; pedantic = false; «native_clear_type_x» = false; «did_iup_x» = false; «did_iup_y» = false };
+  facts = allNo;
 }
 
 -- ---- one group set, every other kept
@@ -87,51 +132,3 @@ withPointers s p = record { vectors = s .vectors; round = s .round; references =
 
 abbrev pub withFacts : GraphicsState → Facts → GraphicsState
 withFacts s f = record { vectors = s .vectors; round = s .round; references = s .references; «loop_counter» = s .«loop_counter»; pointers = s .pointers; «cut_in» = s .«cut_in»; facts = f }
-
--- ---- what the instructions set of a group
--- SVTCA; SPVTCA; SFVTCA
-abbrev pub withAllVectors : GraphicsState → Vector → GraphicsState
-withAllVectors s v = withVectors s (allAlong v)
-
-abbrev pub withProjectionVectors : GraphicsState → Vector → GraphicsState
-withProjectionVectors s v = withVectors s (record { projection = v; dual = v; freedom = s .vectors .freedom })
-
-abbrev pub withFreedomVector : GraphicsState → Vector → GraphicsState
-withFreedomVector s v = withVectors s (record { projection = s .vectors .projection; dual = s .vectors .dual; freedom = v })
-
--- RTG and its kin: the mode alone
-abbrev pub withRoundMode : GraphicsState → RoundMode → GraphicsState
-withRoundMode s m = withRound s (record { mode = m; threshold = s .round .threshold; phase = s .round .phase; period = s .round .period })
-
--- SRP0, SRP1, SRP2
-abbrev pub withRp0 : GraphicsState → ℕ → GraphicsState
-withRp0 s at = withReferences s (record { rp0 = at; rp1 = s .references .rp1; rp2 = s .references .rp2 })
-
-abbrev pub withRp1 : GraphicsState → ℕ → GraphicsState
-withRp1 s at = withReferences s (record { rp0 = s .references .rp0; rp1 = at; rp2 = s .references .rp2 })
-
-abbrev pub withRp2 : GraphicsState → ℕ → GraphicsState
-withRp2 s at = withReferences s (record { rp0 = s .references .rp0; rp1 = s .references .rp1; rp2 = at })
-
--- SZP0, SZP1, SZP2; SZPS
-abbrev pub withZp0 : GraphicsState → ZonePointer → GraphicsState
-withZp0 s zone = withPointers s (record { zp0 = zone; zp1 = s .pointers .zp1; zp2 = s .pointers .zp2 })
-
-abbrev pub withZp1 : GraphicsState → ZonePointer → GraphicsState
-withZp1 s zone = withPointers s (record { zp0 = s .pointers .zp0; zp1 = zone; zp2 = s .pointers .zp2 })
-
-abbrev pub withZp2 : GraphicsState → ZonePointer → GraphicsState
-withZp2 s zone = withPointers s (record { zp0 = s .pointers .zp0; zp1 = s .pointers .zp1; zp2 = zone })
-
-abbrev pub withAllPointers : GraphicsState → ZonePointer → GraphicsState
-withAllPointers s zone = withPointers s (allZones zone)
-
--- the marks that IUP sets
-abbrev pub withMarks : GraphicsState → Bool → Bool → GraphicsState
-withMarks s x y = withFacts s (record { «backward_compatibility» = s .facts .«backward_compatibility»; pedantic = s .facts .pedantic; «native_clear_type_x» = s .facts .«native_clear_type_x»; «did_iup_x» = x; «did_iup_y» = y })
-
-abbrev pub withDidIupX : GraphicsState → GraphicsState
-withDidIupX s = withMarks s true (s .facts .«did_iup_y»)
-
-abbrev pub withDidIupY : GraphicsState → GraphicsState
-withDidIupY s = withMarks s (s .facts .«did_iup_x») true

@@ -7,7 +7,7 @@ use int::within;
 use round::RoundMode;
 use round::RoundState;
 ghost use mathlib.Core.Path.{_≡_};
-ghost use Rattle.graphics.specs.State.{xAxis, yAxis, isTwilight, vectorInRange, vectorsInRange, usableState, pastBothIups, freshState, withAllVectors, withProjectionVectors, withFreedomVector, withRoundMode, withLoopCounter, withRp0, withRp1, withRp2, withZp0, withZp1, withZp2, withAllPointers, withDidIupX, withDidIupY};
+ghost use Rattle.graphics.specs.State.{xAxis, yAxis, allAlong, measuredAlong, movedAlong, inMode, rp0At, rp1At, rp2At, isTwilight, allZones, zp0In, zp1In, zp2In, allNo, markedX, markedY, pastBothIups, vectorInRange, vectorsInRange, usableState, freshState, withVectors, withRound, withReferences, withLoopCounter, withPointers, withFacts};
 
 // 1 as a 2.14 number: a vector on an axis has it, and no component lies beyond it.
 pub const ONE: i32 = 0x4000;
@@ -48,13 +48,36 @@ pub struct Vectors {
 }
 
 impl Vectors {
+    pub fn all_along(v: Vector) -> Vectors
+        ensures { λ r. ⌜ r ≡ allAlong v ⌝ }
+    {
+        Vectors {
+            projection: v,
+            dual: v,
+            freedom: v,
+        }
+    }
+
+    // The projection and the dual vector set.
+    pub fn with_projection(mut self, v: Vector) -> Vectors
+        ensures { λ r. ⌜ r ≡ measuredAlong self v ⌝ }
+    {
+        self.projection = v;
+        self.dual = v;
+        self
+    }
+
+    pub fn with_freedom(mut self, v: Vector) -> Vectors
+        ensures { λ r. ⌜ r ≡ movedAlong self v ⌝ }
+    {
+        self.freedom = v;
+        self
+    }
+
     pub fn are_in_range(self) -> bool
         ensures { λ r. ⌜ r ≡ vectorsInRange self ⌝ }
     {
-        let projection = self.projection;
-        let dual = self.dual;
-        let freedom = self.freedom;
-        projection.is_in_range() & dual.is_in_range() & freedom.is_in_range()
+        self.projection.is_in_range() & self.dual.is_in_range() & self.freedom.is_in_range()
     }
 }
 
@@ -88,6 +111,54 @@ pub struct ZonePointers {
     pub zp2: ZonePointer,
 }
 
+impl ZonePointers {
+    pub fn all_in(zone: ZonePointer) -> ZonePointers
+        ensures { λ r. ⌜ r ≡ allZones zone ⌝ }
+    {
+        ZonePointers {
+            zp0: zone,
+            zp1: zone,
+            zp2: zone,
+        }
+    }
+
+    pub fn with_zp0(self, zone: ZonePointer) -> ZonePointers
+        ensures { λ r. ⌜ r ≡ zp0In self zone ⌝ }
+    {
+        let zp1 = self.zp1;
+        let zp2 = self.zp2;
+        ZonePointers {
+            zp0: zone,
+            zp1,
+            zp2,
+        }
+    }
+
+    pub fn with_zp1(self, zone: ZonePointer) -> ZonePointers
+        ensures { λ r. ⌜ r ≡ zp1In self zone ⌝ }
+    {
+        let zp0 = self.zp0;
+        let zp2 = self.zp2;
+        ZonePointers {
+            zp0,
+            zp1: zone,
+            zp2,
+        }
+    }
+
+    pub fn with_zp2(self, zone: ZonePointer) -> ZonePointers
+        ensures { λ r. ⌜ r ≡ zp2In self zone ⌝ }
+    {
+        let zp0 = self.zp0;
+        let zp1 = self.zp1;
+        ZonePointers {
+            zp0,
+            zp1,
+            zp2: zone,
+        }
+    }
+}
+
 // The five yes/no facts, in document 01's order.
 pub struct Facts {
     pub backward_compatibility: bool,
@@ -99,7 +170,19 @@ pub struct Facts {
 }
 
 impl Facts {
-    // Whether points are held fast: under backward compatibility, once both axes are interpolated.
+    pub fn all_no() -> Facts
+        ensures { λ r. ⌜ r ≡ allNo ⌝ }
+    {
+        Facts {
+            backward_compatibility: false,
+            pedantic: false,
+            native_clear_type_x: false,
+            did_iup_x: false,
+            did_iup_y: false,
+        }
+    }
+
+    // Whether y is held fast too: under backward compatibility, once both axes are interpolated.
     pub fn past_both_iups(self) -> bool
         ensures { λ r. ⌜ r ≡ pastBothIups self ⌝ }
     {
@@ -107,6 +190,7 @@ impl Facts {
     }
 }
 
+// A field that a later line needs goes to the end, so that what doesn't read it stays as it is.
 pub struct GraphicsState {
     pub vectors: Vectors,
     pub round: RoundState,
@@ -123,34 +207,23 @@ impl GraphicsState {
     pub fn fresh() -> GraphicsState
         ensures { λ r. ⌜ r ≡ freshState ⌝ }
     {
-        let axis = Vector::x_axis();
+        let vectors = Vectors::all_along(Vector::x_axis());
         let round = RoundState::fresh();
+        let references = References {
+            rp0: 0,
+            rp1: 0,
+            rp2: 0,
+        };
+        let pointers = ZonePointers::all_in(ZonePointer::Glyph);
+        let facts = Facts::all_no();
         GraphicsState {
-            vectors: Vectors {
-                projection: axis,
-                dual: axis,
-                freedom: axis,
-            },
+            vectors,
             round,
-            references: References {
-                rp0: 0,
-                rp1: 0,
-                rp2: 0,
-            },
+            references,
             loop_counter: 1,
-            pointers: ZonePointers {
-                zp0: ZonePointer::Glyph,
-                zp1: ZonePointer::Glyph,
-                zp2: ZonePointer::Glyph,
-            },
+            pointers,
             cut_in: 68,
-            facts: Facts {
-                backward_compatibility: false,
-                pedantic: false,
-                native_clear_type_x: false,
-                did_iup_x: false,
-                did_iup_y: false,
-            },
+            facts,
         }
     }
 
@@ -158,59 +231,38 @@ impl GraphicsState {
     pub fn is_usable(self) -> bool
         ensures { λ r. ⌜ r ≡ usableState self ⌝ }
     {
-        let vectors = self.vectors;
-        let round = self.round;
-        vectors.are_in_range() & round.is_usable()
+        self.vectors.are_in_range() & self.round.is_usable()
     }
 
     // All three vectors set, as SVTCA does.
     pub fn with_all_vectors(mut self, v: Vector) -> GraphicsState
-        ensures { λ r. ⌜ r ≡ withAllVectors self v ⌝ }
+        ensures { λ r. ⌜ r ≡ withVectors self (allAlong v) ⌝ }
     {
-        let vectors = Vectors {
-            projection: v,
-            dual: v,
-            freedom: v,
-        };
-        self.vectors = vectors;
+        self.vectors = Vectors::all_along(v);
         self
     }
 
     // The projection and the dual vector set, as SPVTCA does.
     pub fn with_projection_vectors(mut self, v: Vector) -> GraphicsState
-        ensures { λ r. ⌜ r ≡ withProjectionVectors self v ⌝ }
+        ensures { λ r. ⌜ r ≡ withVectors self (measuredAlong (self .vectors) v) ⌝ }
     {
-        let freedom = self.vectors.freedom;
-        let vectors = Vectors {
-            projection: v,
-            dual: v,
-            freedom,
-        };
-        self.vectors = vectors;
+        self.vectors = self.vectors.with_projection(v);
         self
     }
 
     // The freedom vector set, as SFVTCA does.
     pub fn with_freedom_vector(mut self, v: Vector) -> GraphicsState
-        ensures { λ r. ⌜ r ≡ withFreedomVector self v ⌝ }
+        ensures { λ r. ⌜ r ≡ withVectors self (movedAlong (self .vectors) v) ⌝ }
     {
-        let projection = self.vectors.projection;
-        let dual = self.vectors.dual;
-        let vectors = Vectors {
-            projection,
-            dual,
-            freedom: v,
-        };
-        self.vectors = vectors;
+        self.vectors = self.vectors.with_freedom(v);
         self
     }
 
     // The round mode set, as RTG and its kin do: threshold, phase and period stay.
     pub fn with_round_mode(mut self, mode: RoundMode) -> GraphicsState
-        ensures { λ r. ⌜ r ≡ withRoundMode self mode ⌝ }
+        ensures { λ r. ⌜ r ≡ withRound self (inMode (self .round) mode) ⌝ }
     {
-        let round = self.round;
-        self.round = round.with_mode(mode);
+        self.round = self.round.with_mode(mode);
         self
     }
 
@@ -230,87 +282,58 @@ impl GraphicsState {
     }
 
     pub fn with_rp0(mut self, at: u64) -> GraphicsState
-        ensures { λ r. ⌜ r ≡ withRp0 self at ⌝ }
+        ensures { λ r. ⌜ r ≡ withReferences self (rp0At (self .references) at) ⌝ }
     {
         self.references.rp0 = at;
         self
     }
 
     pub fn with_rp1(mut self, at: u64) -> GraphicsState
-        ensures { λ r. ⌜ r ≡ withRp1 self at ⌝ }
+        ensures { λ r. ⌜ r ≡ withReferences self (rp1At (self .references) at) ⌝ }
     {
         self.references.rp1 = at;
         self
     }
 
     pub fn with_rp2(mut self, at: u64) -> GraphicsState
-        ensures { λ r. ⌜ r ≡ withRp2 self at ⌝ }
+        ensures { λ r. ⌜ r ≡ withReferences self (rp2At (self .references) at) ⌝ }
     {
         self.references.rp2 = at;
         self
     }
 
     pub fn with_zp0(mut self, zone: ZonePointer) -> GraphicsState
-        ensures { λ r. ⌜ r ≡ withZp0 self zone ⌝ }
+        ensures { λ r. ⌜ r ≡ withPointers self (zp0In (self .pointers) zone) ⌝ }
     {
-        let before = self.pointers;
-        let zp1 = before.zp1;
-        let zp2 = before.zp2;
-        let pointers = ZonePointers {
-            zp0: zone,
-            zp1,
-            zp2,
-        };
-        self.pointers = pointers;
+        self.pointers = self.pointers.with_zp0(zone);
         self
     }
 
     pub fn with_zp1(mut self, zone: ZonePointer) -> GraphicsState
-        ensures { λ r. ⌜ r ≡ withZp1 self zone ⌝ }
+        ensures { λ r. ⌜ r ≡ withPointers self (zp1In (self .pointers) zone) ⌝ }
     {
-        let before = self.pointers;
-        let zp0 = before.zp0;
-        let zp2 = before.zp2;
-        let pointers = ZonePointers {
-            zp0,
-            zp1: zone,
-            zp2,
-        };
-        self.pointers = pointers;
+        self.pointers = self.pointers.with_zp1(zone);
         self
     }
 
     pub fn with_zp2(mut self, zone: ZonePointer) -> GraphicsState
-        ensures { λ r. ⌜ r ≡ withZp2 self zone ⌝ }
+        ensures { λ r. ⌜ r ≡ withPointers self (zp2In (self .pointers) zone) ⌝ }
     {
-        let before = self.pointers;
-        let zp0 = before.zp0;
-        let zp1 = before.zp1;
-        let pointers = ZonePointers {
-            zp0,
-            zp1,
-            zp2: zone,
-        };
-        self.pointers = pointers;
+        self.pointers = self.pointers.with_zp2(zone);
         self
     }
 
     // All three pointers set, as SZPS does.
     pub fn with_all_pointers(mut self, zone: ZonePointer) -> GraphicsState
-        ensures { λ r. ⌜ r ≡ withAllPointers self zone ⌝ }
+        ensures { λ r. ⌜ r ≡ withPointers self (allZones zone) ⌝ }
     {
-        let pointers = ZonePointers {
-            zp0: zone,
-            zp1: zone,
-            zp2: zone,
-        };
-        self.pointers = pointers;
+        self.pointers = ZonePointers::all_in(zone);
         self
     }
 
     // The mark that IUP sets on x.
     pub fn with_did_iup_x(mut self) -> GraphicsState
-        ensures { λ r. ⌜ r ≡ withDidIupX self ⌝ }
+        ensures { λ r. ⌜ r ≡ withFacts self (markedX (self .facts)) ⌝ }
     {
         self.facts.did_iup_x = true;
         self
@@ -318,7 +341,7 @@ impl GraphicsState {
 
     // The mark that IUP sets on y.
     pub fn with_did_iup_y(mut self) -> GraphicsState
-        ensures { λ r. ⌜ r ≡ withDidIupY self ⌝ }
+        ensures { λ r. ⌜ r ≡ withFacts self (markedY (self .facts)) ⌝ }
     {
         self.facts.did_iup_y = true;
         self

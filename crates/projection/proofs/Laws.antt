@@ -2,7 +2,7 @@
 -- axis have literals for their axes and fdotp. Besides, fdotp is never too small to divide by, and on vectors in range nothing wraps in it, so
 -- it is the number that FreeType's C long holds. Assumes nothing.
 use mathlib.Core.Path.{_≡_, refl, ap, ap₂, _∙_}
-use mathlib.Core.Bool.{Bool, true, false, _&&_, cond}
+use mathlib.Core.Bool.{Bool, true, false, cond}
 use Prim.Native.Nat.{_*_, _≤_}
 use native.Mathlib.Omega.{arith}
 use native.Mathlib.Nat.{le-trans, mul-le-mul}
@@ -16,6 +16,7 @@ use Rattle.int.proofs.Wraps.{wrap-id}
 use Rattle.answer.specs.declared.Refusal.the-variants.{State}
 use Rattle.point.specs.declared.CoordAxis.the-variants.{X, Y}
 use Rattle.graphics.specs.State.{one, xAxis, yAxis, allAlong, inRange, vectorInRange, usableState}
+use Rattle.graphics.proofs.Laws.{and-left, x-of, y-of}
 use Rattle.graphics.specs.declared.Vector.{Vector}
 use Rattle.graphics.specs.declared.GraphicsState.{GraphicsState}
 use Rattle.projection.specs.declared.Derived.{Derived}
@@ -23,15 +24,6 @@ use Rattle.projection.specs.declared.Measured.the-variants.{Distance, Re
 use Rattle.projection.specs.declared.Deduced.the-variants.{Numbers}
 use Rattle.projection.specs.declared.Deduced.the-variants.{Refused as RefusedNumbers}
 use Rattle.projection.specs.Projection.{axisOf, rawFdotp, notSmall, freedomAxisBy, derivedOf, alongOf, measuredOf, deducedOf, numberOfMeasured, numberOfDeduced}
-
--- ---- each of two tests
-and-left : (a b : Bool) → a && b ≡ true → a ≡ true
-and-left true b e = refl
-and-left false b e = cc e
-
-and-right : (a b : Bool) → a && b ≡ true → b ≡ true
-and-right true b e = e
-and-right false b e = cc e
 
 -- ---- along an axis
 module _ (v a b : Vector) where
@@ -51,6 +43,12 @@ axis-x v e = let t : eqZ (v .x) one ≡ true = ap (λ (z : ℤ). eqZ z one) e in
 pub axis-y : (v : Vector) → eqZ (v .x) one ≡ false → v .y ≡ one → axisOf v ≡ Y
 unfolding axisOf
 axis-y v n e = let t : eqZ (v .y) one ≡ true = ap (λ (z : ℤ). eqZ z one) e in rw (n, t)
+
+pub along-x-axis : (a b : Vector) → alongOf xAxis a b ≡ sub32 (a .x) (b .x)
+along-x-axis a b = along-x xAxis a b (axis-x xAxis refl)
+
+pub along-y-axis : (a b : Vector) → alongOf yAxis a b ≡ sub32 (a .y) (b .y)
+along-y-axis a b = along-y yAxis a b (axis-y yAxis refl refl)
 
 -- ---- all three vectors on one axis
 pub x-derived : derivedOf (allAlong xAxis) ≡ record { «projection_axis» = X; «dual_axis» = X; «freedom_axis» = X; fdotp = one }
@@ -88,14 +86,6 @@ unfolding add32
 sum-exact y z p q = wrap-id (y +ℤ z) (record { sfits = omega (arith, mag-add y z) })
 
 module _ (p f : Vector) (hp : vectorInRange p ≡ true) (hf : vectorInRange f ≡ true) where
-  x-of : (v : Vector) → vectorInRange v ≡ true → inRange (v .x) ≡ true
-  unfolding vectorInRange
-  x-of v h = and-left (inRange (v .x)) (inRange (v .y)) h
-
-  y-of : (v : Vector) → vectorInRange v ≡ true → inRange (v .y) ≡ true
-  unfolding vectorInRange
-  y-of v h = and-right (inRange (v .x)) (inRange (v .y)) h
-
   pub fdotp-exact : add32 (mul32 (p .x) (f .x)) (mul32 (p .y) (f .y)) ≡ p .x *ℤ f .x +ℤ p .y *ℤ f .y
   fdotp-exact =
       ap₂ add32 (product-exact (p .x) (f .x) (x-of p hp) (x-of f hf)) (product-exact (p .y) (f .y) (y-of p hp) (y-of f hf))

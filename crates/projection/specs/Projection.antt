@@ -1,8 +1,8 @@
 -- What is worked out from the vectors: FreeType 2.13.3, ttinterp.c (Compute_Funcs, Project, Dual_Project, Project_x, Project_y), on words that
--- wrap. FreeType works fdotp out in a C long and docs/src at 32 bits: they agree wherever no component lies outside -16,384..16,384, and
--- every entry refuses the rest. Distances wrap at 32 bits as document 01 says. Assumes nothing.
+-- wrap. FreeType works fdotp out in a C long and docs/src at 32 bits: they agree wherever no component lies outside -16,384..16,384
+-- (`fdotp-exact` of proofs/Laws.antt), and every entry refuses the rest. Distances wrap at 32 bits as document 01 says. Assumes nothing.
 use Prim.Native.Nat.{ℕ, _^_}
-use mathlib.Core.Bool.{cond}
+use mathlib.Core.Bool.{Bool, cond}
 use lib.IntN.{ℤ, pos}
 use lib.Signed.{ltZ, shrZ}
 use Rattle.int.specs.Word.{add32, sub32, abs32, mul32, eqZ}
@@ -69,11 +69,17 @@ abbrev pub dualProjectOf : Vectors → Vector → Vector → ℤ
 dualProjectOf v a b = alongOf (v .dual) a b
 
 -- ---- the direct calls: an unusable state is refused before anything is measured
+abbrev pub measuredBy : Bool → ℤ → Measured
+measuredBy usable d = cond usable (Distance d) (Refused State)
+
+abbrev pub deducedBy : Bool → Derived → Deduced
+deducedBy usable d = cond usable (Numbers d) (RefusedNumbers State)
+
 abbrev pub measuredOf : GraphicsState → ℤ → Measured
-measuredOf s d = cond (usableState s) (Distance d) (Refused State)
+measuredOf s d = measuredBy (usableState s) d
 
 abbrev pub deducedOf : GraphicsState → Deduced
-deducedOf s = cond (usableState s) (Numbers (derivedOf (s .vectors))) (RefusedNumbers State)
+deducedOf s = deducedBy (usableState s) (derivedOf (s .vectors))
 
 -- document 01's number for what a direct call says
 abbrev pub numberOfMeasured : Measured → ℕ

@@ -19,7 +19,7 @@ use int::wrapping_sub;
 use math::dot14;
 use point::CoordAxis;
 ghost use mathlib.Core.Path.{_≡_};
-ghost use Rattle.projection.specs.Projection.{axisOf, freedomAxisBy, rawFdotp, notSmall, derivedOf, alongOf, projectOf, dualProjectOf, measuredOf, deducedOf};
+ghost use Rattle.projection.specs.Projection.{axisOf, freedomAxisBy, rawFdotp, notSmall, derivedOf, alongOf, projectOf, dualProjectOf, measuredBy, deducedBy, measuredOf, deducedOf};
 
 // The numbers that go with three vectors.
 pub struct Derived {
@@ -100,14 +100,11 @@ fn freedom_axis_by(f: Vector, raw: i32) -> CoordAxis
 pub fn derive(v: Vectors) -> Derived
     ensures { λ r. ⌜ r ≡ derivedOf v ⌝ }
 {
-    let projection = v.projection;
-    let dual = v.dual;
-    let freedom = v.freedom;
-    let raw = raw_fdotp(projection, freedom);
+    let raw = raw_fdotp(v.projection, v.freedom);
     let fdotp = not_small(raw);
-    let projection_axis = axis_of(projection);
-    let dual_axis = axis_of(dual);
-    let freedom_axis = freedom_axis_by(freedom, raw);
+    let projection_axis = axis_of(v.projection);
+    let dual_axis = axis_of(v.dual);
+    let freedom_axis = freedom_axis_by(v.freedom, raw);
     Derived {
         projection_axis,
         dual_axis,
@@ -134,66 +131,64 @@ pub fn along(v: Vector, a: Vector, b: Vector) -> i32
 pub fn project(v: Vectors, a: Vector, b: Vector) -> i32
     ensures { λ r. ⌜ r ≡ projectOf v a b ⌝ }
 {
-    let projection = v.projection;
-    along(projection, a, b)
+    along(v.projection, a, b)
 }
 
 // In the original outline.
 pub fn dual_project(v: Vectors, a: Vector, b: Vector) -> i32
     ensures { λ r. ⌜ r ≡ dualProjectOf v a b ⌝ }
 {
-    let dual = v.dual;
-    along(dual, a, b)
+    along(v.dual, a, b)
 }
 
 // In the outline before it was scaled: the same numbers, in font units.
 pub fn dual_project_unscaled(v: Vectors, a: Vector, b: Vector) -> i32
     ensures { λ r. ⌜ r ≡ dualProjectOf v a b ⌝ }
 {
-    let dual = v.dual;
-    along(dual, a, b)
+    along(v.dual, a, b)
 }
 
-pub fn try_derive(s: GraphicsState) -> Deduced
-    ensures { λ r. ⌜ r ≡ deducedOf s ⌝ }
+// A distance, or the refusal of a state that is not usable.
+fn distance_if(usable: bool, distance: i32) -> Measured
+    ensures { λ r. ⌜ r ≡ measuredBy usable distance ⌝ }
 {
-    let vectors = s.vectors;
-    if s.is_usable() {
-        Deduced::Numbers(derive(vectors))
+    if usable {
+        Measured::Distance(distance)
+    } else {
+        Measured::Refused(Refusal::State)
+    }
+}
+
+fn numbers_if(usable: bool, numbers: Derived) -> Deduced
+    ensures { λ r. ⌜ r ≡ deducedBy usable numbers ⌝ }
+{
+    if usable {
+        Deduced::Numbers(numbers)
     } else {
         Deduced::Refused(Refusal::State)
     }
 }
 
+pub fn try_derive(s: GraphicsState) -> Deduced
+    ensures { λ r. ⌜ r ≡ deducedOf s ⌝ }
+{
+    numbers_if(s.is_usable(), derive(s.vectors))
+}
+
 pub fn try_project(s: GraphicsState, a: Vector, b: Vector) -> Measured
     ensures { λ r. ⌜ r ≡ measuredOf s (projectOf (s .vectors) a b) ⌝ }
 {
-    let vectors = s.vectors;
-    if s.is_usable() {
-        Measured::Distance(project(vectors, a, b))
-    } else {
-        Measured::Refused(Refusal::State)
-    }
+    distance_if(s.is_usable(), project(s.vectors, a, b))
 }
 
 pub fn try_dual_project(s: GraphicsState, a: Vector, b: Vector) -> Measured
     ensures { λ r. ⌜ r ≡ measuredOf s (dualProjectOf (s .vectors) a b) ⌝ }
 {
-    let vectors = s.vectors;
-    if s.is_usable() {
-        Measured::Distance(dual_project(vectors, a, b))
-    } else {
-        Measured::Refused(Refusal::State)
-    }
+    distance_if(s.is_usable(), dual_project(s.vectors, a, b))
 }
 
 pub fn try_dual_project_unscaled(s: GraphicsState, a: Vector, b: Vector) -> Measured
     ensures { λ r. ⌜ r ≡ measuredOf s (dualProjectOf (s .vectors) a b) ⌝ }
 {
-    let vectors = s.vectors;
-    if s.is_usable() {
-        Measured::Distance(dual_project_unscaled(vectors, a, b))
-    } else {
-        Measured::Refused(Refusal::State)
-    }
+    distance_if(s.is_usable(), dual_project_unscaled(s.vectors, a, b))
 }

@@ -4,33 +4,12 @@
 // this prints is held to the file `stdout`; the rows stand in the file `stdin`.
 use int::from_bits;
 use libc::STDIN_FILENO;
-use libc::STDOUT_FILENO;
 use round::RoundMode;
 use round::RoundState;
 use round::Rounded;
+use tally::Tally;
+use tally::Turn;
 use words::word_at;
-
-// Rows that agreed, and rows that differed.
-struct Tally {
-    same: u64,
-    other: u64,
-}
-
-impl Tally {
-    fn count(self, agreed: bool) -> Tally {
-        if agreed {
-            Tally {
-                same: std::num::wrapping_add_u64(self.same, 1),
-                other: self.other,
-            }
-        } else {
-            Tally {
-                same: self.same,
-                other: std::num::wrapping_add_u64(self.other, 1),
-            }
-        }
-    }
-}
 
 // A row's word as a signed number.
 fn arg(row: &[u8], at: usize) -> i32 {
@@ -105,12 +84,7 @@ fn replay(rows: &[u8], start: Tally) -> Tally {
     tally
 }
 
-// A buffer of rows read and replayed, and whether the input may have more.
-struct Turn {
-    tally: Tally,
-    more: bool,
-}
-
+// A buffer of rows read and replayed.
 fn replay_some(tally: Tally) -> Turn {
     let mut buffer = io::large_buffer();
     let n = io::read_full(STDIN_FILENO, &mut buffer);
@@ -122,7 +96,7 @@ fn replay_some(tally: Tally) -> Turn {
 
 // A proved loop has to end, so the turns are counted down, from more than the input has.
 fn replay_all() -> Tally {
-    let mut tally = Tally { same: 0, other: 0 };
+    let mut tally = Tally::new();
     let mut turns: u64 = 4096;
     while 0 < turns {
         let turn = replay_some(tally);
@@ -136,9 +110,5 @@ fn replay_all() -> Tally {
 }
 
 fn main() {
-    let tally = replay_all();
-    io::print_decimal(STDOUT_FILENO, tally.same);
-    io::write_all(STDOUT_FILENO, b" rows agree, ");
-    io::print_decimal(STDOUT_FILENO, tally.other);
-    io::write_all(STDOUT_FILENO, b" differ\n");
+    replay_all().print();
 }

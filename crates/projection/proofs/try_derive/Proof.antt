@@ -1,9 +1,5 @@
--- `projection::try_derive` meets its contract: by what `is_usable` says. Assumes nothing.
-use mathlib.Core.Path.{_≡_, refl, ap}
-use mathlib.Core.Bool.{true, false}
+-- `projection::try_derive` meets its contract: it is what its calls ensure, put together. Assumes nothing.
 use borrow.Author.Needs.{needs}
-use Rattle.graphics.specs.State.{usableState}
-use Rattle.projection.specs.declared.Deduced.the-variants.{Numbers}
 use Rattle.projection.proofs.try_derive.Statement.{statement}
 use Rattle.projection.proofs.try_derive.Tie as tie
 
@@ -13,15 +9,12 @@ is-usable-requires c κs = search needs
 derive-requires : tie.Need-derive-requires
 derive-requires c κs = search needs
 
-returns : tie.Need-returns
-returns c = let s = c .before .before .before .before in
-    let t : usableState (s .args .s) ≡ true = cc in
-    rw t (ap Numbers (cc))
+numbers-if-requires : tie.Need-numbers-if-requires
+numbers-if-requires c κs = search needs
 
-returns-2 : tie.Need-returns-2
-returns-2 c = let s = c .before .before .before in
-    let t : usableState (s .args .s) ≡ false = cc in
-    rw t refl
+returns : tie.Need-returns
+returns c = cc
 
 pub try-derive-spec : {M : Type 1} → statement M
-try-derive-spec = tie.close (tie.spec is-usable-requires derive-requires returns returns-2)
+try-derive-spec =
+    tie.close (tie.spec is-usable-requires derive-requires numbers-if-requires returns)

@@ -1,10 +1,6 @@
--- `projection::try_dual_project_unscaled` meets its contract: by what `is_usable` says. Assumes nothing.
-use mathlib.Core.Path.{_≡_, refl, ap}
-use mathlib.Core.Bool.{true, false}
+-- `projection::try_dual_project_unscaled` meets its contract: it is what its calls ensure, put together. Assumes nothing.
 use borrow.Author.Needs.{needs}
-use Rattle.graphics.specs.State.{usableState}
 use Rattle.int.proofs.Words.{back32}
-use Rattle.projection.specs.declared.Measured.the-variants.{Distance}
 use Rattle.projection.proofs.try_dual_project_unscaled.Statement.{statement}
 use Rattle.projection.proofs.try_dual_project_unscaled.Tie as tie
 
@@ -14,16 +10,13 @@ is-usable-requires c κs = search needs
 dual-project-unscaled-requires : tie.Need-dual-project-unscaled-requires
 dual-project-unscaled-requires c κs = search needs
 
-returns : tie.Need-returns
-returns c = let s = c .before .before .before .before in
-    let t : usableState (s .args .s) ≡ true = cc in
-    rw t (ap Distance (cc (back32 (c .dual-project-unscaled .result) (c .dual-project-unscaled .ok))))
+distance-if-requires : tie.Need-distance-if-requires
+distance-if-requires c κs = search needs
 
-returns-2 : tie.Need-returns-2
-returns-2 c = let s = c .before .before .before in
-    let t : usableState (s .args .s) ≡ false = cc in
-    rw t refl
+returns : tie.Need-returns
+returns c = let p = c .before .dual-project-unscaled in cc (back32 (p .result) (p .ok))
 
 pub try-dual-project-unscaled-spec : {M : Type 1} → statement M
 try-dual-project-unscaled-spec =
-    tie.close (tie.spec is-usable-requires dual-project-unscaled-requires returns returns-2)
+    tie.close
+    (tie.spec is-usable-requires dual-project-unscaled-requires distance-if-requires returns)

@@ -1,10 +1,6 @@
--- `projection::try_project` meets its contract: by what `is_usable` says. Assumes nothing.
-use mathlib.Core.Path.{_≡_, refl, ap}
-use mathlib.Core.Bool.{true, false}
+-- `projection::try_project` meets its contract: it is what its calls ensure, put together. Assumes nothing.
 use borrow.Author.Needs.{needs}
-use Rattle.graphics.specs.State.{usableState}
 use Rattle.int.proofs.Words.{back32}
-use Rattle.projection.specs.declared.Measured.the-variants.{Distance}
 use Rattle.projection.proofs.try_project.Statement.{statement}
 use Rattle.projection.proofs.try_project.Tie as tie
 
@@ -14,15 +10,12 @@ is-usable-requires c κs = search needs
 project-requires : tie.Need-project-requires
 project-requires c κs = search needs
 
-returns : tie.Need-returns
-returns c = let s = c .before .before .before .before in
-    let t : usableState (s .args .s) ≡ true = cc in
-    rw t (ap Distance (cc (back32 (c .project .result) (c .project .ok))))
+distance-if-requires : tie.Need-distance-if-requires
+distance-if-requires c κs = search needs
 
-returns-2 : tie.Need-returns-2
-returns-2 c = let s = c .before .before .before in
-    let t : usableState (s .args .s) ≡ false = cc in
-    rw t refl
+returns : tie.Need-returns
+returns c = let p = c .before .project in cc (back32 (p .result) (p .ok))
 
 pub try-project-spec : {M : Type 1} → statement M
-try-project-spec = tie.close (tie.spec is-usable-requires project-requires returns returns-2)
+try-project-spec =
+    tie.close (tie.spec is-usable-requires project-requires distance-if-requires returns)

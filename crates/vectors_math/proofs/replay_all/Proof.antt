@@ -9,6 +9,9 @@ Inv-loop tally₀ turns₀ tally turns = Unit {0}
 abbrev μ-loop : tie.MeasureT-loop
 μ-loop tally₀ turns₀ tally turns = turns
 
+new-requires : tie.Need-new-requires Inv-loop μ-loop
+new-requires c κs = tt
+
 loop-holds : tie.Need-loop-holds Inv-loop μ-loop
 loop-holds c = tt
 
@@ -36,6 +39,7 @@ replay-all-spec =
     (tie.spec
     Inv-loop
     μ-loop
+    new-requires
     loop-holds
     replay-some-requires
     returns
