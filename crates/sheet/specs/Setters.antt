@@ -14,7 +14,7 @@ use Rattle.graphics.specs.declared.GraphicsState.{GraphicsState}
 use Rattle.graphics.specs.declared.Vector.{Vector}
 use Rattle.graphics.specs.declared.ZonePointer.{ZonePointer as Pointer}
 use Rattle.graphics.specs.declared.ZonePointer.the-variants.{Twilight, Glyph}
-use Rattle.graphics.specs.State.{xAxis, yAxis, withAllVectors, withProjectionVectors, withFreedomVector, withRoundMode, withLoopCounter, withRp0, withRp1, withRp2, withZp0, withZp1, withZp2, withAllPointers}
+use Rattle.graphics.specs.State.{xAxis, yAxis, allAlong, measuredAlong, movedAlong, inMode, rp0At, rp1At, rp2At, allZones, zp0In, zp1In, zp2In, withVectors, withRound, withReferences, withLoopCounter, withPointers}
 use Rattle.line.specs.declared.Stepped.{Stepped}
 use Rattle.line.specs.Line.{doneWith, refusedWith}
 
@@ -30,17 +30,20 @@ axisBy op = cond (eqb (op % 2) 1) xAxis yAxis
 -- 00 to 05: SVTCA, SPVTCA, SFVTCA
 unfoldable pub vectorsBy : GraphicsState → ℕ → GraphicsState
 vectorsBy s op =
-    cond (ltb op 0x02) (withAllVectors s (axisBy op))
-    (cond (ltb op 0x04) (withProjectionVectors s (axisBy op)) (withFreedomVector s (axisBy op)))
+    cond (ltb op 0x02) (withVectors s (allAlong (axisBy op)))
+    (cond (ltb op 0x04) (withVectors s (measuredAlong (s .vectors) (axisBy op))) (withVectors s (movedAlong (s .vectors) (axisBy op))))
 
 -- 10 to 12: SRP0, SRP1, SRP2
 unfoldable pub referenceBy : GraphicsState → ℕ → ℕ → GraphicsState
-referenceBy s op at = cond (eqb op 0x10) (withRp0 s at) (cond (eqb op 0x11) (withRp1 s at) (withRp2 s at))
+referenceBy s op at =
+    withReferences s (cond (eqb op 0x10) (rp0At (s .references) at) (cond (eqb op 0x11) (rp1At (s .references) at) (rp2At (s .references) at)))
 
 -- 13 to 16: SZP0, SZP1, SZP2, SZPS
 unfoldable pub pointerBy : GraphicsState → ℕ → Pointer → GraphicsState
 pointerBy s op zone =
-    cond (eqb op 0x13) (withZp0 s zone) (cond (eqb op 0x14) (withZp1 s zone) (cond (eqb op 0x15) (withZp2 s zone) (withAllPointers s zone)))
+    withPointers s
+    (cond (eqb op 0x13) (zp0In (s .pointers) zone)
+    (cond (eqb op 0x14) (zp1In (s .pointers) zone) (cond (eqb op 0x15) (zp2In (s .pointers) zone) (allZones zone))))
 
 unfoldable pub zoneBy : GraphicsState → ℕ → ℤ → Stepped
 zoneBy s op word =
@@ -66,4 +69,4 @@ operandBy s op word =
 unfoldable pub setBy : GraphicsState → ℕ → List ℤ → Stepped
 setBy s op operands =
     cond (ltb op 0x06) (doneWith (vectorsBy s op))
-    (cond (ltb 0x17 op) (doneWith (withRoundMode s (modeBy op))) (onOperand s (operandBy s op) operands))
+    (cond (ltb 0x17 op) (doneWith (withRound s (inMode (s .round) (modeBy op)))) (onOperand s (operandBy s op) operands))

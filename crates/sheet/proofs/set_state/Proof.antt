@@ -3,9 +3,10 @@ use mathlib.Core.Path.{sym, ap, _∙_}
 use borrow.Author.Needs.{needs}
 use borrow.Author.Tests.{lt-ltb, le-ltb}
 use denote.Ref.{now}
-use Rattle.graphics.specs.State.{withRoundMode}
+use Rattle.graphics.specs.State.{inMode, withRound}
 use Rattle.int.proofs.Words.{back32}
 use Rattle.line.specs.Line.{doneWith}
+use Rattle.round.specs.declared.RoundMode.{RoundMode}
 use Rattle.sheet.proofs.Lines.{no-operand, an-operand}
 use Rattle.sheet.specs.Setters.{operandBy, setBy}
 use Rattle.sheet.proofs.set_state.Statement.{statement}
@@ -34,7 +35,7 @@ done-requires-2 c κs = search needs
 returns-2 : tie.Need-returns-2
 unfolding setBy
 returns-2 c = let s = c .before .before .before .before .before in
-    rw (le-ltb (s .args .opcode) 0x06 (c .before .before .before .before .if1 .left), lt-ltb 0x17 (s .args .opcode) (c .before .before .before .if2 .taken)) (c .done2 .ensures ∙ ap doneWith (c .before .with-round-mode .ensures ∙ ap (withRoundMode (s .args .s)) (c .before .before .mode-by .ensures)))
+    rw (le-ltb (s .args .opcode) 0x06 (c .before .before .before .before .if1 .left), lt-ltb 0x17 (s .args .opcode) (c .before .before .before .if2 .taken)) (c .done2 .ensures ∙ ap doneWith (c .before .with-round-mode .ensures ∙ ap (λ (m : RoundMode). withRound (s .args .s) (inMode (s .args .s .round) m)) (c .before .before .mode-by .ensures)))
 
 refused-requires : tie.Need-refused-requires
 refused-requires c κs = search needs

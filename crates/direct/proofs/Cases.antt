@@ -1,0 +1,91 @@
+-- What the tests at entry tell, and how each call goes on by what they say, over plain lists: the functions' proofs cite these.
+-- Assumes nothing.
+use mathlib.Core.Path.{_≡_, refl, sym, ap, ap₂, _∙_}
+use mathlib.Core.Bool.{Bool, true, false, cond, _&&_}
+use mathlib.Core.List.{List}
+use Prim.Native.Nat.{ℕ}
+use lib.IntN.{ℤ}
+use lib.ListN.{length}
+use Rattle.answer.specs.declared.Call.{Call}
+use Rattle.answer.specs.declared.Call.the-variants.{Done}
+use Rattle.direct.specs.Direct.{entryBy, pairsFit, zonesFit, shiftAfter, tryMoveOriginalOf, moveAfter, tryMovePointOf, zp2After, tryMoveZp2Of, displacedAfter, tryDisplacementOf}
+use Rattle.graphics.specs.State.{usableState}
+use Rattle.graphics.specs.declared.GraphicsState.{GraphicsState}
+use Rattle.graphics.specs.declared.ZonePointer.{ZonePointer}
+use Rattle.moves.specs.Apply.{bothMoved, applyIn}
+use Rattle.moves.specs.Displacement.{referenceOf}
+use Rattle.moves.specs.Move.{moveOf, originalMoveOf, zp2MoveOf, isIdle}
+use Rattle.moves.specs.declared.Move.{Move}
+use Rattle.moves.specs.declared.Reference.{Reference}
+use Rattle.zone.proofs.Cases.{pair-length, placed-length, placed-pair}
+use Rattle.zone.specs.Sizes.{pairFits, placedFits}
+
+-- ---- what the tests tell
+both-first : (a b : Bool) → a && b ≡ true → a ≡ true
+both-first true b e = refl
+both-first false b e = cc e
+
+both-second : (a b : Bool) → a && b ≡ true → b ≡ true
+both-second true b e = e
+both-second false b e = cc e
+
+entry-done : (fits ready : Bool) → entryBy fits ready ≡ Done → fits ≡ true
+entry-done true ready e = refl
+entry-done false ready e = cc e
+
+-- what was begun, from the two tests
+begun-is : {fits given : Bool} (ready : Bool) {begun h : Call} → given ≡ fits → begun ≡ entryBy given ready → begun ≡ h → h ≡ entryBy fits ready
+begun-is ready p q e = sym e ∙ q ∙ ap (λ (b : Bool). entryBy b ready) p
+
+-- where the call goes on, the lists fit
+pub begun-fits : {fits given : Bool} (ready : Bool) {begun : Call} → given ≡ fits → begun ≡ entryBy given ready → begun ≡ Done → fits ≡ true
+begun-fits {fits} ready p q e = entry-done fits ready (sym (begun-is ready p q e))
+
+pub pairs-lengths : (gx gy tx ty : List ℤ) → pairsFit gx gy tx ty ≡ true → (length gy ≡ length gx) × (length ty ≡ length tx)
+unfolding pairsFit
+pairs-lengths gx gy tx ty e =
+    (pair-length gx gy (both-first (pairFits gx gy) _ e), pair-length tx ty (both-second (pairFits gx gy) _ e))
+
+pub all-pairs-lengths : (gox goy gcx gcy tox toy tcx tcy : List ℤ) → pairsFit gox goy tox toy && pairsFit gcx gcy tcx tcy ≡ true → (length goy ≡ length gox) × (length gcy ≡ length gcx) × (length toy ≡ length tox) × (length tcy ≡ length tcx)
+all-pairs-lengths gox goy gcx gcy tox toy tcx tcy e =
+    let o = pairs-lengths gox goy tox toy (both-first (pairsFit gox goy tox toy) _ e) in
+    let k = pairs-lengths gcx gcy tcx tcy (both-second (pairsFit gox goy tox toy) _ e) in
+    (o .0, k .0, o .1, k .1)
+
+pub zones-lengths : (gx gy : List ℤ) (gflags : List ℕ) (tx ty : List ℤ) (tflags : List ℕ) → zonesFit gx gy gflags tx ty tflags ≡ true → (length gy ≡ length gx) × (length gflags ≡ length gx) × (length ty ≡ length tx) × (length tflags ≡ length tx)
+unfolding zonesFit
+zones-lengths gx gy gflags tx ty tflags e =
+    let g : placedFits gx gy gflags ≡ true = both-first (placedFits gx gy gflags) _ e in
+    let t : placedFits tx ty tflags ≡ true = both-second (placedFits gx gy gflags) _ e in
+    (pair-length gx gy (placed-pair gx gy gflags g), placed-length gx gy gflags g, pair-length tx ty (placed-pair tx ty tflags t), placed-length tx ty tflags t)
+
+-- ---- how each call goes on
+module _ (gx gy tx ty : List ℤ) (s : GraphicsState) (zone : ZonePointer) (at : ℕ) (distance : ℤ) {fits : Bool} {begun h : Call} where
+  pub original-begun : fits ≡ pairsFit gx gy tx ty → begun ≡ entryBy fits (usableState s) → begun ≡ h → shiftAfter gx gy tx ty zone (originalMoveOf (s .vectors) distance) at h ≡ tryMoveOriginalOf gx gy tx ty s zone at distance
+  unfolding tryMoveOriginalOf
+  original-begun p q e = ap (shiftAfter gx gy tx ty zone (originalMoveOf (s .vectors) distance) at) (begun-is (usableState s) p q e)
+
+module _ (gx gy : List ℤ) (gflags : List ℕ) (tx ty : List ℤ) (tflags : List ℕ) (s : GraphicsState) (at : ℕ) {fits : Bool} {begun h : Call} (p : fits ≡ zonesFit gx gy gflags tx ty tflags) (q : begun ≡ entryBy fits (usableState s)) (e : begun ≡ h) where
+  pub point-begun : (zone : ZonePointer) (distance : ℤ) → moveAfter gx gy gflags tx ty tflags zone (moveOf (s .vectors) (s .facts) distance) at h ≡ tryMovePointOf gx gy gflags tx ty tflags s zone at distance
+  unfolding tryMovePointOf
+  point-begun zone distance = ap (moveAfter gx gy gflags tx ty tflags zone (moveOf (s .vectors) (s .facts) distance) at) (begun-is (usableState s) p q e)
+
+  pub zp2-begun : (dx dy : ℤ) (touches : Bool) {m : Move} → m ≡ zp2MoveOf (s .vectors) (s .facts) dx dy touches → zp2After gx gy gflags tx ty tflags (s .pointers .zp2) m at h ≡ tryMoveZp2Of gx gy gflags tx ty tflags s at dx dy touches
+  unfolding tryMoveZp2Of
+  zp2-begun dx dy touches d =
+      ap (λ (m : Move). zp2After gx gy gflags tx ty tflags (s .pointers .zp2) m at h) d
+      ∙ ap (zp2After gx gy gflags tx ty tflags (s .pointers .zp2) (zp2MoveOf (s .vectors) (s .facts) dx dy touches) at) (begun-is (usableState s) p q e)
+
+module _ (gx gy : List ℤ) (gflags : List ℕ) (tx ty : List ℤ) (tflags : List ℕ) (zone : ZonePointer) (m : Move) (at : ℕ) where
+  pub zp2-idle : isIdle m ≡ true → bothMoved Done gx gy gflags tx ty tflags ≡ zp2After gx gy gflags tx ty tflags zone m at Done
+  zp2-idle e = ap (λ (b : Bool). cond b (bothMoved Done gx gy gflags tx ty tflags) (applyIn m at gx gy gflags tx ty tflags zone)) (sym e)
+
+  pub zp2-busy : isIdle m ≡ false → applyIn m at gx gy gflags tx ty tflags zone ≡ zp2After gx gy gflags tx ty tflags zone m at Done
+  zp2-busy e = ap (λ (b : Bool). cond b (bothMoved Done gx gy gflags tx ty tflags) (applyIn m at gx gy gflags tx ty tflags zone)) (sym e)
+
+module _ (gox goy gcx gcy tox toy tcx tcy : List ℤ) (s : GraphicsState) (opcode : ℕ) {o k : Bool} {begun h : Call} where
+  pub displacement-begun : o ≡ pairsFit gox goy tox toy → k ≡ pairsFit gcx gcy tcx tcy → begun ≡ entryBy (o && k) (usableState s) → begun ≡ h → {p : Reference} → p ≡ referenceOf s opcode → displacedAfter gox goy gcx gcy tox toy tcx tcy s p h ≡ tryDisplacementOf gox goy gcx gcy tox toy tcx tcy s opcode
+  unfolding tryDisplacementOf
+  displacement-begun f g q e r =
+      ap (λ (p : Reference). displacedAfter gox goy gcx gcy tox toy tcx tcy s p h) r
+      ∙ ap (displacedAfter gox goy gcx gcy tox toy tcx tcy s (referenceOf s opcode)) (begun-is (usableState s) (ap₂ (λ (a b : Bool). a && b) f g) q e)

@@ -1,0 +1,54 @@
+-- IUP over a glyph, on one axis: FreeType 2.13.3, ttinterp.c (Ins_IUP's walk over the contours), with document 01's rules for its ends.
+-- Assumes nothing.
+use Prim.Native.Nat.{ℕ, _+_, _-_}
+use mathlib.Core.Bool.{Bool, cond, _&&_}
+use mathlib.Core.List.{List, [], _∷_, _++_}
+use lib.Dec.{ltb, leb, eqb}
+use lib.IntN.{ℤ}
+use lib.ListN.{length, take, drop}
+use Rattle.answer.specs.declared.Call.{Call}
+use Rattle.answer.specs.declared.Call.the-variants.{Done, Refused}
+use Rattle.answer.specs.declared.Refusal.the-variants.{Sizes, Point}
+use Rattle.limits.specs.Limits.{mostPoints, mostContours}
+use Rattle.iup.specs.Contour.{currentOf, contourOf, points}
+use Rattle.iup.specs.Contour.{Point as Dot}
+
+-- the place past a contour's end; an end at or above n is taken as n - 1
+unfoldable pub past : ℕ → ℕ → ℕ
+past end n = cond (ltb end n) (end + 1) n
+
+-- the contours one after the other, each from where the last one ended; the points are those from the walk's place on. A contour that ends
+-- before that place is skipped, and points after the last contour stay
+unfoldable pub walkOf : ℕ → ℕ → List ℕ → List Dot → List ℤ
+walkOf n at [] ps = currentOf ps
+walkOf n at (end ∷ ends) ps =
+    cond (ltb at (past end n))
+    (contourOf (take (past end n - at) ps) ++ walkOf n (past end n) ends (drop (past end n - at) ps))
+    (walkOf n at ends ps)
+
+-- what a call says, and the current coordinates that it leaves
+pub record Went : Type 0 where
+  pub answer : Call
+  pub current : List ℤ
+
+abbrev pub went : Call → List ℤ → Went
+went r l = record { answer = r; current = l }
+
+-- a contour of a glyph without points has no point to start at
+unfoldable pub iupOf : ℕ → List ℕ → List ℕ → List ℤ → List ℤ → List ℤ → Went
+iupOf mask flags contours unscaled original current =
+    cond (eqb (length current) 0 && ltb 0 (length contours))
+    (went (Refused (Point 0)) current)
+    (went Done (walkOf (length current) 0 contours (points mask flags unscaled original current)))
+
+-- four lists of one length within the limit, and contours within theirs
+unfoldable pub sizesFit : ℕ → ℕ → ℕ → ℕ → ℕ → Bool
+sizesFit flags contours unscaled original current =
+    eqb unscaled current && (eqb original current && (eqb flags current && (leb current mostPoints && leb contours mostContours)))
+
+-- the direct call
+unfoldable pub triedOf : ℕ → List ℕ → List ℕ → List ℤ → List ℤ → List ℤ → Went
+triedOf mask flags contours unscaled original current =
+    cond (sizesFit (length flags) (length contours) (length unscaled) (length original) (length current))
+    (iupOf mask flags contours unscaled original current)
+    (went (Refused Sizes) current)

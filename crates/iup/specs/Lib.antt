@@ -1,0 +1,3 @@
+pub mod Contour
+pub mod Iup
+pub mod Parts

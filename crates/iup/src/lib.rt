@@ -1,0 +1,347 @@
+// IUP on one axis.
+use answer::Call;
+use answer::Refusal;
+use int::at_most;
+use int::equal;
+use int::wrapping_add;
+use int::wrapping_sub;
+use limits::contours_fit;
+use limits::points_fit;
+use math::div;
+use math::mul;
+use point::has_any;
+ghost use mathlib.Core.Path.{_≡_};
+ghost use mathlib.Core.Bool.{cond, _&&_};
+ghost use lib.Signed.{leZ};
+ghost use mathlib.Core.List.{map};
+ghost use Prim.Native.Nat.{_+_};
+ghost use lib.Dec.{ltb, eqb};
+ghost use lib.ListN.{length, drop};
+ghost use Rattle.int.specs.Word.{add32};
+ghost use Rattle.iup.specs.Contour.{displacement as Contour·displacement, spread, contourOf, points};
+ghost use Rattle.iup.specs.Iup.{past as Iup·past, walkOf, went, iupOf, sizesFit, triedOf};
+ghost use Rattle.iup.specs.Parts.{marks, ahead, upToLast, placeAt, level as Parts·level, slope as Parts·slope, movedBy, byReferences, both};
+
+// The coordinates of a point on the axis.
+pub struct Place {
+    pub unscaled: i32,
+    pub original: i32,
+    pub current: i32,
+}
+
+// The first touched point from `from` on, or the end.
+fn next_touched(flags: &[u8], mask: u8, from: usize) -> usize
+    ensures { λ r. ⌜ r ≡ from + ahead (marks mask (drop from (now (flags .entry)))) ⌝ }
+{
+    let mut i = from;
+    while i < flags.len() {
+        if has_any(flags[i], mask) {
+            return i;
+        }
+        i += 1;
+    }
+    i
+}
+
+// How many points there are up to the last touched one, with it.
+fn last_touched(flags: &[u8], mask: u8) -> usize
+    ensures { λ r. ⌜ r ≡ upToLast (marks mask (now (flags .entry))) ⌝ }
+{
+    let mut n = flags.len();
+    while n > 0 {
+        if has_any(flags[n - 1], mask) {
+            return n;
+        }
+        n -= 1;
+    }
+    0
+}
+
+fn place_at(unscaled: &[i32], original: &[i32], current: &[i32], at: usize, other: Place) -> Place
+    requires { ⌜ (length (now unscaled) ≡ length (now current)) × (length (now original) ≡ length (now current)) ⌝ }
+    ensures { λ r. ⌜ r ≡ placeAt (now (unscaled .entry)) (now (original .entry)) (now (current .entry)) at other ⌝ }
+{
+    if at < current.len() {
+        Place {
+            unscaled: unscaled[at],
+            original: original[at],
+            current: current[at],
+        }
+    } else {
+        other
+    }
+}
+
+// How far a point was moved.
+fn displacement(p: Place) -> i32
+    ensures { λ r. ⌜ r ≡ Contour·displacement p ⌝ }
+{
+    wrapping_sub(p.current, p.original)
+}
+
+// Whether two references leave nothing to go in proportion to.
+fn level(low: Place, high: Place) -> bool
+    ensures { λ r. ⌜ r ≡ Parts·level low high ⌝ }
+{
+    if equal(low.current, high.current) {
+        true
+    } else {
+        equal(low.unscaled, high.unscaled)
+    }
+}
+
+// How far a point moves for each unscaled unit, as a 16.16 number; 0 where the references are level.
+fn slope(low: Place, high: Place) -> i32
+    ensures { λ r. ⌜ r ≡ Parts·slope low high ⌝ }
+{
+    if level(low, high) {
+        0
+    } else {
+        div(
+            wrapping_sub(high.current, low.current),
+            wrapping_sub(high.unscaled, low.unscaled),
+        )
+    }
+}
+
+// The lower of two references, by their unscaled coordinates.
+fn lower(a: Place, b: Place) -> Place
+    ensures { λ r. ⌜ r ≡ cond (leZ (a .unscaled) (b .unscaled)) a b ⌝ }
+{
+    if at_most(a.unscaled, b.unscaled) {
+        a
+    } else {
+        b
+    }
+}
+
+// The other one.
+fn higher(a: Place, b: Place) -> Place
+    ensures { λ r. ⌜ r ≡ cond (leZ (a .unscaled) (b .unscaled)) b a ⌝ }
+{
+    if at_most(a.unscaled, b.unscaled) {
+        b
+    } else {
+        a
+    }
+}
+
+// A point by its references in order. `flat` and `scale` are worked out once for a stretch.
+fn moved(low: Place, high: Place, flat: bool, scale: i32, unscaled: i32, original: i32) -> i32
+    ensures { λ r. ⌜ r ≡ movedBy low high flat scale unscaled original ⌝ }
+{
+    if at_most(original, low.original) {
+        wrapping_add(original, displacement(low))
+    } else if at_most(high.original, original) {
+        wrapping_add(original, displacement(high))
+    } else if flat {
+        low.current
+    } else {
+        wrapping_add(
+            low.current,
+            mul(wrapping_sub(unscaled, low.unscaled), scale),
+        )
+    }
+}
+
+fn interpolate(
+    unscaled: &[i32],
+    original: &[i32],
+    current: &mut [i32],
+    low: Place,
+    high: Place,
+    flat: bool,
+    scale: i32,
+)
+    requires { ⌜ (length (now unscaled) ≡ length (now current)) × (length (now original) ≡ length (now current)) ⌝ }
+    ensures { λ _. ⌜ now (current .exit) ≡ both (movedBy low high flat scale) (now (unscaled .entry)) (now (original .entry)) ⌝ }
+{
+    let mut i = 0;
+    while i < current.len() {
+        current[i] = moved(low, high, flat, scale, unscaled[i], original[i]);
+        i += 1;
+    }
+}
+
+// A stretch between its references. Where it is empty nothing is divided.
+fn stretch(unscaled: &[i32], original: &[i32], current: &mut [i32], before: Place, after: Place)
+    requires { ⌜ (length (now unscaled) ≡ length (now current)) × (length (now original) ≡ length (now current)) ⌝ }
+    ensures { λ _. ⌜ now (current .exit) ≡ both (byReferences before after) (now (unscaled .entry)) (now (original .entry)) ⌝ }
+{
+    if 0 < current.len() {
+        let low = lower(before, after);
+        let high = higher(before, after);
+        interpolate(
+            unscaled,
+            original,
+            current,
+            low,
+            high,
+            level(low, high),
+            slope(low, high),
+        );
+    }
+}
+
+// Moves every point of a part.
+fn shift(part: &mut [i32], delta: i32)
+    ensures { λ _. ⌜ now (part .exit) ≡ map (λ x. add32 x delta) (now (part .entry)) ⌝ }
+{
+    let mut i = 0;
+    while i < part.len() {
+        part[i] = wrapping_add(part[i], delta);
+        i += 1;
+    }
+}
+
+// Stretch by stretch: `last` is the last touched point of the contour, which stands before the first stretch, and `first` the first.
+fn spread_out(
+    unscaled: &[i32],
+    original: &[i32],
+    current: &mut [i32],
+    flags: &[u8],
+    mask: u8,
+    last: Place,
+    first: Place,
+)
+    requires { ⌜ (length (now unscaled) ≡ length (now current)) × (length (now original) ≡ length (now current)) × (length (now flags) ≡ length (now current)) ⌝ }
+    ensures { λ _. ⌜ now (current .exit) ≡ spread last first (points mask (now (flags .entry)) (now (unscaled .entry)) (now (original .entry)) (now (current .entry))) ⌝ }
+{
+    let mut before = last;
+    let mut at = 0;
+    while at < flags.len() {
+        let next = next_touched(flags, mask, at);
+        let after = place_at(unscaled, original, current, next, first);
+        stretch(
+            &unscaled[at..next],
+            &original[at..next],
+            &mut current[at..next],
+            before,
+            after,
+        );
+        before = after;
+        at = next + 1;
+    }
+}
+
+fn contour(unscaled: &[i32], original: &[i32], current: &mut [i32], flags: &[u8], mask: u8)
+    requires { ⌜ (length (now unscaled) ≡ length (now current)) × (length (now original) ≡ length (now current)) × (length (now flags) ≡ length (now current)) ⌝ }
+    ensures { λ _. ⌜ now (current .exit) ≡ contourOf (points mask (now (flags .entry)) (now (unscaled .entry)) (now (original .entry)) (now (current .entry))) ⌝ }
+{
+    let at = next_touched(flags, mask, 0);
+    if at < flags.len() {
+        let first = Place {
+            unscaled: unscaled[at],
+            original: original[at],
+            current: current[at],
+        };
+        let more = last_touched(&flags[at + 1..], mask);
+        if more == 0 {
+            let delta = displacement(first);
+            shift(&mut current[..at], delta);
+            shift(&mut current[at + 1..], delta);
+        } else {
+            let last = place_at(unscaled, original, current, at + more, first);
+            spread_out(unscaled, original, current, flags, mask, last, first);
+        }
+    }
+}
+
+// The place past a contour's end, at most n.
+fn past(end: u16, n: usize) -> usize
+    ensures { λ r. ⌜ r ≡ Iup·past end n ⌝ }
+{
+    let last = end as usize;
+    if last < n { last + 1 } else { n }
+}
+
+// Whether there is a contour, and no point that it could start at.
+fn no_start(points: usize, contours: usize) -> bool
+    ensures { λ r. ⌜ r ≡ (eqb points 0 && ltb 0 contours) ⌝ }
+{
+    points == 0 && 0 < contours
+}
+
+// The contours one after the other, each on its own part of the coordinates, which starts where the last one ended.
+pub fn iup(
+    unscaled: &[i32],
+    original: &[i32],
+    current: &mut [i32],
+    flags: &[u8],
+    contours: &[u16],
+    mask: u8,
+) -> Call
+    requires { ⌜ (length (now unscaled) ≡ length (now current)) × (length (now original) ≡ length (now current)) × (length (now flags) ≡ length (now current)) ⌝ }
+    ensures { λ r. ⌜ went r (now (current .exit)) ≡ iupOf mask (now (flags .entry)) (now (contours .entry)) (now (unscaled .entry)) (now (original .entry)) (now (current .entry)) ⌝ }
+{
+    if no_start(current.len(), contours.len()) {
+        return Call::Refused(Refusal::Point(0));
+    }
+    let mut at = 0;
+    let mut k = 0;
+    while k < contours.len() {
+        let end = past(contours[k], current.len());
+        if at < end {
+            contour(
+                &unscaled[at..end],
+                &original[at..end],
+                &mut current[at..end],
+                &flags[at..end],
+                mask,
+            );
+            at = end;
+        }
+        k += 1;
+    }
+    Call::Done
+}
+
+// The test of answer 2, on the lengths of the five lists.
+fn sizes_fit(
+    flags: usize,
+    contours: usize,
+    unscaled: usize,
+    original: usize,
+    current: usize,
+) -> bool
+    ensures { λ r. ⌜ r ≡ sizesFit flags contours unscaled original current ⌝ }
+{
+    if unscaled != current {
+        return false;
+    }
+    if original != current {
+        return false;
+    }
+    if flags != current {
+        return false;
+    }
+    if points_fit(current) {
+        contours_fit(contours)
+    } else {
+        false
+    }
+}
+
+// The direct call.
+pub fn try_iup(
+    unscaled: &[i32],
+    original: &[i32],
+    current: &mut [i32],
+    flags: &[u8],
+    contours: &[u16],
+    mask: u8,
+) -> Call
+    ensures { λ r. ⌜ went r (now (current .exit)) ≡ triedOf mask (now (flags .entry)) (now (contours .entry)) (now (unscaled .entry)) (now (original .entry)) (now (current .entry)) ⌝ }
+{
+    if sizes_fit(
+        flags.len(),
+        contours.len(),
+        unscaled.len(),
+        original.len(),
+        current.len(),
+    ) {
+        iup(unscaled, original, current, flags, contours, mask)
+    } else {
+        Call::Refused(Refusal::Sizes)
+    }
+}

@@ -1,0 +1,91 @@
+-- What each definition says in each of its cases, over plain lists: the functions' proofs cite these, and each is one or two tests rewritten.
+-- Assumes nothing.
+use mathlib.Core.Path.{_≡_, sym, ap, _∙_}
+use mathlib.Core.Bool.{Bool, true, false, not, _&&_}
+use mathlib.Core.List.{List}
+use Prim.Native.Nat.{ℕ, _≤_, _<_}
+use borrow.Author.Tests.{lt-ltb, le-ltb}
+use lib.IntN.{ℤ, pos}
+use lib.ListN.{length, getD, set}
+use lib.Seq.{set-out}
+use Rattle.answer.specs.declared.Call.the-variants.{Refused, Done}
+use Rattle.answer.specs.declared.Refusal.the-variants.{Point}
+use Rattle.graphics.specs.State.{pastBothIups}
+use Rattle.graphics.specs.declared.Facts.{Facts}
+use Rattle.graphics.specs.declared.Vector.{Vector}
+use Rattle.graphics.specs.declared.Vectors.{Vectors}
+use Rattle.int.specs.Word.{add32, eqZ}
+use Rattle.math.specs.Fixed.{mulDiv}
+use Rattle.moves.specs.Apply.{shifted, shiftOf, moved, applyOf}
+use Rattle.moves.specs.Displacement.{displacementOf, displacement, displacedFrom, displacedAt}
+use Rattle.moves.specs.Move.{stepBy, stepOf, held, isSlanted, isExempt, moveOf, untouching, originalMoveOf, movedAt}
+use Rattle.moves.specs.declared.Displacement.{Displacement}
+use Rattle.moves.specs.declared.Move.{Move}
+use Rattle.moves.specs.declared.Reference.{Reference}
+use Rattle.projection.specs.Projection.{freedomAxisOf, derivedOf, projectOf}
+use Rattle.projection.specs.declared.Derived.{Derived}
+use Rattle.zone.specs.Zone.{fetchOf, orAt}
+use Rattle.zone.specs.declared.Fetched.{Fetched}
+
+-- ---- one axis
+module _ (l : List ℤ) (at : ℕ) (by : ℤ) {moves : Bool} where
+  pub not-moved : moves ≡ false → l ≡ movedAt l at by moves
+  not-moved e = rw e
+
+  pub moved-outside : moves ≡ true → length l ≤ at → l ≡ movedAt l at by moves
+  moved-outside e h = rw e (sym (set-out l at (add32 (getD l at (pos 0)) by) h))
+
+  pub moved-inside : moves ≡ true → {z : ℤ} → z ≡ add32 (getD l at (pos 0)) by → set l at z ≡ movedAt l at by moves
+  moved-inside e q = rw e (ap (set l at) q)
+
+-- ---- one zone
+module _ (m : Move) (at : ℕ) (xs ys : List ℤ) where
+  pub shift-out : length xs ≤ at → shifted (Refused (Point at)) xs ys ≡ shiftOf m at xs ys
+  unfolding shiftOf
+  shift-out h = rw (le-ltb at (length xs) h)
+
+  pub shift-in : at < length xs → {xs2 ys2 : List ℤ} → xs2 ≡ movedAt xs at (m .dx) (m .«moves_x») → ys2 ≡ movedAt ys at (m .dy) (m .«moves_y») → shifted Done xs2 ys2 ≡ shiftOf m at xs ys
+  unfolding shiftOf
+  shift-in h p q = rw (lt-ltb at (length xs) h, ← p, ← q)
+
+  pub apply-out : (flags : List ℕ) → length xs ≤ at → moved (Refused (Point at)) xs ys flags ≡ applyOf m at xs ys flags
+  unfolding applyOf
+  apply-out flags h = rw (le-ltb at (length xs) h)
+
+  pub apply-in : (flags : List ℕ) → at < length xs → {xs2 ys2 : List ℤ} {flags2 : List ℕ} → xs2 ≡ movedAt xs at (m .dx) (m .«moves_x») → ys2 ≡ movedAt ys at (m .dy) (m .«moves_y») → flags2 ≡ orAt flags at (m .touch) → moved Done xs2 ys2 flags2 ≡ applyOf m at xs ys flags
+  unfolding applyOf
+  apply-in flags h p q r = rw (lt-ltb at (length xs) h, ← p, ← q, ← r)
+
+-- ---- the reference's two places
+module _ (v : Vectors) (p : Reference) (ox oy cx cy : List ℤ) where
+  pub current-is : {g h : Fetched} → g ≡ fetchOf cx cy (p .at) → g ≡ h → displacedFrom v p (fetchOf ox oy (p .at)) h ≡ displacedAt v p ox oy cx cy
+  unfolding displacedAt
+  current-is e q = ap (displacedFrom v p (fetchOf ox oy (p .at))) (sym q ∙ e)
+
+  pub both-are : {g h k l : Fetched} → g ≡ fetchOf cx cy (p .at) → g ≡ h → k ≡ fetchOf ox oy (p .at) → k ≡ l → displacedFrom v p l h ≡ displacedAt v p ox oy cx cy
+  both-are {h = h} e q f r = ap (λ (o : Fetched). displacedFrom v p o h) (sym r ∙ f) ∙ current-is e q
+
+-- ---- what a call works out from `derive` and its kin
+pub step-from : (v : Vectors) (distance : ℤ) {d : Derived} {fdotp read : ℤ} → d ≡ derivedOf v → fdotp ≡ d .fdotp → read ≡ distance → stepBy (v .freedom) fdotp read (d .«freedom_axis») ≡ stepOf v distance
+step-from v distance e p q = rw (p, q, e)
+
+abbrev untouchedBy : Move → ℤ → ℤ → Move
+untouchedBy m x y = record { «moves_x» = m .«moves_x»; dx = x; «moves_y» = m .«moves_y»; dy = y; touch = 0 }
+
+pub original-from : (v : Vectors) (distance : ℤ) {m : Move} {x y : ℤ} → m ≡ stepOf v distance → x ≡ m .dx → y ≡ m .dy → untouchedBy m x y ≡ originalMoveOf v distance
+unfolding originalMoveOf
+original-from v distance e p q = rw (p, q) (ap untouching e)
+
+pub move-from : (v : Vectors) (f : Facts) (distance : ℤ) {m : Move} {slanted level past : Bool} → m ≡ stepOf v distance → slanted ≡ isSlanted (freedomAxisOf v) → level ≡ eqZ (v .projection .y) (pos 0) → past ≡ pastBothIups f → held m (f .«backward_compatibility» && not (slanted && level)) (past && not (slanted && level)) ≡ moveOf v f distance
+unfolding moveOf
+move-from v f distance e s l p = rw (s, l, p) (ap (λ (m : Move). held m (f .«backward_compatibility» && not (isExempt v)) (pastBothIups f && not (isExempt v))) e)
+
+abbrev pub vector : ℤ → ℤ → Vector
+vector x y = record { x = x; y = y }
+
+pub displacement-from : (v : Vectors) (a b : Vector) {d : Derived} {fdotp distance fx fy x y : ℤ} → d ≡ derivedOf v → fdotp ≡ d .fdotp → distance ≡ projectOf v a b → fx ≡ v .freedom .x → fy ≡ v .freedom .y → x ≡ mulDiv distance fx fdotp → y ≡ mulDiv distance fy fdotp → vector x y ≡ displacementOf v a b
+unfolding displacementOf
+displacement-from v a b e p q f g h k = rw (h, k, q, f, g, p, e)
+
+pub displaced-by : (p : Reference) {d m : Vector} {x y : ℤ} → d ≡ m → x ≡ d .x → y ≡ d .y → _≡_ {A = Displacement} (record { zone = p .zone; at = p .at; dx = x; dy = y }) (displacement p m)
+displaced-by p e f g = rw (f, g) (ap (displacement p) e)

@@ -1,0 +1,40 @@
+-- `moves::apply_coords` meets its contract: by the test of the index, and by what `move_at` ensures of each axis. Assumes nothing.
+use mathlib.Core.Path.{ap, _∙_}
+use Prim.Native.Nat.{_^_, _<_}
+use native.Mathlib.Omega.{arith}
+use borrow.Author.Needs.{needs}
+use lib.IntN.{ℤ}
+use lib.Signed.{mag}
+use denote.Ref.{now}
+use Rattle.int.proofs.Words.{back32}
+use Rattle.moves.proofs.Cases.{shift-out, shift-in}
+use Rattle.moves.specs.Move.{movedAt}
+use Rattle.moves.proofs.apply_coords.Statement.{statement}
+use Rattle.moves.proofs.apply_coords.Tie as tie
+
+returns : tie.Need-returns
+returns c = let a = c .before .args in shift-out (a .m) (a .at) (now (a .xs)) (now (a .ys)) (c .if1 .taken)
+
+move-at-requires : tie.Need-move-at-requires
+move-at-requires c κs = search needs
+
+move-at-requires-2 : tie.Need-move-at-requires-2
+move-at-requires-2 c κs = search needs
+
+same-length : tie.Need-same-length
+same-length c = search needs
+
+same-length-2 : tie.Need-same-length-2
+same-length-2 c = search needs
+
+returns-2 : tie.Need-returns-2
+returns-2 c = let y = c .before in let x = y .before .before .before .before in let i = x .before .before .before in let a = i .before .args in let m = a .m in
+    let k : (mag (m .dx) < 2 ^ 31) × (mag (m .dy) < 2 ^ 31) = omega (arith, x .before .struct-told .given .1 .0, y .before .struct-told2 .given .1 .1 .1 .0) in
+    shift-in m (a .at) (now (a .xs)) (now (a .ys)) (i .if1 .left)
+    (x .move-at .ensures ∙ ap (λ (z : ℤ). movedAt (now (a .xs)) (a .at) z (m .«moves_x»)) (back32 (m .dx) (k .0)))
+    (y .move-at2 .ensures ∙ ap (λ (z : ℤ). movedAt (now (a .ys)) (a .at) z (m .«moves_y»)) (back32 (m .dy) (k .1)))
+
+pub apply-coords-spec : {M : Type 1} → statement M
+apply-coords-spec =
+    tie.close
+    (tie.spec returns move-at-requires move-at-requires-2 same-length same-length-2 returns-2)

@@ -1,0 +1,59 @@
+-- `moves::displaced_at` meets its contract: by what the two reads give. Assumes nothing.
+use mathlib.Core.Path.{ap, _∙_}
+use native.Mathlib.Omega.{arith}
+use borrow.Author.Needs.{needs}
+use denote.Ref.{now}
+use Rattle.int.proofs.Words.{back32}
+use Rattle.moves.proofs.Cases.{current-is, both-are, displaced-by}
+use Rattle.moves.specs.declared.Displaced.the-variants.{By}
+use Rattle.moves.proofs.displaced_at.Statement.{statement}
+use Rattle.moves.proofs.displaced_at.Tie as tie
+
+fetch-requires : tie.Need-fetch-requires
+fetch-requires c κs = search needs
+
+enum-known-here : tie.Need-enum-known-here
+enum-known-here c = search needs
+
+enum-known-here-2 : tie.Need-enum-known-here-2
+enum-known-here-2 c = search needs
+
+fetch-requires-2 : tie.Need-fetch-requires-2
+fetch-requires-2 c κs = search needs
+
+enum-known-there : tie.Need-enum-known-there
+enum-known-there c = search needs
+
+enum-known-there-2 : tie.Need-enum-known-there-2
+enum-known-there-2 c = search needs
+
+displacement-of-requires : tie.Need-displacement-of-requires
+displacement-of-requires c κs = search needs
+
+returns : tie.Need-returns
+returns c = let h = c .before in let f = h .before .before in let a = f .before .args in
+    current-is (a .v) (a .p) (now (a .ox)) (now (a .oy)) (now (a .cx)) (now (a .cy)) (f .fetch .ensures) (h .here .given .1)
+
+returns-2 : tie.Need-returns-2
+returns-2 c = let t = c .before in let g = t .before .before in let h = g .before .before in let f = h .before .before in let a = f .before .args in
+    both-are (a .v) (a .p) (now (a .ox)) (now (a .oy)) (now (a .cx)) (now (a .cy)) (f .fetch .ensures) (h .here2 .given .1) (g .fetch2 .ensures) (t .there .given .1)
+
+returns-3 : tie.Need-returns-3
+returns-3 c = let d = c .before in let t = d .before .before in let g = t .before .before in let h = g .before .before in let f = h .before .before in let a = f .before .args in let m = d .displacement-of .result in
+    ap By (displaced-by (a .p) (d .displacement-of .ensures) (back32 (m .x) (omega (arith, c .struct-told .given .0))) (back32 (m .y) (omega (arith, c .struct-told .given .1 .0))))
+    ∙ both-are (a .v) (a .p) (now (a .ox)) (now (a .oy)) (now (a .cx)) (now (a .cy)) (f .fetch .ensures) (h .here2 .given .1) (g .fetch2 .ensures) (t .there2 .given .1)
+
+pub displaced-at-spec : {M : Type 1} → statement M
+displaced-at-spec =
+    tie.close
+    (tie.spec
+    fetch-requires
+    enum-known-here
+    enum-known-here-2
+    fetch-requires-2
+    enum-known-there
+    enum-known-there-2
+    displacement-of-requires
+    returns
+    returns-2
+    returns-3)

@@ -1,0 +1,54 @@
+-- `moves::move_at` meets its contract: by the two tests; outside, `set` leaves the list as it is. Assumes nothing.
+use borrow.Author.Needs.{needs}
+use borrow.Author.Tests.{not-true, not-false}
+use lib.IntN.{pos}
+use lib.ListN.{getD}
+use denote.Ref.{now}
+use mir.Facts.{toZ-ofZ}
+use Rattle.int.proofs.Words.{back32}
+use Rattle.moves.proofs.Cases.{not-moved, moved-outside, moved-inside}
+use Rattle.moves.proofs.move_at.Statement.{statement}
+use Rattle.moves.proofs.move_at.Tie as tie
+
+returns : tie.Need-returns
+returns c = let a = c .before .args in not-moved (now (a .list)) (a .at) (a .by) (not-true (a .moves) (c .if1 .taken))
+
+returns-2 : tie.Need-returns-2
+returns-2 c = let a = c .before .before .args in moved-outside (now (a .list)) (a .at) (a .by) (not-false (a .moves) (c .before .if1 .left)) (c .if2 .taken)
+
+mul-wrapping-add : tie.Need-mul-wrapping-add
+mul-wrapping-add c = search needs
+
+slice-copy-out-wrapping-add : tie.Need-slice-copy-out-wrapping-add
+slice-copy-out-wrapping-add c = search needs
+
+wrapping-add-requires : tie.Need-wrapping-add-requires
+wrapping-add-requires c κs = search needs
+
+mul-t11 : tie.Need-mul-t11
+mul-t11 c = search needs
+
+slice-set-from-list : tie.Need-slice-set-from-list
+slice-set-from-list c = search needs
+
+same-length : tie.Need-same-length
+same-length c = search needs
+
+returns-3 : tie.Need-returns-3
+returns-3 c = let s = c .before .before .before .before in let a = s .args in
+    moved-inside (now (a .list)) (a .at) (a .by) (not-false (a .moves) (c .before .before .before .if1 .left))
+    (cc (back32 (c .wrapping-add .result) (c .wrapping-add .ok), toZ-ofZ (s .fits .by), back32 (getD (now (a .list)) (a .at) (pos 0)) (c .before .wrapping-add-arg .given)))
+
+pub move-at-spec : {M : Type 1} → statement M
+move-at-spec =
+    tie.close
+    (tie.spec
+    returns
+    returns-2
+    mul-wrapping-add
+    slice-copy-out-wrapping-add
+    wrapping-add-requires
+    mul-t11
+    slice-set-from-list
+    same-length
+    returns-3)

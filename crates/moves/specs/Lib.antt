@@ -1,0 +1,3 @@
+pub mod Apply
+pub mod Displacement
+pub mod Move

@@ -1,0 +1,3 @@
+pub mod Cases
+pub mod Each
+pub mod Keeps
