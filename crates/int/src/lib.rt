@@ -2,7 +2,7 @@
 // with an equation over ℤ for its contract.
 //
 // No function has a `requires`: each has one answer for every input, at -2^31 too. specs/Word.antt says what the words mean,
-// and proofs/Laws.antt has the laws that the crates above cite. Nothing here knows of fonts.
+// and proofs/ has the laws that the crates above cite: Ints (of ℤ), Words (what is read back), Wraps (of wrapping). Nothing here knows of fonts.
 ghost use mathlib.Core.Path.{_≡_};
 ghost use mathlib.Core.Bool.{_&&_};
 ghost use Prim.Native.Nat.{_^_};
