@@ -1,19 +1,24 @@
--- What a move leaves alone: an axis that does not move, other points, the lengths of the lists. Each goes by the laws of `set`.
--- Assumes nothing.
+-- What a move leaves alone: an axis that does not move, other points, other bits of the flag that it touches, and the lengths of the lists.
+-- Each goes by the laws of `set` on one list. Assumes nothing.
 use mathlib.Core.Path.{_≡_, refl}
-use mathlib.Core.Bool.{Bool, true, false, cond}
+use mathlib.Core.Bool.{and-false, Bool, true, false}
 use mathlib.Core.List.{List}
 use Prim.Native.Nat.{ℕ}
 use lib.Dec.{ltb}
 use lib.IntN.{ℤ, pos}
+use lib.Bits.{bitOr}
 use lib.ListN.{length, getD, length-set}
 use lib.Seq.{getD-set-other}
-use Rattle.answer.specs.declared.Call.the-variants.{Refused, Done}
-use Rattle.answer.specs.declared.Refusal.the-variants.{Point}
+use Rattle.graphics.specs.declared.Facts.{Facts}
+use Rattle.graphics.specs.declared.Vectors.{Vectors}
 use Rattle.int.specs.Word.{add32}
-use Rattle.moves.specs.Apply.{shifted, shiftOf}
-use Rattle.moves.specs.Move.{movedAt}
+use Rattle.moves.specs.Apply.{Shifted, shiftOf, Moved, applyOf}
+use Rattle.moves.specs.Move.{isNot0, stepOf, isExempt, moveOf, zp2MoveOf, movedAt}
 use Rattle.moves.specs.declared.Move.{Move}
+use Rattle.point.proofs.Bits.{or-keeps}
+use Rattle.point.specs.Flag.{bit}
+use Rattle.zone.proofs.Cases.{either}
+use Rattle.zone.proofs.Keeps.{change-length, change-other, change-bit}
 
 -- ---- one axis
 module _ (l : List ℤ) (at : ℕ) (by : ℤ) where
@@ -33,8 +38,42 @@ module _ (l : List ℤ) (at : ℕ) (by : ℤ) where
 module _ (m : Move) (at : ℕ) (xs ys : List ℤ) where
   pub shift-lengths : (length (shiftOf m at xs ys .xs) ≡ length xs) × (length (shiftOf m at xs ys .ys) ≡ length ys)
   unfolding shiftOf
-  shift-lengths = by (ltb at (length xs))
-    where
-      by : (b : Bool) → (length (cond b (shifted Done (movedAt xs at (m .dx) (m .«moves_x»)) (movedAt ys at (m .dy) (m .«moves_y»))) (shifted (Refused (Point at)) xs ys) .xs) ≡ length xs) × (length (cond b (shifted Done (movedAt xs at (m .dx) (m .«moves_x»)) (movedAt ys at (m .dy) (m .«moves_y»))) (shifted (Refused (Point at)) xs ys) .ys) ≡ length ys)
-      by true = (moved-length xs at (m .dx) (m .«moves_x»), moved-length ys at (m .dy) (m .«moves_y»))
-      by false = (refl, refl)
+  shift-lengths =
+      either (λ (s : Shifted). (length (s .xs) ≡ length xs) × (length (s .ys) ≡ length ys)) (ltb at (length xs))
+      (moved-length xs at (m .dx) (m .«moves_x»), moved-length ys at (m .dy) (m .«moves_y»))
+      (refl, refl)
+
+  module _ (flags : List ℕ) where
+    pub apply-lengths : (length (applyOf m at xs ys flags .xs) ≡ length xs) × (length (applyOf m at xs ys flags .ys) ≡ length ys) × (length (applyOf m at xs ys flags .flags) ≡ length flags)
+    unfolding applyOf
+    apply-lengths =
+        either (λ (s : Moved). (length (s .xs) ≡ length xs) × (length (s .ys) ≡ length ys) × (length (s .flags) ≡ length flags)) (ltb at (length xs))
+        (moved-length xs at (m .dx) (m .«moves_x»), moved-length ys at (m .dy) (m .«moves_y»), change-length (λ (flag : ℕ). bitOr flag (m .touch)) flags at)
+        (refl, refl, refl)
+
+    -- every other point stays where it was, with its flag
+    pub apply-other : (other : ℕ) → (other ≡ at → ⊥) → (getD (applyOf m at xs ys flags .xs) other (pos 0) ≡ getD xs other (pos 0)) × (getD (applyOf m at xs ys flags .ys) other (pos 0) ≡ getD ys other (pos 0)) × (getD (applyOf m at xs ys flags .flags) other 0 ≡ getD flags other 0)
+    unfolding applyOf
+    apply-other other h =
+        either (λ (s : Moved). (getD (s .xs) other (pos 0) ≡ getD xs other (pos 0)) × (getD (s .ys) other (pos 0) ≡ getD ys other (pos 0)) × (getD (s .flags) other 0 ≡ getD flags other 0)) (ltb at (length xs))
+        (moved-other xs at (m .dx) (m .«moves_x») other h, moved-other ys at (m .dy) (m .«moves_y») other h, change-other (λ (flag : ℕ). bitOr flag (m .touch)) flags at other h)
+        (refl, refl, refl)
+
+    -- the point keeps each bit that the move does not touch
+    pub apply-bit : (k : ℕ) → bit k (m .touch) ≡ 0 → bit k (getD (applyOf m at xs ys flags .flags) at 0) ≡ bit k (getD flags at 0)
+    unfolding applyOf
+    apply-bit k z =
+        either (λ (s : Moved). bit k (getD (s .flags) at 0) ≡ bit k (getD flags at 0)) (ltb at (length xs))
+        (change-bit (λ (flag : ℕ). bitOr flag (m .touch)) flags at k (λ flag. or-keeps k flag (m .touch) z))
+        refl
+
+-- ---- what a move never does
+-- x is never moved under backward compatibility, unless docs/src's exception holds
+pub compatible-x : (v : Vectors) (f : Facts) (d : ℤ) → f .«backward_compatibility» ≡ true → isExempt v ≡ false → moveOf v f d .«moves_x» ≡ false
+unfolding moveOf
+compatible-x v f d b e = rw (b, e) (and-false (stepOf v d .«moves_x»))
+
+-- SHP's move never moves x under backward compatibility
+pub compatible-zp2 : (v : Vectors) (f : Facts) (dx dy : ℤ) (touches : Bool) → f .«backward_compatibility» ≡ true → zp2MoveOf v f dx dy touches .«moves_x» ≡ false
+unfolding zp2MoveOf
+compatible-zp2 v f dx dy touches b = rw b (and-false (isNot0 (v .freedom .x)))

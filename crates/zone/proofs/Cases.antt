@@ -1,7 +1,7 @@
 -- What each definition says inside and outside, over plain lists: the functions' proofs cite these, and each is one test rewritten.
 -- Assumes nothing.
 use mathlib.Core.Path.{_≡_, refl, ap, _∙_}
-use mathlib.Core.Bool.{Bool, true, false, _&&_}
+use mathlib.Core.Bool.{Bool, true, false, cond, _&&_}
 use mathlib.Core.List.{List, [], _∷_, _++_, map}
 use Prim.Native.Nat.{ℕ, zero, suc, _-_, _≤_, _<_}
 use native.Mathlib.Omega.{arith}
@@ -74,6 +74,11 @@ module _ (flags : List ℕ) (start end : ℕ) (on : Bool) where
   pub range-out : start ≤ end → length flags < end → marked (Refused (Range start)) flags ≡ setOnCurveOf flags start end on
   unfolding setOnCurveOf
   range-out h k = rw (le-leb start end h, lt-leb end (length flags) k)
+
+-- ---- what holds of both cases of a test
+pub either : {A : Type 0} (P : A → Type 0) (b : Bool) {x y : A} → P x → P y → P (cond b x y)
+either P true p q = p
+either P false p q = q
 
 -- ---- what the size tests tell
 both-first : (a b : Bool) → a && b ≡ true → a ≡ true

@@ -1,0 +1,383 @@
+// One case of the oracle's stream: a call, the world that it is given, and the outcome as the words that it changed (docs/ORACLE.md).
+//
+// A case is little-endian words. Word 0 says how many there are, 1 which call, 2 to 9 hold its arguments, 10 to 13 start and budget, 14 to 22
+// what it says, 23 the number of changed words, 24 to 38 the lengths of the fifteen lists (bit 31: one word stands for every element), 39 to 64
+// the state; then come the lists and the changes, each an index and the new word. What lies outside the case reads as 0, so a case
+// that is cut short is no reason to stop. Nothing is promised here but that every function is safe and ends.
+use graphics::Facts;
+use graphics::GraphicsState;
+use graphics::References;
+use graphics::Vector;
+use graphics::Vectors;
+use graphics::ZonePointer;
+use graphics::ZonePointers;
+use int::from_bits;
+use int::to_bits;
+use round::RoundMode;
+use round::RoundState;
+use words::word_at;
+
+pub const KIND: u64 = 1;
+
+pub const ARGUMENTS: u64 = 2;
+
+pub const ANSWER: u64 = 14;
+
+pub const DETAIL: u64 = 19;
+
+pub const VALUE: u64 = 21;
+
+pub const CHANGES: u64 = 23;
+
+pub const LENGTHS: u64 = 24;
+
+pub const STATE: u64 = 39;
+
+pub const STATE_WORDS: u64 = 26;
+
+pub const LISTS: u64 = 15;
+
+// ---- words
+// The case's word k, 0 outside.
+pub fn word(case: &[u8], k: u64) -> u32 {
+    if k < 0x100_0000 {
+        word_at(case, k as usize * 4)
+    } else {
+        0
+    }
+}
+
+pub fn number(case: &[u8], k: u64) -> i32 {
+    from_bits(word(case, k))
+}
+
+fn after(k: u64, by: u64) -> u64 {
+    std::num::wrapping_add_u64(k, by)
+}
+
+fn wide(x: u32) -> u64 {
+    x as u64
+}
+
+// A number of 64 bits, its low word first.
+pub fn long(case: &[u8], k: u64) -> u64 {
+    joined(word(case, k), word(case, after(k, 1)))
+}
+
+fn joined(low: u32, high: u32) -> u64 {
+    low as u64 + high as u64 * 0x1_0000_0000
+}
+
+pub fn yes(case: &[u8], k: u64) -> bool {
+    word(case, k) == 1
+}
+
+// ---- the state
+fn vector(case: &[u8], k: u64) -> Vector {
+    let x = number(case, k);
+    let y = number(case, after(k, 1));
+    Vector { x, y }
+}
+
+pub fn zone_of(n: u32) -> ZonePointer {
+    match n {
+        0 => ZonePointer::Twilight,
+        _ => ZonePointer::Glyph,
+    }
+}
+
+fn mode_of(n: u32) -> RoundMode {
+    match n {
+        0 => RoundMode::Grid,
+        1 => RoundMode::HalfGrid,
+        2 => RoundMode::DoubleGrid,
+        3 => RoundMode::DownToGrid,
+        4 => RoundMode::UpToGrid,
+        5 => RoundMode::Off,
+        6 => RoundMode::Super,
+        _ => RoundMode::Super45,
+    }
+}
+
+fn vectors_of(case: &[u8]) -> Vectors {
+    let projection = vector(case, STATE);
+    let dual = vector(case, STATE + 2);
+    let freedom = vector(case, STATE + 4);
+    Vectors {
+        projection,
+        dual,
+        freedom,
+    }
+}
+
+fn round_of(case: &[u8]) -> RoundState {
+    let mode = mode_of(word(case, STATE + 6));
+    let threshold = number(case, STATE + 7);
+    let phase = number(case, STATE + 8);
+    let period = number(case, STATE + 9);
+    RoundState {
+        mode,
+        threshold,
+        phase,
+        period,
+    }
+}
+
+fn references_of(case: &[u8]) -> References {
+    let rp0 = long(case, STATE + 10);
+    let rp1 = long(case, STATE + 12);
+    let rp2 = long(case, STATE + 14);
+    References { rp0, rp1, rp2 }
+}
+
+fn pointers_of(case: &[u8]) -> ZonePointers {
+    let zp0 = zone_of(word(case, STATE + 17));
+    let zp1 = zone_of(word(case, STATE + 18));
+    let zp2 = zone_of(word(case, STATE + 19));
+    ZonePointers { zp0, zp1, zp2 }
+}
+
+fn facts_of(case: &[u8]) -> Facts {
+    let backward_compatibility = yes(case, STATE + 20);
+    let pedantic = yes(case, STATE + 21);
+    let native_clear_type_x = yes(case, STATE + 22);
+    let did_iup_x = yes(case, STATE + 23);
+    let did_iup_y = yes(case, STATE + 24);
+    Facts {
+        backward_compatibility,
+        pedantic,
+        native_clear_type_x,
+        did_iup_x,
+        did_iup_y,
+    }
+}
+
+pub fn state_of(case: &[u8]) -> GraphicsState {
+    let vectors = vectors_of(case);
+    let round = round_of(case);
+    let references = references_of(case);
+    let loop_counter = word(case, STATE + 16);
+    let pointers = pointers_of(case);
+    let cut_in = number(case, STATE + 25);
+    let facts = facts_of(case);
+    GraphicsState {
+        vectors,
+        round,
+        references,
+        loop_counter,
+        pointers,
+        cut_in,
+        facts,
+    }
+}
+
+// ---- the lists
+// Where a list stands: its first word in the case, its first index among the state's words and the lists written out, its length,
+// and whether one word stands for all of it.
+pub struct Place {
+    pub stored: u64,
+    pub index: u64,
+    pub length: u64,
+    pub alike: bool,
+}
+
+fn length_word(case: &[u8], list: u64) -> u32 {
+    word(case, after(LENGTHS, list))
+}
+
+// The place of a list that starts at the given words.
+fn place_at(case: &[u8], list: u64, stored: u64, index: u64) -> Place {
+    let length = length_word(case, list);
+    Place {
+        stored,
+        index,
+        length: wide(length & 0x7fff_ffff),
+        alike: length & 0x8000_0000 != 0,
+    }
+}
+
+// The words of the list that are in the case.
+fn stored_words(p: Place) -> u64 {
+    if p.alike { 1 } else { p.length }
+}
+
+// The place of a list; of list 15, which there isn't, the place of the changes.
+pub fn place_of(case: &[u8], list: u64) -> Place {
+    let mut stored = STATE + STATE_WORDS;
+    let mut index = STATE_WORDS;
+    let mut k = 0;
+    while k < list {
+        let p = place_at(case, k, stored, index);
+        stored = after(stored, stored_words(p));
+        index = after(index, p.length);
+        k += 1;
+    }
+    place_at(case, list, stored, index)
+}
+
+// A list's element, before the call.
+fn element(case: &[u8], p: Place, j: u64) -> u32 {
+    if p.alike {
+        word(case, p.stored)
+    } else {
+        word(case, after(p.stored, j))
+    }
+}
+
+pub fn fill_words(case: &[u8], p: Place, out: &mut [i32]) {
+    let mut j = 0;
+    while j < out.len() {
+        out[j] = from_bits(element(case, p, j as u64));
+        j += 1;
+    }
+}
+
+fn wide_flag(x: u8) -> u32 {
+    x as u32
+}
+
+fn low_byte(x: u32) -> u8 {
+    (x % 256) as u8
+}
+
+pub fn fill_flags(case: &[u8], p: Place, out: &mut [u8]) {
+    let mut j = 0;
+    while j < out.len() {
+        out[j] = low_byte(element(case, p, j as u64));
+        j += 1;
+    }
+}
+
+fn low_half(x: u32) -> u16 {
+    (x % 65536) as u16
+}
+
+pub fn fill_ends(case: &[u8], p: Place, out: &mut [u16]) {
+    let mut j = 0;
+    while j < out.len() {
+        out[j] = low_half(element(case, p, j as u64));
+        j += 1;
+    }
+}
+
+// ---- what the call left
+// A list is right where as many elements differ from before as the changes name in it, and each change says what the list holds.
+pub struct Compared {
+    // Elements that differ from before.
+    pub differ: u64,
+    // Changes that the list holds.
+    pub held: u64,
+}
+
+impl Compared {
+    pub fn none() -> Compared {
+        Compared { differ: 0, held: 0 }
+    }
+
+    pub fn and(self, other: Compared) -> Compared {
+        Compared {
+            differ: after(self.differ, other.differ),
+            held: after(self.held, other.held),
+        }
+    }
+
+    // Whether the changes that the case names are those that were made.
+    pub fn is_all(self, case: &[u8]) -> bool {
+        let changes = wide(word(case, CHANGES));
+        self.differ == changes && self.held == changes
+    }
+}
+
+fn words_differ(case: &[u8], p: Place, list: &[i32]) -> u64 {
+    let mut differ = 0;
+    let mut j = 0;
+    while j < list.len() {
+        if to_bits(list[j]) != element(case, p, j as u64) {
+            differ = after(differ, 1);
+        }
+        j += 1;
+    }
+    differ
+}
+
+fn flags_differ(case: &[u8], p: Place, list: &[u8]) -> u64 {
+    let mut differ = 0;
+    let mut j = 0;
+    while j < list.len() {
+        if wide_flag(list[j]) != element(case, p, j as u64) {
+            differ = after(differ, 1);
+        }
+        j += 1;
+    }
+    differ
+}
+
+fn word_is(p: Place, list: &[i32], index: u64, new: u32) -> bool {
+    if index < p.index {
+        return false;
+    }
+    let j = (index - p.index) as usize;
+    if j < list.len() {
+        to_bits(list[j]) == new
+    } else {
+        false
+    }
+}
+
+fn flag_is(p: Place, list: &[u8], index: u64, new: u32) -> bool {
+    if index < p.index {
+        return false;
+    }
+    let j = (index - p.index) as usize;
+    if j < list.len() {
+        wide_flag(list[j]) == new
+    } else {
+        false
+    }
+}
+
+fn words_held(case: &[u8], p: Place, list: &[i32]) -> u64 {
+    let changes = wide(word(case, CHANGES));
+    let last = place_of(case, LISTS);
+    let mut at = last.stored;
+    let mut held = 0;
+    let mut k = 0;
+    while k < changes {
+        if word_is(p, list, wide(word(case, at)), word(case, after(at, 1))) {
+            held = after(held, 1);
+        }
+        at = after(at, 2);
+        k += 1;
+    }
+    held
+}
+
+fn flags_held(case: &[u8], p: Place, list: &[u8]) -> u64 {
+    let changes = wide(word(case, CHANGES));
+    let last = place_of(case, LISTS);
+    let mut at = last.stored;
+    let mut held = 0;
+    let mut k = 0;
+    while k < changes {
+        if flag_is(p, list, wide(word(case, at)), word(case, after(at, 1))) {
+            held = after(held, 1);
+        }
+        at = after(at, 2);
+        k += 1;
+    }
+    held
+}
+
+pub fn compare_words(case: &[u8], list: u64, after_call: &[i32]) -> Compared {
+    let p = place_of(case, list);
+    let differ = words_differ(case, p, after_call);
+    let held = words_held(case, p, after_call);
+    Compared { differ, held }
+}
+
+pub fn compare_flags(case: &[u8], list: u64, after_call: &[u8]) -> Compared {
+    let p = place_of(case, list);
+    let differ = flags_differ(case, p, after_call);
+    let held = flags_held(case, p, after_call);
+    Compared { differ, held }
+}

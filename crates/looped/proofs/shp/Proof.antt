@@ -1,0 +1,105 @@
+-- `looped::shp` meets its contract: by whether the reference point is refused; else the loop is what `shift_in` ensures. Assumes nothing.
+use mathlib.Core.Path.{ap, _∙_}
+use native.Mathlib.Omega.{arith}
+use borrow.Author.Needs.{needs}
+use denote.Ref.{now}
+use Rattle.int.proofs.Words.{back32}
+use Rattle.line.specs.declared.Stepped.{Stepped}
+use Rattle.looped.proofs.Cases.{reset-after, displaced-is, shift-move}
+use Rattle.looped.specs.Looped.{went, zones, shiftEachIn, shiftBy}
+use Rattle.moves.specs.declared.Move.{Move}
+use Rattle.looped.proofs.shp.Statement.{statement}
+use Rattle.looped.proofs.shp.Tie as tie
+
+reference-of-requires : tie.Need-reference-of-requires
+reference-of-requires c κs = search needs
+
+displaced-in-requires : tie.Need-displaced-in-requires
+displaced-in-requires c κs = let p = c .before .before .before .before .before .before .before .before .before .before .pre in (p .0, p .2, p .1, p .4)
+
+enum-known-displaced : tie.Need-enum-known-displaced
+enum-known-displaced c = search needs
+
+refused-requires : tie.Need-refused-requires
+refused-requires c κs = search needs
+
+enum-known-displaced-2 : tie.Need-enum-known-displaced-2
+enum-known-displaced-2 c = search needs
+
+zp2-move-of-requires : tie.Need-zp2-move-of-requires
+zp2-move-of-requires c κs = search needs
+
+shift-in-requires : tie.Need-shift-in-requires
+shift-in-requires c κs = let p = c .before .before .before .before .before .before .before .before .before .before .before .before .before .before .before .before .before .before .before .before .before .before .before .pre in (p .2, p .3, p .4, p .5)
+
+reset-loop-counter-requires : tie.Need-reset-loop-counter-requires
+reset-loop-counter-requires c κs = search needs
+
+same-length : tie.Need-same-length
+same-length c = search needs
+
+same-length-2 : tie.Need-same-length-2
+same-length-2 c = search needs
+
+same-length-3 : tie.Need-same-length-3
+same-length-3 c = search needs
+
+same-length-4 : tie.Need-same-length-4
+same-length-4 c = search needs
+
+returns : tie.Need-returns
+unfolding shiftBy
+returns c = let f = c .before .before in let x = f .before .before in let r = x .before .before .before .before .before in let a = r .before .before .before .before .before .before .args in
+    ap (λ (line : Stepped). went line (zones (now (a .gx)) (now (a .gy)) (now (a .gflags)) (now (a .tx)) (now (a .ty)) (now (a .tflags)))) (c .refused .ensures)
+    ∙ displaced-is (a .s) (a .opcode) (now (a .operands)) (now (a .gox)) (now (a .goy)) (now (a .tox)) (now (a .toy)) (zones (now (a .gx)) (now (a .gy)) (now (a .gflags)) (now (a .tx)) (now (a .ty)) (now (a .tflags))) (r .reference-of .ensures) (x .displaced-in .ensures) (f .displaced .given .1)
+
+same-length-5 : tie.Need-same-length-5
+same-length-5 c = c .before .before .before .before .before .before .before .before .before .shift-in .kept .1 .1 .1 .1 .0
+
+same-length-6 : tie.Need-same-length-6
+same-length-6 c = c .before .before .before .before .before .before .before .before .before .shift-in .kept .1 .1 .1 .1 .1 .0
+
+same-length-7 : tie.Need-same-length-7
+same-length-7 c = c .before .before .before .before .before .before .before .before .before .shift-in .kept .1 .1 .1 .1 .1 .1 .0
+
+same-length-8 : tie.Need-same-length-8
+same-length-8 c = c .before .before .before .before .before .before .before .before .before .shift-in .kept .1 .1 .1 .1 .1 .1 .1 .0
+
+same-length-9 : tie.Need-same-length-9
+same-length-9 c = c .before .before .before .before .before .before .before .before .before .shift-in .kept .1 .1 .1 .1 .1 .1 .1 .1 .0
+
+same-length-10 : tie.Need-same-length-10
+same-length-10 c = c .before .before .before .before .before .before .before .before .before .shift-in .kept .1 .1 .1 .1 .1 .1 .1 .1 .1 .0
+
+returns-2 : tie.Need-returns-2
+unfolding shiftBy
+returns-2 c = let t = c .before .before .before .before .before .before .before .before .before in let m = t .before .before .before .before .before .before .before in let f = m .before .before .before .before in let x = f .before .before in let r = x .before .before .before .before .before in let a = r .before .before .before .before .before .before .args in
+    reset-after (a .s) (c .reset-loop-counter .ensures)
+    (t .shift-in .ensures ∙ ap (λ (by : Move). shiftEachIn by (a .s .«loop_counter») (now (a .operands)) (zones (now (a .gx)) (now (a .gy)) (now (a .gflags)) (now (a .tx)) (now (a .ty)) (now (a .tflags))) (a .s .pointers .zp2))
+    (shift-move (a .s) (m .zp2-move-of .ensures) (back32 _ (omega (arith, m .before .before .struct-told .given .1 .1 .0))) (back32 _ (omega (arith, m .before .struct-told2 .given .1 .1 .1 .0)))))
+    ∙ displaced-is (a .s) (a .opcode) (now (a .operands)) (now (a .gox)) (now (a .goy)) (now (a .tox)) (now (a .toy)) (zones (now (a .gx)) (now (a .gy)) (now (a .gflags)) (now (a .tx)) (now (a .ty)) (now (a .tflags))) (r .reference-of .ensures) (x .displaced-in .ensures) (f .displaced2 .given .1)
+
+pub shp-spec : {M : Type 1} → statement M
+shp-spec =
+    tie.close
+    (tie.spec
+    reference-of-requires
+    displaced-in-requires
+    enum-known-displaced
+    refused-requires
+    enum-known-displaced-2
+    zp2-move-of-requires
+    shift-in-requires
+    reset-loop-counter-requires
+    same-length
+    same-length-2
+    same-length-3
+    same-length-4
+    returns
+    same-length-5
+    same-length-6
+    same-length-7
+    same-length-8
+    same-length-9
+    same-length-10
+    returns-2)

@@ -1,0 +1,3 @@
+pub mod Absolute
+pub mod Lines
+pub mod Numbers
