@@ -1,0 +1,67 @@
+/* A case's world: 26 words of state and fifteen lists, in one row of words. */
+#ifndef WORLD_H
+#define WORLD_H
+
+#include <stddef.h>
+#include <stdint.h>
+
+enum {
+    STATE_WORDS = 26,
+    LIST_COUNT = 15,
+    MOST_POINTS = 16384,
+    MOST_CONTOURS = 4096,
+    MOST_CONTROL_VALUES = 16384,
+    MOST_SHEET_WORDS = 65536
+};
+
+/* The state's words. */
+enum {
+    PROJECTION = 0,
+    DUAL = 2,
+    FREEDOM = 4,
+    MODE = 6,
+    THRESHOLD = 7,
+    PHASE = 8,
+    PERIOD = 9,
+    REFERENCES = 10,
+    LOOP = 16,
+    ZONES = 17,
+    COMPATIBLE = 20,
+    PEDANTIC = 21,
+    X_DONE = 23,
+    Y_DONE = 24,
+    CUT_IN = 25
+};
+
+/* The lists; a list of y stands right after its list of x. */
+enum {
+    UNSCALED_X = 0,
+    ORIGINAL_X = 2,
+    CURRENT_X = 4,
+    FLAGS = 6,
+    CONTOURS = 7,
+    TWILIGHT_ORIGINAL_X = 8,
+    TWILIGHT_CURRENT_X = 10,
+    TWILIGHT_FLAGS = 12,
+    CONTROL_VALUES = 13,
+    SHEET = 14
+};
+
+typedef struct {
+    uint32_t *at;
+    size_t length;
+} List;
+
+/* The state's words come first in the row, then the lists in full. */
+typedef struct {
+    uint32_t *state;
+    size_t words;
+    List list[LIST_COUNT];
+} World;
+
+static inline uint64_t joined(const uint32_t *halves)
+{
+    return halves[0] | (uint64_t)halves[1] << 32;
+}
+
+#endif
