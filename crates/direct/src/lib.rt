@@ -148,7 +148,7 @@ pub fn try_move_zp2_point(
 // How far the reference point of SHP and its kin was moved.
 pub fn try_point_displacement(
     s: GraphicsState,
-    opcode: u8,
+    opcode: usize,
     gox: &[i32],
     goy: &[i32],
     gcx: &[i32],

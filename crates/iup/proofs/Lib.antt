@@ -5,3 +5,5 @@ pub mod Spread
 pub mod Turn
 pub mod ByTouched
 pub mod Walks
+pub mod Facts
+pub mod Numbers

@@ -9,16 +9,15 @@ use lib.IntN.{ℤ}
 use lib.Signed.{leZ}
 use lib.ListN.{length, take, drop, length-append, length-drop, length-map}
 use lib.Seq.{take-append-add, drop-append-add, length-take-le, drop-drop}
-use Rattle.int.specs.Word.{low, add32, sub32}
+use Rattle.int.specs.Word.{low}
 use Rattle.iup.proofs.Points.{unscaledOf, originalOf, touchOf, map-drop}
 use Rattle.iup.specs.Contour.{Point, inside, along, between, touchedOf, headOr, spread, currentOf}
-use Rattle.iup.specs.Parts.{ahead, level, slope, movedBy, byReferences, both}
+use Rattle.iup.specs.Parts.{ahead, level, slope, insideBy, movedBy, byReferences, both}
 use Rattle.iup.specs.declared.Place.{Place}
-use Rattle.math.specs.Fixed.{mulFix}
 
 -- ---- the code's references say what the definition says
-inside-is : (low high p : Place) (b : Bool) → level low high ≡ b → cond (level low high) (low .current) (add32 (low .current) (mulFix (sub32 (p .unscaled) (low .unscaled)) (slope low high))) ≡ inside low high p
-unfolding inside
+inside-is : (low high p : Place) (b : Bool) → level low high ≡ b → insideBy low (level low high) (slope low high) (p .unscaled) ≡ inside low high p
+unfolding insideBy inside
 inside-is low high p true t = rw t
 inside-is low high p false t = rw t
 

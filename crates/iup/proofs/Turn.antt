@@ -20,7 +20,7 @@ getD-head zero l d = refl
 getD-head (suc i) [] d = refl
 getD-head (suc i) (x ∷ l) d = getD-head i l d
 
-same-place : (p : Place) {u o c : ℤ} → u ≡ p .unscaled → o ≡ p .original → c ≡ p .current → _≡_ {A = Place} (record { unscaled = u; original = o; current = c }) p
+pub same-place : (p : Place) {u o c : ℤ} → u ≡ p .unscaled → o ≡ p .original → c ≡ p .current → _≡_ {A = Place} (record { unscaled = u; original = o; current = c }) p
 same-place p e f g = rw (e, f, g)
 
 -- the place that is read at i

@@ -26,6 +26,11 @@ walkOf n at (end ∷ ends) ps =
     (contourOf (take (past end n - at) ps) ++ walkOf n (past end n) ends (drop (past end n - at) ps))
     (walkOf n at ends ps)
 
+-- where the walk ends: every point from there on lies outside all contours
+unfoldable pub reached : ℕ → ℕ → List ℕ → ℕ
+reached n at [] = at
+reached n at (end ∷ ends) = cond (ltb at (past end n)) (reached n (past end n) ends) (reached n at ends)
+
 -- what a call says, and the current coordinates that it leaves
 pub record Went : Type 0 where
   pub answer : Call

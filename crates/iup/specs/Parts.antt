@@ -43,13 +43,16 @@ slope low high =
     cond (level low high) (pos 0) (divFix (sub32 (high .current) (low .current)) (sub32 (high .unscaled) (low .unscaled)))
 
 -- a point by its references in order, with what is worked out once for a stretch
+unfoldable pub insideBy : Place → Bool → ℤ → ℤ → ℤ
+insideBy low flat scale u = cond flat (low .current) (add32 (low .current) (mulFix (sub32 u (low .unscaled)) scale))
+
 unfoldable pub movedBy : Place → Place → Bool → ℤ → ℤ → ℤ → ℤ
 movedBy low high flat scale u o =
     cond (leZ o (low .original))
     (add32 o (displacement low))
     (cond (leZ (high .original) o)
     (add32 o (displacement high))
-    (cond flat (low .current) (add32 (low .current) (mulFix (sub32 u (low .unscaled)) scale))))
+    (insideBy low flat scale u))
 
 unfoldable pub byReferences : Place → Place → ℤ → ℤ → ℤ
 byReferences a b =

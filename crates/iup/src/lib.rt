@@ -1,4 +1,11 @@
-// IUP on one axis.
+// IUP, the interpolation of untouched points, on one axis: `Zone::iup` of zone.rs, FreeType's Ins_IUP.
+//
+// `iup` equals `iupOf` of specs/Iup.antt, which goes contour by contour: answer and every current coordinate, for every input whose four
+// lists have one length. `try_iup` asks nothing: it refuses unequal lengths and sizes above the limits (answer 2) first. x and y are the
+// same call with another mask and other lists. Each contour's stretch of the current coordinates is lent as a middle part, and so is each
+// stretch of untouched points in it; no coordinate is copied, and the work is linear in points and contours. proofs/Facts.antt has what is
+// left alone: touched points, points outside the contours, and what one contour cannot see of another.
+// Not here: IUP's two marks, the other axis and the flags. Ends out of order are skipped, as in the Rust, and not refused.
 use answer::Call;
 use answer::Refusal;
 use int::at_most;
@@ -12,17 +19,17 @@ use math::mul;
 use point::has_any;
 ghost use mathlib.Core.Path.{_≡_};
 ghost use mathlib.Core.Bool.{cond, _&&_};
-ghost use lib.Signed.{leZ};
 ghost use mathlib.Core.List.{map};
 ghost use Prim.Native.Nat.{_+_};
 ghost use lib.Dec.{ltb, eqb};
 ghost use lib.ListN.{length, drop};
+ghost use lib.Signed.{leZ};
 ghost use Rattle.int.specs.Word.{add32};
 ghost use Rattle.iup.specs.Contour.{displacement as Contour·displacement, spread, contourOf, points};
-ghost use Rattle.iup.specs.Iup.{past as Iup·past, walkOf, went, iupOf, sizesFit, triedOf};
-ghost use Rattle.iup.specs.Parts.{marks, ahead, upToLast, placeAt, level as Parts·level, slope as Parts·slope, movedBy, byReferences, both};
+ghost use Rattle.iup.specs.Iup.{past as Iup·past, went, iupOf, sizesFit, triedOf};
+ghost use Rattle.iup.specs.Parts.{marks, ahead, upToLast, placeAt, level as Parts·level, slope as Parts·slope, insideBy, movedBy, byReferences, both};
 
-// The coordinates of a point on the axis.
+// A point on the axis: in font units, scaled, and where it stands now.
 pub struct Place {
     pub unscaled: i32,
     pub original: i32,
@@ -43,7 +50,7 @@ fn next_touched(flags: &[u8], mask: u8, from: usize) -> usize
     i
 }
 
-// How many points there are up to the last touched one, with it.
+// How many points there are up to the last touched one, with it; 0 where none is touched.
 fn last_touched(flags: &[u8], mask: u8) -> usize
     ensures { λ r. ⌜ r ≡ upToLast (marks mask (now (flags .entry))) ⌝ }
 {
@@ -57,6 +64,7 @@ fn last_touched(flags: &[u8], mask: u8) -> usize
     0
 }
 
+// The point at `at`, or another where there is none: behind the last touched point of a contour the first one is next.
 fn place_at(unscaled: &[i32], original: &[i32], current: &[i32], at: usize, other: Place) -> Place
     requires { ⌜ (length (now unscaled) ≡ length (now current)) × (length (now original) ≡ length (now current)) ⌝ }
     ensures { λ r. ⌜ r ≡ placeAt (now (unscaled .entry)) (now (original .entry)) (now (current .entry)) at other ⌝ }
@@ -115,7 +123,6 @@ fn lower(a: Place, b: Place) -> Place
     }
 }
 
-// The other one.
 fn higher(a: Place, b: Place) -> Place
     ensures { λ r. ⌜ r ≡ cond (leZ (a .unscaled) (b .unscaled)) b a ⌝ }
 {
@@ -126,15 +133,18 @@ fn higher(a: Place, b: Place) -> Place
     }
 }
 
-// A point by its references in order. `flat` and `scale` are worked out once for a stretch.
-fn moved(low: Place, high: Place, flat: bool, scale: i32, unscaled: i32, original: i32) -> i32
-    ensures { λ r. ⌜ r ≡ movedBy low high flat scale unscaled original ⌝ }
+// A point at or beyond a reference moves with it.
+fn carried(p: Place, original: i32) -> i32
+    ensures { λ r. ⌜ r ≡ add32 original (Contour·displacement p) ⌝ }
 {
-    if at_most(original, low.original) {
-        wrapping_add(original, displacement(low))
-    } else if at_most(high.original, original) {
-        wrapping_add(original, displacement(high))
-    } else if flat {
+    wrapping_add(original, displacement(p))
+}
+
+// A point strictly between its references: in proportion, from the lower one.
+fn inside(low: Place, flat: bool, scale: i32, unscaled: i32) -> i32
+    ensures { λ r. ⌜ r ≡ insideBy low flat scale unscaled ⌝ }
+{
+    if flat {
         low.current
     } else {
         wrapping_add(
@@ -144,6 +154,20 @@ fn moved(low: Place, high: Place, flat: bool, scale: i32, unscaled: i32, origina
     }
 }
 
+// A point by its references in order. `flat` and `scale` are worked out once for a stretch.
+fn moved(low: Place, high: Place, flat: bool, scale: i32, unscaled: i32, original: i32) -> i32
+    ensures { λ r. ⌜ r ≡ movedBy low high flat scale unscaled original ⌝ }
+{
+    if at_most(original, low.original) {
+        carried(low, original)
+    } else if at_most(high.original, original) {
+        carried(high, original)
+    } else {
+        inside(low, flat, scale, unscaled)
+    }
+}
+
+// A stretch of untouched points by its references: one multiplication for a point, and no division.
 fn interpolate(
     unscaled: &[i32],
     original: &[i32],
@@ -163,7 +187,7 @@ fn interpolate(
     }
 }
 
-// A stretch between its references. Where it is empty nothing is divided.
+// A stretch between the touched points before and after it. An empty one, between two touched neighbours, costs no division.
 fn stretch(unscaled: &[i32], original: &[i32], current: &mut [i32], before: Place, after: Place)
     requires { ⌜ (length (now unscaled) ≡ length (now current)) × (length (now original) ≡ length (now current)) ⌝ }
     ensures { λ _. ⌜ now (current .exit) ≡ both (byReferences before after) (now (unscaled .entry)) (now (original .entry)) ⌝ }
@@ -194,7 +218,8 @@ fn shift(part: &mut [i32], delta: i32)
     }
 }
 
-// Stretch by stretch: `last` is the last touched point of the contour, which stands before the first stretch, and `first` the first.
+// The stretches one after the other, each lent as a part. Points are taken cyclically, so `last`, the contour's last touched point, stands
+// before the first stretch, and `first`, its first one, behind the last.
 fn spread_out(
     unscaled: &[i32],
     original: &[i32],
@@ -224,6 +249,7 @@ fn spread_out(
     }
 }
 
+// One contour: with no touched point nothing moves, one takes all others along, and from two on the others go between them.
 fn contour(unscaled: &[i32], original: &[i32], current: &mut [i32], flags: &[u8], mask: u8)
     requires { ⌜ (length (now unscaled) ≡ length (now current)) × (length (now original) ≡ length (now current)) × (length (now flags) ≡ length (now current)) ⌝ }
     ensures { λ _. ⌜ now (current .exit) ≡ contourOf (points mask (now (flags .entry)) (now (unscaled .entry)) (now (original .entry)) (now (current .entry))) ⌝ }
@@ -247,7 +273,7 @@ fn contour(unscaled: &[i32], original: &[i32], current: &mut [i32], flags: &[u8]
     }
 }
 
-// The place past a contour's end, at most n.
+// The place past a contour's end; an end at or above n is taken as n - 1.
 fn past(end: u16, n: usize) -> usize
     ensures { λ r. ⌜ r ≡ Iup·past end n ⌝ }
 {
@@ -262,7 +288,8 @@ fn no_start(points: usize, contours: usize) -> bool
     points == 0 && 0 < contours
 }
 
-// The contours one after the other, each on its own part of the coordinates, which starts where the last one ended.
+// The contours one after the other, each on its own part of the coordinates, which starts where the last one ended. A contour that ends
+// before the walk's place is skipped, and points after the last contour stay. A contour and no point is refused with 7, detail 0.
 pub fn iup(
     unscaled: &[i32],
     original: &[i32],
@@ -322,7 +349,7 @@ fn sizes_fit(
     }
 }
 
-// The direct call.
+// The direct call, for lists of any lengths.
 pub fn try_iup(
     unscaled: &[i32],
     original: &[i32],

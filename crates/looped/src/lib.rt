@@ -150,7 +150,7 @@ fn shift_in(
 
 pub fn shp(
     s: GraphicsState,
-    opcode: u8,
+    opcode: usize,
     operands: &[i32],
     gox: &[i32],
     goy: &[i32],

@@ -277,7 +277,7 @@ pub enum Displaced {
 }
 
 // An odd opcode goes by rp1 in zp0, an even one by rp2 in zp1.
-pub fn reference_of(s: GraphicsState, opcode: u8) -> Reference
+pub fn reference_of(s: GraphicsState, opcode: usize) -> Reference
     ensures { λ r. ⌜ r ≡ referenceOf s opcode ⌝ }
 {
     let pointers = s.pointers;

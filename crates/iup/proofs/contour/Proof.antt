@@ -17,6 +17,7 @@ use Rattle.int.proofs.Words.{back32}
 use Rattle.iup.proofs.ByTouched.{none, several, one}
 use Rattle.iup.proofs.Points.{Shown, shown}
 use Rattle.iup.proofs.Search.{last-le}
+use Rattle.iup.proofs.Turn.{same-place}
 use Rattle.iup.specs.Contour.{points}
 use Rattle.iup.specs.Parts.{placeAt}
 use Rattle.iup.specs.declared.Place.{Place}
@@ -42,11 +43,15 @@ unfolding placeAt
 first c =
     let s = c .before .before .before .before .before .before in let at = c .before .before .before .before .next-touched .result in
     rw (lt-ltb at (length (now (s .args .current))) (omega (arith, c .before .before .before .if1 .taken, s .pre .2)))
-    (cc (
-      back32 (getD (now (s .args .unscaled)) at (pos 0)) (c .before .before .t15 .given),
-      back32 (getD (now (s .args .original)) at (pos 0)) (c .before .t18 .given),
-      back32 (getD (now (s .args .current)) at (pos 0)) (c .t21 .given),
-    ))
+    (same-place
+    (record {
+      unscaled = getD (now (s .args .unscaled)) at (pos 0);
+      original = getD (now (s .args .original)) at (pos 0);
+      current = getD (now (s .args .current)) at (pos 0);
+    })
+    (back32 (getD (now (s .args .unscaled)) at (pos 0)) (c .before .before .t15 .given))
+    (back32 (getD (now (s .args .original)) at (pos 0)) (c .before .t18 .given))
+    (back32 (getD (now (s .args .current)) at (pos 0)) (c .t21 .given)))
 
 next-touched-requires : tie.Need-next-touched-requires
 next-touched-requires c κs = search needs

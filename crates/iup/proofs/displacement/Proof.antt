@@ -1,7 +1,8 @@
 -- `iup::displacement` meets its contract. Assumes nothing.
-use native.Mathlib.Omega.{arith}
+use mathlib.Core.Path.{ap₂, _∙_}
 use borrow.Author.Needs.{needs}
 use Rattle.int.proofs.Words.{back32}
+use Rattle.int.specs.Word.{sub32}
 use Rattle.iup.proofs.displacement.Statement.{statement}
 use Rattle.iup.proofs.displacement.Tie as tie
 
@@ -10,7 +11,8 @@ wrapping-sub-requires c κs = search needs
 
 returns : tie.Need-returns
 returns c = let p = c .before .before .before .args .p in
-    cc (back32 (p .current) (omega arith), back32 (p .original) (omega arith), back32 (c .wrapping-sub .result) (c .wrapping-sub .ok))
+    back32 (c .wrapping-sub .result) (c .wrapping-sub .ok) ∙ c .wrapping-sub .ensures
+    ∙ ap₂ sub32 (back32 (p .current) (c .before .before .struct-told .given .1 .1 .0 .1)) (back32 (p .original) (c .before .struct-told2 .given .1 .0 .1))
 
 pub displacement-spec : {M : Type 1} → statement M
 displacement-spec = tie.close (tie.spec wrapping-sub-requires returns)

@@ -1,7 +1,6 @@
 -- `iup::higher` meets its contract: by the order of the unscaled coordinates. Assumes nothing.
-use mathlib.Core.Path.{_≡_}
+use mathlib.Core.Path.{_≡_, sym, ap₂, _∙_}
 use mathlib.Core.Bool.{true, false}
-use native.Mathlib.Omega.{arith}
 use borrow.Author.Needs.{needs}
 use lib.Signed.{leZ}
 use Rattle.int.proofs.Words.{back32}
@@ -12,13 +11,13 @@ at-most-requires : tie.Need-at-most-requires
 at-most-requires c κs = search needs
 
 returns : tie.Need-returns
-returns c = let a = c .before .before .before .before .args .a in let b = c .before .before .before .before .args .b in
-    let t : leZ (a .unscaled) (b .unscaled) ≡ true = cc (back32 (a .unscaled) (omega arith), back32 (b .unscaled) (omega arith)) in
+returns c = let p = c .before .before .before .before .args .a in let q = c .before .before .before .before .args .b in
+    let t : leZ (p .unscaled) (q .unscaled) ≡ true = sym (ap₂ leZ (back32 (p .unscaled) (c .before .before .before .struct-told .given .0 .1)) (back32 (q .unscaled) (c .before .before .struct-told2 .given .0 .1))) ∙ sym (c .before .at-most .ensures) ∙ c .if1 .taken in
     rw t
 
 returns-2 : tie.Need-returns-2
-returns-2 c = let a = c .before .before .before .before .args .a in let b = c .before .before .before .before .args .b in
-    let t : leZ (a .unscaled) (b .unscaled) ≡ false = cc (back32 (a .unscaled) (omega arith), back32 (b .unscaled) (omega arith)) in
+returns-2 c = let p = c .before .before .before .before .args .a in let q = c .before .before .before .before .args .b in
+    let t : leZ (p .unscaled) (q .unscaled) ≡ false = sym (ap₂ leZ (back32 (p .unscaled) (c .before .before .before .struct-told .given .0 .1)) (back32 (q .unscaled) (c .before .before .struct-told2 .given .0 .1))) ∙ sym (c .before .at-most .ensures) ∙ c .if1 .left in
     rw t
 
 pub higher-spec : {M : Type 1} → statement M

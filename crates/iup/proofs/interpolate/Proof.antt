@@ -1,6 +1,6 @@
 -- `iup::interpolate` meets its contract. The invariant: the points below i are in their places, and the others as they were (`Filling`).
 -- Assumes nothing.
-use mathlib.Core.Path.{sym, ap, _∙_}
+use mathlib.Core.Path.{sym, ap, ap₂, _∙_}
 use Prim.Native.Nat.{_-_}
 use native.Mathlib.Omega.{arith}
 use borrow.Author.Needs.{needs}
@@ -57,17 +57,12 @@ loop-less : tie.Need-loop-less Inv-loop μ-loop
 loop-less c = simp length-set (omega arith)
 
 loop-again : tie.Need-loop-again Inv-loop μ-loop
-loop-again c = let s = c .before .before .before .before .before in let a = s .args in
-    let v = c .before .before .before .before .loop in let i = v .i in
+loop-again c = let s = c .before .before .before .before .before in let a = s .args in let v = c .before .before .before .before .loop in let i = v .i in
     let us = now (a .unscaled) in let os = now (a .original) in
     turn (v .inv) (c .before .before .before .loop-test .taken)
-    (back32 (c .moved .result) (c .moved .ok)
-    ∙ cc (
-      c .moved .ensures,
-      back32 (getD us i (pos 0)) (c .before .before .moved-arg .given),
-      back32 (getD os i (pos 0)) (c .before .moved-arg2 .given),
-      getD-both (movedBy (a .low) (a .high) (a .flat) (toZ w32 (ofZ w32 (a .scale)))) us os i (omega (arith, s .pre .0, v .inv .size)) (omega (arith, s .pre .1, v .inv .size)),
-    ))
+    (back32 (c .moved .result) (c .moved .ok) ∙ c .moved .ensures
+    ∙ ap₂ (movedBy (a .low) (a .high) (a .flat) (toZ w32 (ofZ w32 (a .scale)))) (back32 (getD us i (pos 0)) (c .before .before .moved-arg .given)) (back32 (getD os i (pos 0)) (c .before .moved-arg2 .given))
+    ∙ sym (getD-both (movedBy (a .low) (a .high) (a .flat) (toZ w32 (ofZ w32 (a .scale)))) us os i (omega (arith, s .pre .0, v .inv .size)) (omega (arith, s .pre .1, v .inv .size))))
 
 same-length : tie.Need-same-length Inv-loop μ-loop
 same-length c = c .before .loop .inv .size

@@ -5,6 +5,7 @@ use lib.IntN.{pos}
 use lib.ListN.{length, getD}
 use denote.Ref.{now}
 use Rattle.int.proofs.Words.{back32}
+use Rattle.iup.proofs.Turn.{same-place}
 use Rattle.iup.specs.Parts.{placeAt}
 use Rattle.iup.proofs.place_at.Statement.{statement}
 use Rattle.iup.proofs.place_at.Tie as tie
@@ -29,13 +30,12 @@ shared-slice-copy-out-t17 c = search needs
 
 returns : tie.Need-returns
 unfolding placeAt
-returns c = let s = c .before .before .before .before in let a = s .args in
+returns c = let a = c .before .before .before .before .args in
     rw (lt-ltb (a .at) (length (now (a .current))) (c .before .before .before .if1 .taken))
-    (cc (
-      back32 (getD (now (a .unscaled)) (a .at) (pos 0)) (c .before .before .t11 .given),
-      back32 (getD (now (a .original)) (a .at) (pos 0)) (c .before .t14 .given),
-      back32 (getD (now (a .current)) (a .at) (pos 0)) (c .t17 .given),
-    ))
+    (same-place (record { unscaled = getD (now (a .unscaled)) (a .at) (pos 0); original = getD (now (a .original)) (a .at) (pos 0); current = getD (now (a .current)) (a .at) (pos 0) })
+    (back32 (getD (now (a .unscaled)) (a .at) (pos 0)) (c .before .before .t11 .given))
+    (back32 (getD (now (a .original)) (a .at) (pos 0)) (c .before .t14 .given))
+    (back32 (getD (now (a .current)) (a .at) (pos 0)) (c .t17 .given)))
 
 returns-2 : tie.Need-returns-2
 unfolding placeAt

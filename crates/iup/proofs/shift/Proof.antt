@@ -1,5 +1,5 @@
 -- `iup::shift` meets its contract. The invariant: the points below i are shifted, and the others as they were (`Filling`). Assumes nothing.
-use mathlib.Core.Path.{ap, _∙_}
+use mathlib.Core.Path.{sym, ap, _∙_}
 use mathlib.Core.List.{map}
 use Prim.Native.Nat.{_-_}
 use native.Mathlib.Omega.{arith}
@@ -49,17 +49,12 @@ loop-less : tie.Need-loop-less Inv-loop μ-loop
 loop-less c = simp length-set (omega arith)
 
 loop-again : tie.Need-loop-again Inv-loop μ-loop
-loop-again c = let s = c .before .before .before .before in let a = s .args in
-    let v = c .before .before .before .loop in let i = v .i in let l = now (a .part) in
+loop-again c = let s = c .before .before .before .before in let a = s .args in let v = c .before .before .before .loop in let i = v .i in
     let f : ℤ → ℤ = λ x. add32 x (toZ w32 (ofZ w32 (a .delta))) in
     turn (v .inv) (c .before .before .loop-test .taken)
-    (back32 (c .wrapping-add .result) (c .wrapping-add .ok)
-    ∙ cc (
-      c .wrapping-add .ensures,
-      back32 (getD (v .part) i (pos 0)) (c .before .wrapping-add-arg .given),
-      reads (v .inv),
-      getD-map f l i (pos 0) (pos 0) (omega (arith, v .inv .size)),
-    ))
+    (back32 (c .wrapping-add .result) (c .wrapping-add .ok) ∙ c .wrapping-add .ensures
+    ∙ ap f (back32 (getD (v .part) i (pos 0)) (c .before .wrapping-add-arg .given) ∙ reads (v .inv))
+    ∙ sym (getD-map f (now (a .part)) i (pos 0) (pos 0) (omega (arith, v .inv .size))))
 
 same-length : tie.Need-same-length Inv-loop μ-loop
 same-length c = c .before .loop .inv .size

@@ -1,10 +1,11 @@
 -- `iup::slope` meets its contract: by whether the references are level. Assumes nothing.
-use mathlib.Core.Path.{_≡_}
+use mathlib.Core.Path.{_≡_, sym, ap₂, _∙_}
 use mathlib.Core.Bool.{true, false}
-use native.Mathlib.Omega.{arith}
 use borrow.Author.Needs.{needs}
 use Rattle.int.proofs.Words.{back32}
+use Rattle.int.specs.Word.{sub32}
 use Rattle.iup.specs.Parts.{level}
+use Rattle.math.specs.Fixed.{divFix}
 use Rattle.iup.proofs.slope.Statement.{statement}
 use Rattle.iup.proofs.slope.Tie as tie
 
@@ -21,24 +22,18 @@ div-requires : tie.Need-div-requires
 div-requires c κs = search needs
 
 returns : tie.Need-returns
-returns c = let s = c .before .before in
-    let t : level (s .args .low) (s .args .high) ≡ true = cc in
+returns c = let a = c .before .before .args in
+    let t : level (a .low) (a .high) ≡ true = sym (c .before .level .ensures) ∙ c .if1 .taken in
     rw t
 
 returns-2 : tie.Need-returns-2
-returns-2 c = let s = c .before .before .before .before .before .before .before .before .before in
-    let v = s .args .low in let w = s .args .high in
-    let t : level v w ≡ false = cc in
+returns-2 c = let p = c .before .before .before .before .before .before .before .before .before .args .low in let q = c .before .before .before .before .before .before .before .before .before .args .high in
+    let t : level p q ≡ false = sym (c .before .before .before .before .before .before .before .before .level .ensures) ∙ c .before .before .before .before .before .before .before .if1 .left in
     rw t
-    (cc (
-      back32 (v .current) (omega arith),
-      back32 (w .current) (omega arith),
-      back32 (v .unscaled) (omega arith),
-      back32 (w .unscaled) (omega arith),
-      back32 (c .before .before .before .before .wrapping-sub .result) (c .before .before .before .before .wrapping-sub .ok),
-      back32 (c .before .wrapping-sub2 .result) (c .before .wrapping-sub2 .ok),
-      back32 (c .div .result) (c .div .ok),
-    ))
+    (back32 (c .div .result) (c .div .ok) ∙ c .div .ensures
+    ∙ ap₂ divFix
+    (back32 (c .before .before .before .before .wrapping-sub .result) (c .before .before .before .before .wrapping-sub .ok) ∙ c .before .before .before .before .wrapping-sub .ensures ∙ ap₂ sub32 (back32 (q .current) (c .before .before .before .before .before .before .struct-told .given .1 .1 .0 .1)) (back32 (p .current) (c .before .before .before .before .before .struct-told2 .given .1 .1 .0 .1)))
+    (back32 (c .before .wrapping-sub2 .result) (c .before .wrapping-sub2 .ok) ∙ c .before .wrapping-sub2 .ensures ∙ ap₂ sub32 (back32 (q .unscaled) (c .before .before .before .struct-told3 .given .0 .1)) (back32 (p .unscaled) (c .before .before .struct-told4 .given .0 .1))))
 
 pub slope-spec : {M : Type 1} → statement M
 slope-spec =

@@ -1,0 +1,3 @@
+pub mod Intersection
+pub mod Msirp
+pub mod Places

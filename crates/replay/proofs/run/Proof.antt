@@ -1,0 +1,131 @@
+-- `replay::run` meets its contract: by what the entry tests say; where they are passed, each zone's lists share one length. Assumes nothing.
+use mathlib.Core.Path.{_∙_, ap, refl}
+use lib.Dec.{leb}
+use lib.ListN.{length}
+use borrow.Author.Needs.{needs}
+use denote.Ref.{now}
+use Rattle.lines.specs.World.{Fixed, World, fixed, world}
+use Rattle.replay.specs.declared.Outcome.{Outcome}
+use Rattle.replay.specs.Run.{ran}
+use Rattle.round.specs.Round.{usable}
+use Rattle.graphics.specs.State.{usableState}
+use Rattle.replay.proofs.Loop.{entered, entered-alike, entry-is, not-entered}
+use Rattle.replay.proofs.run.Tie as tie
+use Rattle.replay.proofs.run.Statement.{statement}
+
+abbrev entry : tie.Start → World
+entry s =
+    world (s .args .s) (now (s .args .gx)) (now (s .args .gy)) (now (s .args .gflags)) (now (s .args .tox)) (now (s .args .toy)) (now (s .args .tx)) (now (s .args .ty)) (now (s .args .tflags))
+
+abbrev held : tie.Start → Fixed
+held s = fixed (now (s .args .controls)) (now (s .args .gux)) (now (s .args .guy)) (now (s .args .gox)) (now (s .args .goy)) (now (s .args .contours))
+
+sizes-fit-requires : tie.Need-sizes-fit-requires
+sizes-fit-requires c κs = search needs
+
+is-usable-requires : tie.Need-is-usable-requires
+is-usable-requires c κs = search needs
+
+enter-requires : tie.Need-enter-requires
+enter-requires c κs = search needs
+
+enum-known-begun : tie.Need-enum-known-begun
+enum-known-begun c = search needs
+
+at-entry-requires : tie.Need-at-entry-requires
+at-entry-requires c κs = search needs
+
+enum-told : tie.Need-enum-told
+enum-told c = search needs
+
+replay-requires : tie.Need-replay-requires
+replay-requires c κs = let e = c .before .before .before .before .before .before .before .before in let k = e .before .before in let u = k .before in let z = u .before in let s = z .before .before .before .before .before .before .before .before .before .before .before .before in
+    entered-alike (held s) (now (s .args .sheet)) (entry s) (usableState (s .args .s)) (leb (s .args .start) (length (now (s .args .sheet)))) (entry-is (leb (s .args .start) (length (now (s .args .sheet)))) (k .enter .ensures) (z .sizes-fit .ensures) (u .is-usable .ensures)) (e .enum-told .given .1)
+
+same-length : tie.Need-same-length
+same-length c = refl
+
+same-length-2 : tie.Need-same-length-2
+same-length-2 c = refl
+
+same-length-3 : tie.Need-same-length-3
+same-length-3 c = refl
+
+same-length-4 : tie.Need-same-length-4
+same-length-4 c = refl
+
+same-length-5 : tie.Need-same-length-5
+same-length-5 c = refl
+
+same-length-6 : tie.Need-same-length-6
+same-length-6 c = refl
+
+same-length-7 : tie.Need-same-length-7
+same-length-7 c = refl
+
+same-length-8 : tie.Need-same-length-8
+same-length-8 c = refl
+
+returns : tie.Need-returns
+returns c = let e = c .before .before in let k = e .before .before in let u = k .before in let z = u .before in let s = z .before .before .before .before .before .before .before .before .before .before .before .before in
+    ap (λ (o : Outcome). ran o (now (s .args .gx)) (now (s .args .gy)) (now (s .args .gflags)) (now (s .args .tox)) (now (s .args .toy)) (now (s .args .tx)) (now (s .args .ty)) (now (s .args .tflags))) (c .at-entry .ensures)
+    ∙ not-entered (held s) (now (s .args .sheet)) (s .args .budget) (s .args .start) (entry s) (entry-is (leb (s .args .start) (length (now (s .args .sheet)))) (k .enter .ensures) (z .sizes-fit .ensures) (u .is-usable .ensures)) (e .begun .given .1)
+
+same-length-9 : tie.Need-same-length-9
+same-length-9 c = let k = c .before .before .before .before .before .before .before .before .before .before in k .replay .kept .1 .1 .1 .1 .1 .1 .1 .1 .1 .0
+
+same-length-10 : tie.Need-same-length-10
+same-length-10 c = let k = c .before .before .before .before .before .before .before .before .before .before in k .replay .kept .1 .1 .1 .1 .1 .1 .1 .1 .1 .1 .0
+
+same-length-11 : tie.Need-same-length-11
+same-length-11 c = let k = c .before .before .before .before .before .before .before .before .before .before in k .replay .kept .1 .1 .1 .1 .1 .1 .1 .1 .1 .1 .1 .0
+
+same-length-12 : tie.Need-same-length-12
+same-length-12 c = let k = c .before .before .before .before .before .before .before .before .before .before in k .replay .kept .1 .1 .1 .1 .1 .1 .1 .1 .1 .1 .1 .1 .1 .0
+
+same-length-13 : tie.Need-same-length-13
+same-length-13 c = let k = c .before .before .before .before .before .before .before .before .before .before in k .replay .kept .1 .1 .1 .1 .1 .1 .1 .1 .1 .1 .1 .1 .1 .1 .0
+
+same-length-14 : tie.Need-same-length-14
+same-length-14 c = let k = c .before .before .before .before .before .before .before .before .before .before in k .replay .kept .1 .1 .1 .1 .1 .1 .1 .1 .1 .1 .1 .1 .1 .1 .1 .0
+
+same-length-15 : tie.Need-same-length-15
+same-length-15 c = let k = c .before .before .before .before .before .before .before .before .before .before in k .replay .kept .1 .1 .1 .1 .1 .1 .1 .1 .1 .1 .1 .1 .1 .1 .1 .1 .0
+
+same-length-16 : tie.Need-same-length-16
+same-length-16 c = let k = c .before .before .before .before .before .before .before .before .before .before in k .replay .kept .1 .1 .1 .1 .1 .1 .1 .1 .1 .1 .1 .1 .1 .1 .1 .1 .1 .0
+
+returns-2 : tie.Need-returns-2
+returns-2 c = let r = c .before .before .before .before .before .before .before .before .before .before in let e = r .before .before .before .before .before .before .before .before .before in let k = e .before .before in let u = k .before in let z = u .before in let s = z .before .before .before .before .before .before .before .before .before .before .before .before in
+    r .replay .ensures
+    ∙ entered (held s) (now (s .args .sheet)) (s .args .budget) (s .args .start) (entry s) (entry-is (leb (s .args .start) (length (now (s .args .sheet)))) (k .enter .ensures) (z .sizes-fit .ensures) (u .is-usable .ensures)) (e .enum-told .given .1)
+
+pub run-spec : {M : Type 1} → statement M
+run-spec =
+    tie.close
+    (tie.spec
+    sizes-fit-requires
+    is-usable-requires
+    enter-requires
+    enum-known-begun
+    at-entry-requires
+    enum-told
+    replay-requires
+    same-length
+    same-length-2
+    same-length-3
+    same-length-4
+    same-length-5
+    same-length-6
+    same-length-7
+    same-length-8
+    returns
+    same-length-9
+    same-length-10
+    same-length-11
+    same-length-12
+    same-length-13
+    same-length-14
+    same-length-15
+    same-length-16
+    returns-2)

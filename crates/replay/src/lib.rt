@@ -1,0 +1,342 @@
+// Whole sheets: one line, and a run of lines with a budget. The public face.
+//
+// `run` answers for every input. What it says, the state, and what every list holds afterwards, refused or not, are one equation with `runOf` of
+// specs/Run.antt. The glyph's unscaled and original points, its contours' ends, the control values and the sheet are only read.
+use answer::Call;
+use answer::Refusal;
+use graphics::GraphicsState;
+use limits::control_values_fit;
+use limits::words_fit;
+use line::Stepped;
+use lines::perform;
+use sheet::Decoded;
+use sheet::decode;
+use zone::glyph_fits;
+use zone::twilight_fits;
+ghost use mathlib.Core.Path.{_≡_};
+ghost use Rattle.lines.specs.World.{fixed, world, Alike};
+ghost use Rattle.replay.specs.Run.{entryOf, entryRefused, placeAfter, landed, went, stepOf, ran, replayOf, fits, runOf, numberOfAnswer, detailOfAnswer};
+
+// ---- what a run says
+pub enum Answer {
+    // The place is the sheet's end.
+    Finished,
+    // The budget is used, and words remain.
+    OutOfBudget,
+    Refused(Refusal),
+}
+
+impl Answer {
+    pub fn number(self) -> u32
+        ensures { λ r. ⌜ r ≡ numberOfAnswer self ⌝ }
+    {
+        match self {
+            Answer::Finished => 0,
+            Answer::OutOfBudget => 1,
+            Answer::Refused(why) => why.number(),
+        }
+    }
+
+    pub fn detail(self) -> u64
+        ensures { λ r. ⌜ r ≡ detailOfAnswer self ⌝ }
+    {
+        match self {
+            Answer::Finished => 0,
+            Answer::OutOfBudget => 0,
+            Answer::Refused(why) => why.detail(),
+        }
+    }
+}
+
+// The answer, the place of the refused or next line, the lines finished in this call, and the state.
+pub struct Outcome {
+    pub answer: Answer,
+    pub place: usize,
+    pub lines: u64,
+    pub state: GraphicsState,
+}
+
+// ---- one line
+// What one line comes to. The place is that of the next line, or of this one where it is refused.
+pub struct Landing {
+    pub call: Call,
+    pub place: usize,
+    pub state: GraphicsState,
+}
+
+fn place_after(at: usize, end: usize, call: Call) -> usize
+    ensures { λ r. ⌜ r ≡ placeAfter at end call ⌝ }
+{
+    match call {
+        Call::Done => end,
+        Call::Refused(_) => at,
+    }
+}
+
+fn land(at: usize, end: usize, r: Stepped) -> Landing
+    ensures { λ t. ⌜ t ≡ landed at end r ⌝ }
+{
+    let call = r.call;
+    let state = r.state;
+    let place = place_after(at, end, call);
+    Landing { call, place, state }
+}
+
+// The line at a place of the sheet.
+pub fn step(
+    at: usize,
+    s: GraphicsState,
+    sheet: &[i32],
+    controls: &[i32],
+    gux: &[i32],
+    guy: &[i32],
+    gox: &[i32],
+    goy: &[i32],
+    gx: &mut [i32],
+    gy: &mut [i32],
+    gflags: &mut [u8],
+    contours: &[u16],
+    tox: &mut [i32],
+    toy: &mut [i32],
+    tx: &mut [i32],
+    ty: &mut [i32],
+    tflags: &mut [u8],
+) -> Landing
+    requires { ⌜ Alike (fixed (now controls) (now gux) (now guy) (now gox) (now goy) (now contours)) (world s (now gx) (now gy) (now gflags) (now tox) (now toy) (now tx) (now ty) (now tflags)) ⌝ }
+    ensures { λ r. ⌜ went r (now (gx .exit)) (now (gy .exit)) (now (gflags .exit)) (now (tox .exit)) (now (toy .exit)) (now (tx .exit)) (now (ty .exit)) (now (tflags .exit)) ≡ stepOf (fixed (now (controls .entry)) (now (gux .entry)) (now (guy .entry)) (now (gox .entry)) (now (goy .entry)) (now (contours .entry))) (now (sheet .entry)) at (world s (now (gx .entry)) (now (gy .entry)) (now (gflags .entry)) (now (tox .entry)) (now (toy .entry)) (now (tx .entry)) (now (ty .entry)) (now (tflags .entry))) ⌝ }
+{
+    let line = decode(sheet, s.loop_counter, at);
+    match line {
+        Decoded::Refused(why) => Landing {
+            call: Call::Refused(why),
+            place: at,
+            state: s,
+        },
+        Decoded::Operands { opcode, first, end } => {
+            let r = perform(
+                s,
+                opcode,
+                &sheet[first..end],
+                controls,
+                gux,
+                guy,
+                gox,
+                goy,
+                gx,
+                gy,
+                gflags,
+                contours,
+                tox,
+                toy,
+                tx,
+                ty,
+                tflags,
+            );
+            land(at, end, r)
+        }
+    }
+}
+
+// ---- a run
+// The lines from a place on, as many as the budget says.
+fn replay(
+    start: usize,
+    budget: u64,
+    s: GraphicsState,
+    sheet: &[i32],
+    controls: &[i32],
+    gux: &[i32],
+    guy: &[i32],
+    gox: &[i32],
+    goy: &[i32],
+    gx: &mut [i32],
+    gy: &mut [i32],
+    gflags: &mut [u8],
+    contours: &[u16],
+    tox: &mut [i32],
+    toy: &mut [i32],
+    tx: &mut [i32],
+    ty: &mut [i32],
+    tflags: &mut [u8],
+) -> Outcome
+    requires { ⌜ Alike (fixed (now controls) (now gux) (now guy) (now gox) (now goy) (now contours)) (world s (now gx) (now gy) (now gflags) (now tox) (now toy) (now tx) (now ty) (now tflags)) ⌝ }
+    ensures { λ r. ⌜ ran r (now (gx .exit)) (now (gy .exit)) (now (gflags .exit)) (now (tox .exit)) (now (toy .exit)) (now (tx .exit)) (now (ty .exit)) (now (tflags .exit)) ≡ replayOf (fixed (now (controls .entry)) (now (gux .entry)) (now (guy .entry)) (now (gox .entry)) (now (goy .entry)) (now (contours .entry))) (now (sheet .entry)) budget 0 start (world s (now (gx .entry)) (now (gy .entry)) (now (gflags .entry)) (now (tox .entry)) (now (toy .entry)) (now (tx .entry)) (now (ty .entry)) (now (tflags .entry))) ⌝ }
+{
+    let mut state = s;
+    let mut at = start;
+    let mut left = budget;
+    let mut lines: u64 = 0;
+    while at < sheet.len() {
+        if left == 0 {
+            return Outcome {
+                answer: Answer::OutOfBudget,
+                place: at,
+                lines,
+                state,
+            };
+        }
+        let r = step(
+            at,
+            state,
+            sheet,
+            controls,
+            gux,
+            guy,
+            gox,
+            goy,
+            gx,
+            gy,
+            gflags,
+            contours,
+            tox,
+            toy,
+            tx,
+            ty,
+            tflags,
+        );
+        let call = r.call;
+        let place = r.place;
+        let next = r.state;
+        match call {
+            Call::Refused(why) => {
+                return Outcome {
+                    answer: Answer::Refused(why),
+                    place,
+                    lines,
+                    state: next,
+                };
+            }
+            Call::Done => {
+                state = next;
+                at = place;
+                left -= 1;
+                lines += 1;
+            }
+        }
+    }
+    Outcome {
+        answer: Answer::Finished,
+        place: at,
+        lines,
+        state,
+    }
+}
+
+// The sizes that answer 2 is about.
+fn sizes_fit(
+    sheet: &[i32],
+    controls: &[i32],
+    gux: &[i32],
+    guy: &[i32],
+    gox: &[i32],
+    goy: &[i32],
+    gx: &[i32],
+    gy: &[i32],
+    gflags: &[u8],
+    contours: &[u16],
+    tox: &[i32],
+    toy: &[i32],
+    tx: &[i32],
+    ty: &[i32],
+    tflags: &[u8],
+) -> bool
+    ensures { λ r. ⌜ r ≡ fits (fixed (now (controls .entry)) (now (gux .entry)) (now (guy .entry)) (now (gox .entry)) (now (goy .entry)) (now (contours .entry))) (now (sheet .entry)) (now (gx .entry)) (now (gy .entry)) (now (gflags .entry)) (now (tox .entry)) (now (toy .entry)) (now (tx .entry)) (now (ty .entry)) (now (tflags .entry)) ⌝ }
+{
+    glyph_fits(gux, guy, gox, goy, gx, gy, gflags, contours)
+        & twilight_fits(tox, toy, tx, ty, tflags)
+        & control_values_fit(controls.len())
+        & words_fit(sheet.len())
+}
+
+// The tests before the first line, in their order.
+fn enter(sized: bool, usable: bool, starts: bool) -> Call
+    ensures { λ r. ⌜ r ≡ entryOf sized usable starts ⌝ }
+{
+    if !sized {
+        Call::Refused(Refusal::Sizes)
+    } else if !usable {
+        Call::Refused(Refusal::State)
+    } else if !starts {
+        Call::Refused(Refusal::Line)
+    } else {
+        Call::Done
+    }
+}
+
+// A run that ends at its entry: no line is done.
+fn at_entry(why: Refusal, start: usize, s: GraphicsState) -> Outcome
+    ensures { λ r. ⌜ r ≡ entryRefused why start s ⌝ }
+{
+    Outcome {
+        answer: Answer::Refused(why),
+        place: start,
+        lines: 0,
+        state: s,
+    }
+}
+
+// A run from a place of the sheet: sizes (2), state (3) and place (4) are tested before the first line.
+pub fn run(
+    start: usize,
+    budget: u64,
+    s: GraphicsState,
+    sheet: &[i32],
+    controls: &[i32],
+    gux: &[i32],
+    guy: &[i32],
+    gox: &[i32],
+    goy: &[i32],
+    gx: &mut [i32],
+    gy: &mut [i32],
+    gflags: &mut [u8],
+    contours: &[u16],
+    tox: &mut [i32],
+    toy: &mut [i32],
+    tx: &mut [i32],
+    ty: &mut [i32],
+    tflags: &mut [u8],
+) -> Outcome
+    ensures { λ r. ⌜ ran r (now (gx .exit)) (now (gy .exit)) (now (gflags .exit)) (now (tox .exit)) (now (toy .exit)) (now (tx .exit)) (now (ty .exit)) (now (tflags .exit)) ≡ runOf (fixed (now (controls .entry)) (now (gux .entry)) (now (guy .entry)) (now (gox .entry)) (now (goy .entry)) (now (contours .entry))) (now (sheet .entry)) budget start (world s (now (gx .entry)) (now (gy .entry)) (now (gflags .entry)) (now (tox .entry)) (now (toy .entry)) (now (tx .entry)) (now (ty .entry)) (now (tflags .entry))) ⌝ }
+{
+    let sized = sizes_fit(
+        sheet,
+        controls,
+        gux,
+        guy,
+        gox,
+        goy,
+        gx,
+        gy,
+        gflags,
+        contours,
+        tox,
+        toy,
+        tx,
+        ty,
+        tflags,
+    );
+    let begun = enter(sized, s.is_usable(), start <= sheet.len());
+    match begun {
+        Call::Refused(why) => at_entry(why, start, s),
+        Call::Done => replay(
+            start,
+            budget,
+            s,
+            sheet,
+            controls,
+            gux,
+            guy,
+            gox,
+            goy,
+            gx,
+            gy,
+            gflags,
+            contours,
+            tox,
+            toy,
+            tx,
+            ty,
+            tflags,
+        ),
+    }
+}
