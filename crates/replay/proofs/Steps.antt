@@ -16,7 +16,6 @@ use Rattle.answer.specs.declared.Refusal.{Refusal}
 use Rattle.answer.specs.declared.Refusal.the-variants.{Line, Surplus}
 use Rattle.answer.specs.declared.Call.the-variants.{Refused as RefusedCall}
 use Rattle.line.specs.declared.Stepped.{Stepped}
-
 use Rattle.sheet.specs.Table.{decodeBy, decodeOf, needOf, takesBy, unknown}
 use Rattle.int.specs.Word.{indexOf}
 use Rattle.replay.specs.Run.{landed, landedIn, onDecoded, placeAfter, stepOf, went}

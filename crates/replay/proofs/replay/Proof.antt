@@ -19,7 +19,7 @@ pub record Inv (f : Fixed) (sheet : List ℤ) (budget start : ℕ) (w₀ : World
   pub sum : lines + left ≡ budget
 
 abbrev Inv-loop : tie.InvT-loop
-Inv-loop start budget sheet controls gux guy gox goy gx₀ gy₀ gflags₀ contours tox₀ toy₀ tx₀ ty₀ tflags₀ state₀ at₀ left₀ lines₀ gx gy gflags tox toy tx ty tflags state at left lines = 
+Inv-loop start budget sheet controls gux guy gox goy gx₀ gy₀ gflags₀ contours tox₀ toy₀ tx₀ ty₀ tflags₀ state₀ at₀ left₀ lines₀ gx gy gflags tox toy tx ty tflags state at left lines =
     Inv (fixed controls gux guy gox goy contours) sheet budget start (world state₀ gx₀ gy₀ gflags₀ tox₀ toy₀ tx₀ ty₀ tflags₀) left lines at (world state gx gy gflags tox toy tx ty tflags)
 
 abbrev μ-loop : tie.MeasureT-loop
@@ -118,7 +118,7 @@ loop-again c = let k = c .before .before .before .before .before .before .before
     record {
       run = goes-on (held s) (now (s .args .sheet)) _ _ _ (head l) _ (k .step .ensures) (t .loop-test .taken) (i .if1 .left) (c .enum-told .given .1) ∙ l .loop .inv .run;
       same = same-sizes (k .step .kept .1 .1 .1 .1 .1 .1 .1 .1 .0) (k .step .kept .1 .1 .1 .1 .1 .1 .1 .1 .1 .0) (k .step .kept .1 .1 .1 .1 .1 .1 .1 .1 .1 .1 .0) (k .step .kept .1 .1 .1 .1 .1 .1 .1 .1 .1 .1 .1 .1 .0) (k .step .kept .1 .1 .1 .1 .1 .1 .1 .1 .1 .1 .1 .1 .1 .0) (k .step .kept .1 .1 .1 .1 .1 .1 .1 .1 .1 .1 .1 .1 .1 .1 .0) (k .step .kept .1 .1 .1 .1 .1 .1 .1 .1 .1 .1 .1 .1 .1 .1 .1 .0) (k .step .kept .1 .1 .1 .1 .1 .1 .1 .1 .1 .1 .1 .1 .1 .1 .1 .1 .0) ∙ l .loop .inv .same;
-      sum = omega (arith, i .if1 .left, l .loop .inv .sum)
+      sum = omega (arith, i .if1 .left, l .loop .inv .sum);
     }
 
 same-length-17 : tie.Need-same-length-17 Inv-loop μ-loop
