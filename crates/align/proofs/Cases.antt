@@ -3,7 +3,8 @@ use mathlib.Core.Path.{_≡_, sym, ap, _∙_}
 use mathlib.Core.List.{List}
 use Prim.Native.Nat.{ℕ}
 use lib.IntN.{ℤ}
-use Rattle.align.specs.Align.{fetchIn, alignFrom, aligningOf, alignBy, alignAt}
+use Rattle.places.specs.Places.{fetchIn}
+use Rattle.align.specs.Align.{alignFrom, aligningOf, alignBy, alignAt}
 use Rattle.align.specs.declared.Aligning.{Aligning}
 use Rattle.graphics.specs.declared.GraphicsState.{GraphicsState}
 use Rattle.int.specs.Word.{neg32}

@@ -9,26 +9,20 @@ use Rattle.answer.specs.declared.Call.the-variants.{Refused}
 use Rattle.int.specs.Word.{neg32}
 use Rattle.graphics.specs.declared.GraphicsState.{GraphicsState}
 use Rattle.graphics.specs.declared.Vector.{Vector}
-use Rattle.graphics.specs.declared.ZonePointer.{ZonePointer}
-use Rattle.graphics.specs.declared.ZonePointer.the-variants.{Twilight, Glyph}
 use Rattle.projection.specs.Projection.{projectOf}
-use Rattle.zone.specs.Zone.{fetchOf}
-use Rattle.zone.specs.declared.Fetched.{Fetched}
 use Rattle.zone.specs.declared.Fetched.the-variants.{At}
 use Rattle.zone.specs.declared.Fetched.the-variants.{Refused as RefusedPlace}
+use Rattle.zone.specs.declared.Fetched.{Fetched}
 use Rattle.moves.specs.Apply.{BothMoved, applyIn}
 use Rattle.moves.specs.Move.{moveOf}
+use Rattle.places.specs.Places.{fetchIn}
 use Rattle.looped.specs.Each.{Ended, ended, each}
 use Rattle.looped.specs.Looped.{Went, resetAfter, Zones, zones}
-use Rattle.align.specs.declared.Aligning.{Aligning}
 use Rattle.align.specs.declared.Aligning.the-variants.{Along}
 use Rattle.align.specs.declared.Aligning.the-variants.{Refused as RefusedAligning}
+use Rattle.align.specs.declared.Aligning.{Aligning}
 
 -- ---- the move
-unfoldable pub fetchIn : ℕ → List ℤ → List ℤ → List ℤ → List ℤ → ZonePointer → Fetched
-fetchIn at gx gy tx ty Glyph = fetchOf gx gy at
-fetchIn at gx gy tx ty Twilight = fetchOf tx ty at
-
 abbrev pub alignTo : GraphicsState → Vector → Fetched → Aligning
 alignTo s point (At reference) = Along (moveOf (s .vectors) (s .facts) (neg32 (projectOf (s .vectors) point reference)))
 alignTo s point (RefusedPlace why) = RefusedAligning why

@@ -8,37 +8,25 @@
 use answer::Call;
 use answer::Refusal;
 use graphics::GraphicsState;
-use graphics::ZonePointer;
 use int::as_index;
 use int::wrapping_neg;
 use line::Stepped;
 use moves::Move;
 use moves::apply_in;
 use moves::move_of;
+use places::fetch_in;
 use projection::project;
 use zone::Fetched;
-use zone::fetch;
 ghost use mathlib.Core.Path.{_≡_};
 ghost use lib.ListN.{length};
 ghost use Rattle.looped.specs.Each.{ended, each};
 ghost use Rattle.looped.specs.Looped.{went, zones};
-ghost use Rattle.align.specs.Align.{fetchIn, aligningOf, alignAt, alignrpOf};
+ghost use Rattle.align.specs.Align.{aligningOf, alignAt, alignrpOf};
 
 // What brings a point into line with rp0.
 pub enum Aligning {
     Along(Move),
     Refused(Refusal),
-}
-
-// A point's place, in the zone that a pointer names.
-fn fetch_in(zone: ZonePointer, at: u64, gx: &[i32], gy: &[i32], tx: &[i32], ty: &[i32]) -> Fetched
-    requires { ⌜ (length (now gy) ≡ length (now gx)) × (length (now ty) ≡ length (now tx)) ⌝ }
-    ensures { λ r. ⌜ r ≡ fetchIn at (now (gx .entry)) (now (gy .entry)) (now (tx .entry)) (now (ty .entry)) zone ⌝ }
-{
-    match zone {
-        ZonePointer::Glyph => fetch(gx, gy, at),
-        ZonePointer::Twilight => fetch(tx, ty, at),
-    }
 }
 
 // The point is read first, then rp0.

@@ -7,10 +7,10 @@ use Prim.Native.Nat.{ℕ}
 use lib.IntN.{ℤ}
 use Rattle.graphics.specs.State.{markedX, markedY, pastBothIups, withFacts}
 use Rattle.graphics.specs.declared.GraphicsState.{GraphicsState}
-use Rattle.interpolate.specs.Interpolated.{markedFor, axisDone, iupOn, Interpolated, interpolated, onX, onY, walkedBy, iupBy}
 use Rattle.line.specs.Line.{doneWith}
 use Rattle.line.specs.declared.Stepped.{Stepped}
-use Rattle.outline.specs.Lines.{isOdd}
+use Rattle.places.specs.Lines.{isOdd}
+use Rattle.interpolate.specs.Interpolated.{markedFor, axisDone, iupOn, Interpolated, interpolated, onX, onY, walkedBy, iupBy}
 
 -- ---- the mark
 module _ (s : GraphicsState) (opcode : ℕ) where

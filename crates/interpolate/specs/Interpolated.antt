@@ -9,7 +9,7 @@ use Rattle.graphics.specs.declared.GraphicsState.{GraphicsState}
 use Rattle.iup.specs.Iup.{Went, iupOf}
 use Rattle.line.specs.Line.{doneWith}
 use Rattle.line.specs.declared.Stepped.{Stepped}
-use Rattle.outline.specs.Lines.{isOdd}
+use Rattle.places.specs.Lines.{isOdd}
 
 -- the mark of the opcode's axis, set under backward compatibility alone
 unfoldable pub markedFor : GraphicsState → ℕ → GraphicsState

@@ -7,7 +7,7 @@ use graphics::GraphicsState;
 use iup::iup;
 use line::Stepped;
 use line::done;
-use outline::is_odd;
+use places::is_odd;
 ghost use mathlib.Core.Path.{_≡_};
 ghost use lib.ListN.{length};
 ghost use Rattle.interpolate.specs.Interpolated.{markedFor, axisDone, iupOn, interpolated, iupBy};

@@ -7,11 +7,13 @@ use Rattle.lines.specs.declared.Instruction.the-variants.{Alignrp, Flipp
 use Rattle.lines.specs.World.{Fixed, World, lined}
 use Rattle.line.specs.declared.Stepped.{Stepped}
 use Rattle.align.specs.Align.{alignrpOf}
-use Rattle.outline.specs.Absolute.{allPlaced, bothPlaced, mdapOf, miapOf}
+use Rattle.places.specs.Placed.{allPlaced, bothPlaced}
 use Rattle.looped.specs.Looped.{flipptOf, shpOf, went, zones}
 use Rattle.lines.specs.Dispatch.{instructionOf, intoAll, intoAxes, intoFlags, intoPlaces, intoState, intoZones, lineBy, lineOf, zonesOf}
 use Rattle.interpolate.specs.Interpolated.{interpolated, iupBy}
-use Rattle.relative.specs.Intersection.{isectOf}
+use Rattle.intersect.specs.Intersection.{isectOf}
+use Rattle.outline.specs.Absolute.{mdapOf}
+use Rattle.miap.specs.Miap.{miapOf}
 use Rattle.relative.specs.Msirp.{msirpOf}
 use Rattle.sheet.specs.Setters.{setBy}
 

@@ -9,9 +9,11 @@ use Rattle.line.specs.declared.Stepped.{Stepped}
 use Rattle.sheet.specs.Setters.{setBy}
 use Rattle.looped.specs.Looped.{Went, Zones, zones, flipptOf, shpOf}
 use Rattle.align.specs.Align.{alignrpOf}
-use Rattle.outline.specs.Absolute.{BothPlaced, AllPlaced, mdapOf, miapOf}
+use Rattle.places.specs.Placed.{BothPlaced, AllPlaced}
+use Rattle.outline.specs.Absolute.{mdapOf}
+use Rattle.miap.specs.Miap.{miapOf}
 use Rattle.relative.specs.Msirp.{msirpOf}
-use Rattle.relative.specs.Intersection.{isectOf}
+use Rattle.intersect.specs.Intersection.{isectOf}
 use Rattle.interpolate.specs.Interpolated.{Interpolated, iupBy}
 use Rattle.lines.specs.declared.Instruction.{Instruction}
 use Rattle.lines.specs.declared.Instruction.the-variants.{Set, Isect, Mdap, Iup, Shp, Msirp, Alignrp, Miap, Flippt}

@@ -6,12 +6,12 @@
 use align::alignrp;
 use graphics::GraphicsState;
 use interpolate::dispatch_iup;
+use intersect::isect;
 use line::Stepped;
 use looped::flippt;
 use looped::shp;
+use miap::miap;
 use outline::mdap;
-use outline::miap;
-use relative::isect;
 use relative::msirp;
 use sheet::set_state;
 ghost use mathlib.Core.Path.{_≡_};

@@ -1,3 +1,2 @@
 pub mod Absolute
-pub mod Lines
 pub mod Numbers

@@ -1,18 +1,16 @@
--- The distances of MDAP and MIAP: the OpenType instructions MDAP and MIAP, and FreeType 2.13.3, ttinterp.c (Ins_MDAP, Ins_MIAP), on words that
--- wrap. The native ClearType fact is docs/src's: under it an odd line doesn't round, and MIAP's cut-in is a sixteenth. Assumes nothing.
-use Prim.Native.Nat.{ℕ, _^_}
-use mathlib.Core.Bool.{Bool, not, cond, _&&_}
-use lib.IntN.{ℤ, pos}
-use lib.Signed.{ltZ, shrZ}
-use Rattle.int.specs.Word.{sub32, abs32}
-use Rattle.math.specs.Fixed.{mulFix14}
+-- The distances of MDAP: the OpenType instruction of this name, and FreeType 2.13.3, ttinterp.c (Ins_MDAP), on words that wrap. The native
+-- ClearType fact is docs/src's: under it an odd line doesn't round. Assumes nothing.
+use mathlib.Core.Bool.{_&&_, cond, not}
+use lib.IntN.{pos, ℤ}
+use Prim.Native.Nat.{ℕ}
+use Rattle.int.specs.Word.{sub32}
 use Rattle.round.specs.Round.{roundOf}
 use Rattle.round.specs.declared.RoundState.{RoundState}
+use Rattle.graphics.specs.declared.GraphicsState.{GraphicsState}
 use Rattle.graphics.specs.declared.Vector.{Vector}
 use Rattle.graphics.specs.declared.Vectors.{Vectors}
-use Rattle.graphics.specs.declared.GraphicsState.{GraphicsState}
 use Rattle.projection.specs.Projection.{projectOf}
-use Rattle.outline.specs.Lines.{isOdd}
+use Rattle.places.specs.Lines.{isOdd}
 
 abbrev pub origin : Vector
 origin = record { x = pos 0; y = pos 0 }
@@ -21,7 +19,6 @@ origin = record { x = pos 0; y = pos 0 }
 unfoldable pub fromOrigin : Vectors → Vector → ℤ
 fromOrigin v place = projectOf v place origin
 
--- ---- MDAP
 -- from a distance to where the round state puts it
 unfoldable pub roundingStep : RoundState → ℤ → ℤ
 roundingStep round d = sub32 (roundOf round d) d
@@ -30,27 +27,3 @@ roundingStep round d = sub32 (roundOf round d) d
 unfoldable pub mdapDistance : GraphicsState → ℕ → Vector → ℤ
 mdapDistance s opcode place =
     cond (isOdd opcode && not (s .facts .«native_clear_type_x»)) (roundingStep (s .round) (fromOrigin (s .vectors) place)) (pos 0)
-
--- ---- MIAP
--- the cut-in, a sixteenth under native ClearType: rounded down
-unfoldable pub cutInOf : Bool → ℤ → ℤ
-cutInOf native cutIn = cond native (shrZ cutIn (2 ^ 4)) cutIn
-
--- the point's own distance where the control value lies further away than the cut-in; the absolute value of -2 ^ 31 stays below every cut-in
-unfoldable pub chosenOf : ℤ → ℤ → ℤ → ℤ
-chosenOf cutIn control own = cond (ltZ cutIn (abs32 (sub32 control own))) own control
-
-unfoldable pub roundedOf : Bool → RoundState → ℤ → ℤ
-roundedOf native round d = cond native d (roundOf round d)
-
--- where an odd line takes the point
-abbrev pub roundedTarget : GraphicsState → ℤ → ℤ → ℤ
-roundedTarget s control own =
-    roundedOf (s .facts .«native_clear_type_x») (s .round) (chosenOf (cutInOf (s .facts .«native_clear_type_x») (s .«cut_in»)) control own)
-
-unfoldable pub miapDistance : GraphicsState → ℕ → ℤ → ℤ → ℤ
-miapDistance s opcode control own = cond (isOdd opcode) (sub32 (roundedTarget s control own) own) (sub32 control own)
-
--- a twilight point is made by the control value, along the freedom vector
-unfoldable pub controlPlace : Vector → ℤ → Vector
-controlPlace freedom control = record { x = mulFix14 control (freedom .x); y = mulFix14 control (freedom .y) }

@@ -1,39 +1,32 @@
 -- What each definition says in each of its cases, over plain lists: the functions' proofs cite these, and each is a chain of what the calls
 -- ensure, or a test rewritten. Assumes nothing.
-use mathlib.Core.Path.{_≡_, sym, ap, _∙_}
-use mathlib.Core.Bool.{Bool, true, false, cond}
+use mathlib.Core.Bool.{Bool, cond, false, true}
 use mathlib.Core.List.{List}
-use Prim.Native.Nat.{ℕ, _≤_, _<_}
-use borrow.Author.Tests.{lt-ltb, le-ltb}
-use lib.IntN.{ℤ, pos}
-use lib.ListN.{length, getD}
-use Rattle.answer.specs.declared.Call.{Call}
+use Prim.Native.Nat.{_<_, _≤_, ℕ}
+use mathlib.Core.Path.{_∙_, _≡_, ap, sym}
+use lib.ListN.{getD, length}
+use borrow.Author.Tests.{le-ltb, lt-ltb}
+use lib.IntN.{pos, ℤ}
 use Rattle.answer.specs.declared.Call.the-variants.{Done, Refused}
-use Rattle.answer.specs.declared.Refusal.{Refusal}
+use Rattle.answer.specs.declared.Call.{Call}
 use Rattle.answer.specs.declared.Refusal.the-variants.{Missing, Point}
+use Rattle.answer.specs.declared.Refusal.{Refusal}
 use Rattle.graphics.specs.State.{rp0At, rp1At, rp2At, withReferences}
 use Rattle.graphics.specs.declared.GraphicsState.{GraphicsState}
 use Rattle.graphics.specs.declared.Vector.{Vector}
 use Rattle.graphics.specs.declared.Vectors.{Vectors}
-use Rattle.graphics.specs.declared.ZonePointer.{ZonePointer}
-use Rattle.graphics.specs.declared.ZonePointers.{ZonePointers}
+use Rattle.zone.specs.Zone.{placeOf}
+use Rattle.moves.specs.Apply.{applyOf, moved}
+use Rattle.moves.specs.Move.{moveOf, movedAt, originalMoveOf}
+use Rattle.moves.specs.declared.Move.{Move}
 use Rattle.line.specs.Line.{doneWith, refusedWith}
 use Rattle.line.specs.declared.Stepped.{Stepped}
-use Rattle.moves.specs.Apply.{moved, applyOf}
-use Rattle.moves.specs.Move.{moveOf, originalMoveOf, movedAt}
-use Rattle.moves.specs.declared.Move.{Move}
-use Rattle.outline.specs.Absolute.{Placed, placed, BothPlaced, bothPlaced, twilightPlaced, AllPlaced, allPlaced}
-use Rattle.outline.specs.Lines.{isOdd, indexAt, pair, putAt}
-use Rattle.relative.specs.Intersection.{lineFrom, endsIn, meetingFrom, meetingOf, touchedPair, putTouched, putIn, isectFrom, isectOf}
-use Rattle.relative.specs.Msirp.{bothThere, reachOf, passedOver, made, withOriginalPair, movedPair, copiedFrom, madeTwilight, msirpDistance, rp1AndRp2, referencesAfter, msirpSettled, msirpSettledOn, msirpAt, msirpGlyph, withMade, msirpMade, msirpTwilight, msirpIn, msirpFrom, msirpOf}
-use Rattle.relative.specs.Places.{placeIn, fetchIn}
-use Rattle.relative.specs.declared.Drawn.{Drawn}
-use Rattle.zone.specs.Zone.{placeOf, orAt}
-use Rattle.zone.specs.declared.Fetched.{Fetched}
-use Rattle.zone.specs.declared.Fetched.the-variants.{At}
-use Rattle.zone.specs.declared.Fetched.the-variants.{Refused as RefusedPlace}
+use Rattle.places.specs.Lines.{indexAt, isOdd, pair, putAt}
+use Rattle.places.specs.Placed.{AllPlaced, Placed, allPlaced, placed, twilightPlaced}
+use Rattle.places.specs.Places.{placeIn}
+use Rattle.relative.specs.Msirp.{bothThere, copiedFrom, made, madeTwilight, movedPair, msirpAt, msirpDistance, msirpFrom, msirpGlyph, msirpIn, msirpMade, msirpOf, msirpSettled, msirpSettledOn, msirpTwilight, passedOver, reachOf, referencesAfter, rp1AndRp2, withMade, withOriginalPair}
 
--- ---- MSIRP: whether its points are there
+-- ---- whether its points are there
 module _ (first firsts second seconds : ℕ) where
   pub first-out : firsts ≤ first → Refused (Point first) ≡ bothThere first firsts second seconds
   unfolding bothThere
@@ -56,7 +49,7 @@ module _ (s : GraphicsState) (why : Refusal) {r : Stepped} where
   unfolding passedOver
   over-lenient e q = q ∙ sym (ap (λ (b : Bool). cond b (refusedWith s why) (doneWith s)) e)
 
--- ---- MSIRP: the references
+-- ---- the references
 module _ (s : GraphicsState) (opcode at : ℕ) where
   abbrev byOdd : Bool → GraphicsState
   byOdd b = cond b (withReferences s (rp0At (rp1AndRp2 s at) at)) (withReferences s (rp1AndRp2 s at))
@@ -72,7 +65,7 @@ module _ (s : GraphicsState) (opcode at : ℕ) where
   unfolding referencesAfter
   after-even o b e f = f ∙ ap (λ (t : GraphicsState). withReferences t (rp2At (t .references) at)) e ∙ sym (ap byOdd (sym o ∙ b))
 
--- ---- MSIRP: the twilight rule
+-- ---- the twilight rule
 pub made-by : (v : Vectors) (distance : ℤ) (at : ℕ) (ox oy xs ys : List ℤ) {read dx dy : ℤ} {m : Move} {ox2 oy2 xs2 ys2 : List ℤ} {place : Vector} → read ≡ distance → m ≡ originalMoveOf v read → dx ≡ m .dx → dy ≡ m .dy → ox2 ≡ movedAt ox at dx (m .«moves_x») → oy2 ≡ movedAt oy at dy (m .«moves_y») → place ≡ placeOf ox2 oy2 at → pair xs2 ys2 ≡ putAt place at xs ys → made ox2 oy2 xs2 ys2 ≡ madeTwilight v distance at ox oy xs ys
 unfolding madeTwilight
 made-by v distance at ox oy xs ys {m = m} {ox2 = ox2} {oy2 = oy2} k q x y e f p g =
@@ -82,7 +75,7 @@ made-by v distance at ox oy xs ys {m = m} {ox2 = ox2} {oy2 = oy2} k q x y e f p 
     ∙ ap (pair (movedAt ox at (m .dx) (m .«moves_x»))) (f ∙ ap (λ (z : ℤ). movedAt oy at z (m .«moves_y»)) y))
     ∙ ap (λ (m : Move). copiedFrom at xs ys (movedPair m at ox oy)) (q ∙ ap (originalMoveOf v) k)
 
--- ---- MSIRP: the move
+-- ---- the move
 module _ (s : GraphicsState) (opcode : ℕ) (distance : ℤ) (at : ℕ) {read : ℤ} where
   pub moved-by : (reference : Vector) (xs ys : List ℤ) (flags : List ℕ) {by : ℤ} {place : Vector} {m : Move} {call : Call} {r : Stepped} {xs2 ys2 : List ℤ} {flags2 : List ℕ} → read ≡ distance → place ≡ placeOf xs ys at → by ≡ msirpDistance (s .vectors) read place reference → m ≡ moveOf (s .vectors) (s .facts) by → moved call xs2 ys2 flags2 ≡ applyOf m at xs ys flags → r ≡ msirpSettled s opcode at call → placed r xs2 ys2 flags2 ≡ msirpAt s opcode distance at reference xs ys flags
   unfolding msirpAt
@@ -109,7 +102,7 @@ module _ (s : GraphicsState) (opcode : ℕ) (distance : ℤ) (at : ℕ) {read : 
       ∙ ap (msirpMade s opcode read at gx gy tflags) e
       ∙ ap (λ (z : ℤ). msirpTwilight s opcode z at gx gy ox oy tx ty tflags) k
 
--- ---- MSIRP: the line
+-- ---- the line
 module _ (s : GraphicsState) (opcode : ℕ) (operands gx gy : List ℤ) (gflags : List ℕ) (ox oy tx ty : List ℤ) (tflags : List ℕ) where
   pub msirp-missing : {r : Stepped} → length operands < 2 → r ≡ refusedWith s Missing → allPlaced r gx gy gflags ox oy tx ty tflags ≡ msirpOf s opcode operands gx gy gflags ox oy tx ty tflags
   unfolding msirpOf
@@ -134,68 +127,3 @@ module _ (s : GraphicsState) (opcode : ℕ) (operands gx gy : List ℤ) (gflags 
         ∙ ap (λ (z : ℤ). msirpIn s opcode z at gx gy gflags ox oy tx ty tflags (s .pointers .zp1)) q
         ∙ ap (λ (n : ℕ). msirpIn s opcode (getD operands 0 (pos 0)) n gx gy gflags ox oy tx ty tflags (s .pointers .zp1)) i
         ∙ ap (msirpFrom s opcode (getD operands 0 (pos 0)) (indexAt operands 1) gx gy gflags ox oy tx ty tflags) (sym k ∙ reached))
-
--- ---- ISECT: a line's two ends
-module _ (from to : ℕ) (gx gy tx ty : List ℤ) (zone : ZonePointer) where
-  pub start-is : {g h : Fetched} → g ≡ fetchIn from gx gy tx ty zone → g ≡ h → lineFrom (fetchIn to gx gy tx ty zone) h ≡ endsIn from to gx gy tx ty zone
-  unfolding endsIn
-  start-is e q = ap (lineFrom (fetchIn to gx gy tx ty zone)) (sym q ∙ e)
-
-  pub ends-are : {g h k l : Fetched} → g ≡ fetchIn from gx gy tx ty zone → g ≡ h → k ≡ fetchIn to gx gy tx ty zone → k ≡ l → lineFrom l h ≡ endsIn from to gx gy tx ty zone
-  ends-are {h = h} e q f r = ap (λ (o : Fetched). lineFrom o h) (sym r ∙ f) ∙ start-is e q
-
--- ---- ISECT: two lines
-module _ (p : ZonePointers) (a0 a1 b0 b1 : ℕ) (gx gy tx ty : List ℤ) where
-  pub one-is : {g h : Drawn} → g ≡ endsIn a0 a1 gx gy tx ty (p .zp1) → g ≡ h → meetingFrom (endsIn b0 b1 gx gy tx ty (p .zp0)) h ≡ meetingOf p a0 a1 b0 b1 gx gy tx ty
-  unfolding meetingOf
-  one-is e q = ap (meetingFrom (endsIn b0 b1 gx gy tx ty (p .zp0))) (sym q ∙ e)
-
-  pub lines-are : {g h k l : Drawn} → g ≡ endsIn a0 a1 gx gy tx ty (p .zp1) → g ≡ h → k ≡ endsIn b0 b1 gx gy tx ty (p .zp0) → k ≡ l → meetingFrom l h ≡ meetingOf p a0 a1 b0 b1 gx gy tx ty
-  lines-are {h = h} e q f r = ap (λ (o : Drawn). meetingFrom o h) (sym r ∙ f) ∙ one-is e q
-
--- ---- ISECT: the point
-module _ (s : GraphicsState) (place : Vector) (at : ℕ) (xs ys : List ℤ) (flags : List ℕ) {r : Stepped} where
-  pub put-out : length xs ≤ at → r ≡ refusedWith s (Point at) → placed r xs ys flags ≡ putTouched s place at xs ys flags
-  unfolding putTouched
-  put-out h e = rw (le-ltb at (length xs) h) (ap (λ (t : Stepped). placed t xs ys flags) e)
-
-  pub put-inside : {xs2 ys2 : List ℤ} {flags2 : List ℕ} → at < length xs → pair xs2 ys2 ≡ putAt place at xs ys → flags2 ≡ orAt flags at 6 → r ≡ doneWith s → placed r xs2 ys2 flags2 ≡ putTouched s place at xs ys flags
-  unfolding putTouched
-  put-inside {xs2 = xs2} {ys2 = ys2} {flags2 = flags2} h e f q =
-      rw (lt-ltb at (length xs) h)
-      (ap (λ (t : Stepped). placed t xs2 ys2 flags2) q
-      ∙ ap (λ (l : List ℕ). touchedPair s l (pair xs2 ys2)) f
-      ∙ ap (touchedPair s (orAt flags at 6)) e)
-
--- ---- ISECT: the line
-module _ (s : GraphicsState) (operands gx gy : List ℤ) (gflags : List ℕ) (tx ty : List ℤ) (tflags : List ℕ) where
-  pub isect-missing : {r : Stepped} → length operands < 5 → r ≡ refusedWith s Missing → bothPlaced r gx gy gflags tx ty tflags ≡ isectOf s operands gx gy gflags tx ty tflags
-  unfolding isectOf
-  isect-missing h e = rw (lt-ltb (length operands) 5 h) (ap (λ (t : Stepped). bothPlaced t gx gy gflags tx ty tflags) e)
-
-  module _ {a0 a1 b0 b1 : ℕ} {g : Fetched} (h : 5 ≤ length operands) (i0 : b1 ≡ indexAt operands 0) (i1 : b0 ≡ indexAt operands 1) (i2 : a1 ≡ indexAt operands 2) (i3 : a0 ≡ indexAt operands 3) (met : g ≡ meetingOf (s .pointers) a0 a1 b0 b1 gx gy tx ty) where
-    abbrev meetingAt : ℕ → ℕ → ℕ → ℕ → Fetched
-    meetingAt a b c d = meetingOf (s .pointers) a b c d gx gy tx ty
-
-    met-there : g ≡ meetingAt (indexAt operands 3) (indexAt operands 2) (indexAt operands 1) (indexAt operands 0)
-    met-there =
-        met
-        ∙ ap (λ (n : ℕ). meetingAt n a1 b0 b1) i3
-        ∙ ap (λ (n : ℕ). meetingAt (indexAt operands 3) n b0 b1) i2
-        ∙ ap (λ (n : ℕ). meetingAt (indexAt operands 3) (indexAt operands 2) n b1) i1
-        ∙ ap (meetingAt (indexAt operands 3) (indexAt operands 2) (indexAt operands 1)) i0
-
-    pub isect-out : {why : Refusal} {r : Stepped} → g ≡ RefusedPlace why → r ≡ refusedWith s why → bothPlaced r gx gy gflags tx ty tflags ≡ isectOf s operands gx gy gflags tx ty tflags
-    unfolding isectOf
-    isect-out k e =
-        rw (le-ltb (length operands) 5 h)
-        (ap (λ (t : Stepped). bothPlaced t gx gy gflags tx ty tflags) e
-        ∙ ap (isectFrom s (indexAt operands 4) gx gy gflags tx ty tflags) (sym k ∙ met-there))
-
-    pub isect-put : {place : Vector} {at : ℕ} {p : BothPlaced} → g ≡ At place → at ≡ indexAt operands 4 → p ≡ putIn s place at gx gy gflags tx ty tflags (s .pointers .zp2) → p ≡ isectOf s operands gx gy gflags tx ty tflags
-    unfolding isectOf
-    isect-put {place = place} k i e =
-        rw (le-ltb (length operands) 5 h)
-        (e
-        ∙ ap (λ (n : ℕ). putIn s place n gx gy gflags tx ty tflags (s .pointers .zp2)) i
-        ∙ ap (isectFrom s (indexAt operands 4) gx gy gflags tx ty tflags) (sym k ∙ met-there))

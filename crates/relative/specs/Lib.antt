@@ -1,3 +1,1 @@
-pub mod Intersection
 pub mod Msirp
-pub mod Places

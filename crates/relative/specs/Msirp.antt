@@ -8,28 +8,28 @@ use mathlib.Core.List.{List}
 use lib.Dec.{ltb}
 use lib.IntN.{ℤ, pos}
 use lib.ListN.{length, getD}
-use Rattle.answer.specs.declared.Call.{Call}
 use Rattle.answer.specs.declared.Call.the-variants.{Done, Refused}
-use Rattle.answer.specs.declared.Refusal.{Refusal}
+use Rattle.answer.specs.declared.Call.{Call}
 use Rattle.answer.specs.declared.Refusal.the-variants.{Missing, Point}
+use Rattle.answer.specs.declared.Refusal.{Refusal}
 use Rattle.int.specs.Word.{sub32}
 use Rattle.graphics.specs.State.{rp0At, rp1At, rp2At, withReferences}
+use Rattle.graphics.specs.declared.GraphicsState.{GraphicsState}
 use Rattle.graphics.specs.declared.References.{References}
 use Rattle.graphics.specs.declared.Vector.{Vector}
 use Rattle.graphics.specs.declared.Vectors.{Vectors}
-use Rattle.graphics.specs.declared.ZonePointer.{ZonePointer}
 use Rattle.graphics.specs.declared.ZonePointer.the-variants.{Twilight, Glyph}
-use Rattle.graphics.specs.declared.GraphicsState.{GraphicsState}
-use Rattle.line.specs.Line.{doneWith, refusedWith}
-use Rattle.line.specs.declared.Stepped.{Stepped}
+use Rattle.graphics.specs.declared.ZonePointer.{ZonePointer}
+use Rattle.projection.specs.Projection.{projectOf}
+use Rattle.zone.specs.Zone.{placeOf}
 use Rattle.moves.specs.Apply.{Moved, applyOf}
 use Rattle.moves.specs.Move.{moveOf, originalMoveOf, movedAt}
 use Rattle.moves.specs.declared.Move.{Move}
-use Rattle.projection.specs.Projection.{projectOf}
-use Rattle.zone.specs.Zone.{placeOf}
-use Rattle.outline.specs.Lines.{isOdd, indexAt, Pair, pair, putAt}
-use Rattle.outline.specs.Absolute.{Placed, placed, TwilightPlaced, twilightPlaced, AllPlaced, allPlaced, allGlyph, allTwilight}
-use Rattle.relative.specs.Places.{placeIn, sizeOf}
+use Rattle.line.specs.Line.{doneWith, refusedWith}
+use Rattle.line.specs.declared.Stepped.{Stepped}
+use Rattle.places.specs.Lines.{isOdd, indexAt, Pair, pair, putAt}
+use Rattle.places.specs.Placed.{Placed, placed, TwilightPlaced, twilightPlaced, AllPlaced, allPlaced, allGlyph, allTwilight}
+use Rattle.places.specs.Places.{placeIn, sizeOf}
 
 -- ---- whether the two points are there
 unfoldable pub bothThere : ℕ → ℕ → ℕ → ℕ → Call

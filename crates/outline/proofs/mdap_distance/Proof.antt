@@ -3,7 +3,7 @@ use mathlib.Core.Path.{_≡_, sym, ap, _∙_}
 use mathlib.Core.Bool.{Bool, true, false, not, _&&_}
 use borrow.Author.Needs.{needs}
 use Rattle.int.proofs.Words.{back32}
-use Rattle.outline.specs.Lines.{isOdd}
+use Rattle.places.specs.Lines.{isOdd}
 use Rattle.outline.specs.Numbers.{mdapDistance}
 use Rattle.outline.proofs.mdap_distance.Statement.{statement}
 use Rattle.outline.proofs.mdap_distance.Tie as tie

@@ -2,7 +2,8 @@
 use mathlib.Core.Path.{sym, ap, _∙_}
 use borrow.Author.Needs.{needs}
 use denote.Ref.{now}
-use Rattle.outline.specs.Absolute.{placedGlyph, placedTwilight, mdapIn}
+use Rattle.places.specs.Placed.{placedGlyph, placedTwilight}
+use Rattle.outline.specs.Absolute.{mdapIn}
 use Rattle.outline.proofs.mdap_in.Statement.{statement}
 use Rattle.outline.proofs.mdap_in.Tie as tie
 

@@ -4,7 +4,7 @@ use borrow.Author.Needs.{needs}
 use lib.IntN.{ℤ}
 use denote.Ref.{now}
 use mir.Facts.{toZ-ofZ}
-use Rattle.outline.specs.Absolute.{allGlyph, allTwilight}
+use Rattle.places.specs.Placed.{allGlyph, allTwilight}
 use Rattle.relative.specs.Msirp.{msirpGlyph, msirpTwilight, msirpIn}
 use Rattle.relative.proofs.msirp_in.Statement.{statement}
 use Rattle.relative.proofs.msirp_in.Tie as tie

@@ -1,0 +1,46 @@
+-- What is seen of a world along one axis: the state, the flags, the coordinates along it, and of the coordinates across it how many there are.
+-- Document 01's demand 3 compares worlds by this. Assumes nothing.
+use mathlib.Core.Path.{_≡_}
+use mathlib.Core.List.{List}
+use lib.IntN.{ℤ, pos}
+use lib.ListN.{length, replicate}
+use Rattle.graphics.specs.State.{xAxis, yAxis, allAlong}
+use Rattle.graphics.specs.declared.GraphicsState.{GraphicsState}
+use Rattle.graphics.specs.declared.Vector.{Vector}
+use Rattle.lines.specs.World.{Fixed, World, fixed, world, Lined}
+use Rattle.axes.specs.declared.Axis.{Axis}
+use Rattle.axes.specs.declared.Axis.the-variants.{X, Y}
+
+abbrev pub unitOf : Axis → Vector
+unitOf X = xAxis
+unitOf Y = yAxis
+
+-- all three vectors lie along the axis
+abbrev pub Straight : Axis → GraphicsState → Type 0
+Straight a s = s .vectors ≡ allAlong (unitOf a)
+
+-- a list of which only the length is left
+abbrev pub leveled : List ℤ → List ℤ
+leveled zs = replicate (length zs) (pos 0)
+
+-- a list of x coordinates, and one of y coordinates
+abbrev pub xSeen : Axis → List ℤ → List ℤ
+xSeen X xs = xs
+xSeen Y xs = leveled xs
+
+abbrev pub ySeen : Axis → List ℤ → List ℤ
+ySeen X ys = leveled ys
+ySeen Y ys = ys
+
+-- what lines only read; the control values are no coordinates of an axis
+abbrev pub fixedSeen : Axis → Fixed → Fixed
+fixedSeen a f = fixed (f .controls) (xSeen a (f .gux)) (ySeen a (f .guy)) (xSeen a (f .gox)) (ySeen a (f .goy)) (f .contours)
+
+-- what lines change
+abbrev pub worldSeen : Axis → World → World
+worldSeen a w =
+    world (w .state) (xSeen a (w .gx)) (ySeen a (w .gy)) (w .gflags) (xSeen a (w .tox)) (ySeen a (w .toy)) (xSeen a (w .tx)) (ySeen a (w .ty))
+    (w .tflags)
+
+abbrev pub linedSeen : Axis → Lined → Lined
+linedSeen a l = record { call = l .call; world = worldSeen a (l .world) }
