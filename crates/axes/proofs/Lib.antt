@@ -1,6 +1,11 @@
 pub mod Align
 pub mod Each
 pub mod Iup
+pub mod Lines
 pub mod Looped
 pub mod Mdap
+pub mod Miap
+pub mod Msirp
 pub mod Seen
+pub mod Straight
+pub mod Vectors

@@ -1,7 +1,10 @@
 -- What is seen of a world along one axis: the state, the flags, the coordinates along it, and of the coordinates across it how many there are.
 -- Document 01's demand 3 compares worlds by this. Assumes nothing.
 use mathlib.Core.Path.{_≡_}
+use mathlib.Core.Bool.{Bool, _||_}
+use Prim.Native.Nat.{ℕ}
 use mathlib.Core.List.{List}
+use lib.Dec.{eqb}
 use lib.IntN.{ℤ, pos}
 use lib.ListN.{length, replicate}
 use Rattle.graphics.specs.State.{xAxis, yAxis, allAlong}
@@ -44,3 +47,18 @@ worldSeen a w =
 
 abbrev pub linedSeen : Axis → Lined → Lined
 linedSeen a l = record { call = l .call; world = worldSeen a (l .world) }
+
+-- ---- the lines that mix the axes
+-- the setters that turn a vector across: SVTCA, SPVTCA and SFVTCA to the other axis
+abbrev pub turnsAcross : Axis → ℕ → Bool
+turnsAcross X op = eqb op 0x00 || eqb op 0x02 || eqb op 0x04
+turnsAcross Y op = eqb op 0x01 || eqb op 0x03 || eqb op 0x05
+
+-- an intersection reads both coordinates
+abbrev pub mixes : Axis → ℕ → Bool
+mixes a op = eqb op 0x0F || turnsAcross a op
+
+-- IUP on the other axis
+abbrev pub interpolatesAcross : Axis → ℕ → Bool
+interpolatesAcross X op = eqb op 0x30
+interpolatesAcross Y op = eqb op 0x31
