@@ -1,0 +1,56 @@
+-- Which lines a run reaches, and when two runs end alike along an axis: document 01, demand 3. Assumes nothing.
+use mathlib.Core.Path.{_≡_}
+use mathlib.Core.Bool.{Bool, true, cond, not, _&&_}
+use mathlib.Core.List.{List, [], _∷_}
+use Prim.Native.Nat.{ℕ, zero, suc}
+use lib.Dec.{ltb, leb}
+use lib.IntN.{ℤ, pos}
+use lib.ListN.{length, getD}
+use Rattle.int.specs.Word.{indexOf}
+use Rattle.answer.specs.declared.Call.{Call}
+use Rattle.answer.specs.declared.Call.the-variants.{Done, Refused}
+use Rattle.graphics.specs.State.{usableState}
+use Rattle.lines.specs.World.{Fixed, World}
+use Rattle.axes.specs.Axes.{worldSeen}
+use Rattle.axes.specs.declared.Axis.{Axis}
+use Rattle.replay.specs.Run.{Ran, Went, stepOf, entryOf, worldFits}
+
+-- the opcode word of the line at a place
+abbrev pub opcodeAt : List ℤ → ℕ → ℕ
+opcodeAt sheet at = indexOf (getD sheet at (pos 0))
+
+-- a line that is refused is reached, and none after it
+unfoldable pub afterCall : (ℕ → World → List ℕ) → ℕ → World → Call → List ℕ
+afterCall rest place w Done = rest place w
+afterCall rest place w (Refused why) = []
+
+abbrev pub afterLine : (ℕ → World → List ℕ) → Went → List ℕ
+afterLine rest g = afterCall rest (g .place) (g .world) (g .call)
+
+-- the opcodes of the lines that are reached from a place with this budget
+unfoldable pub reachedFrom : Fixed → List ℤ → ℕ → ℕ → World → List ℕ
+reachedFrom f sheet zero at w = []
+reachedFrom f sheet (suc budget) at w =
+    cond (ltb at (length sheet)) (opcodeAt sheet at ∷ afterLine (reachedFrom f sheet budget) (stepOf f sheet at w)) []
+
+unfoldable pub onEntry : List ℕ → Call → List ℕ
+onEntry reached Done = reached
+onEntry reached (Refused why) = []
+
+-- a run that is refused at its entry reaches no line
+unfoldable pub linesReached : Fixed → List ℤ → ℕ → ℕ → World → List ℕ
+linesReached f sheet budget start w =
+    onEntry (reachedFrom f sheet budget start w) (entryOf (worldFits f sheet w) (usableState (w .state)) (leb start (length sheet)))
+
+-- none of them is such a line
+abbrev pub none : (ℕ → Bool) → List ℕ → Bool
+none such [] = true
+none such (op ∷ ops) = not (such op) && none such ops
+
+-- two runs that end alike along an axis: the answer with its detail, the place, the count, and of the worlds the state, the flags and the coordinates
+-- along the axis, of both zones
+pub record SameAlong (a : Axis) (r s : Ran) : Type 0 where
+  pub answer : r .answer ≡ s .answer
+  pub place : r .place ≡ s .place
+  pub lines : r .lines ≡ s .lines
+  pub worlds : worldSeen a (r .world) ≡ worldSeen a (s .world)

@@ -1,0 +1,3 @@
+// Axes don't mix, over whole runs: demand 3 of document 01. Nothing here runs.
+//
+// specs/Reached.antt says which lines a run reaches; proofs/Apart.antt has the promise on two runs.
