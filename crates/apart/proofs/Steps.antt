@@ -24,7 +24,7 @@ use Rattle.apart.specs.Reached.{opcodeAt}
 use Rattle.axes.proofs.Seen.{x-again, y-again}
 
 -- ---- the opcode that is read
-unfoldable Named : ℕ → Decoded → Type 0
+unfoldable pub Named : ℕ → Decoded → Type 0
 Named op (Operands read first end) = read ≡ op
 Named op (RefusedLine why) = Unit {0}
 
@@ -49,7 +49,7 @@ read-named sheet counter at op count =
     (by-test (Named op) _ _ (ltb (length sheet - (at + 2)) count) (nothing-read op Line)
     (by-test (Named op) _ _ (ltb (takesBy (needOf op) counter) count) (nothing-read op Surplus) (its-own op (at + 2) (at + 2 + count))))))
 
-all-named : (sheet : List ℤ) (counter at : ℕ) → Named (opcodeAt sheet at) (decodeOf sheet counter at)
+pub all-named : (sheet : List ℤ) (counter at : ℕ) → Named (opcodeAt sheet at) (decodeOf sheet counter at)
 unfolding decodeOf
 all-named sheet counter at =
     by-test (Named (opcodeAt sheet at)) _ _ (ltb at (length sheet))

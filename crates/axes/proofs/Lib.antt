@@ -7,5 +7,6 @@ pub mod Mdap
 pub mod Miap
 pub mod Msirp
 pub mod Seen
+pub mod Still
 pub mod Straight
 pub mod Vectors

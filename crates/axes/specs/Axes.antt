@@ -3,10 +3,11 @@
 use mathlib.Core.Path.{_≡_}
 use mathlib.Core.Bool.{Bool, _||_}
 use Prim.Native.Nat.{ℕ}
-use mathlib.Core.List.{List}
+use mathlib.Core.List.{List, map}
 use lib.Dec.{eqb}
 use lib.IntN.{ℤ, pos}
 use lib.ListN.{length, replicate}
+use Rattle.point.specs.Flag.{bit}
 use Rattle.graphics.specs.State.{xAxis, yAxis, allAlong}
 use Rattle.graphics.specs.declared.GraphicsState.{GraphicsState}
 use Rattle.graphics.specs.declared.Vector.{Vector}
@@ -62,3 +63,21 @@ mixes a op = eqb op 0x0F || turnsAcross a op
 abbrev pub interpolatesAcross : Axis → ℕ → Bool
 interpolatesAcross X op = eqb op 0x30
 interpolatesAcross Y op = eqb op 0x31
+
+-- ---- what a glyph's points hold across the axis
+abbrev pub across : Axis → List ℤ → List ℤ → List ℤ
+across X xs ys = ys
+across Y xs ys = xs
+
+-- the touch mark of the other axis: bit 1 for x, bit 2 for y
+abbrev pub markAcross : Axis → ℕ
+markAcross X = 2
+markAcross Y = 1
+
+abbrev pub marksAcross : Axis → List ℕ → List ℕ
+marksAcross a flags = map (bit (markAcross a)) flags
+
+-- neither a coordinate nor a mark across the axis is another
+pub record Still (a : Axis) (xs ys : List ℤ) (flags : List ℕ) (xs' ys' : List ℤ) (flags' : List ℕ) : Type 0 where
+  pub coordinates : across a xs' ys' ≡ across a xs ys
+  pub marks : marksAcross a flags' ≡ marksAcross a flags
