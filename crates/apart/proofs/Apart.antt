@@ -109,3 +109,16 @@ axes-apart a f g sheet budget start w v ef ew e free =
     subst (λ (c : Call). SameAlong a (runOnEntry f sheet budget start w (entered f sheet start w)) (runOnEntry g sheet budget start v c))
     (entry-alike a f g sheet start w v ef ew)
     (entry-apart a f g sheet budget start w v ef ew e (entered f sheet start w) free)
+
+-- the same of the public call: whatever two calls of `run` return and leave, by its contract
+pub runs-apart : (a : Axis) (f g : Fixed) (sheet : List ℤ) (budget start : ℕ) (w v : World) (r s : Ran) → r ≡ runOf f sheet budget start w → s ≡ runOf g sheet budget start v
+    → fixedSeen a f ≡ fixedSeen a g → worldSeen a w ≡ worldSeen a v → Straight a (w .state) → none (mixes a) (linesReached f sheet budget start w) ≡ true
+    → SameAlong a r s
+runs-apart a f g sheet budget start w v r s er es ef ew e free =
+    let both = axes-apart a f g sheet budget start w v ef ew e free in
+    record {
+      answer = ap (λ (x : Ran). x .answer) er ∙ both .answer ∙ sym (ap (λ (x : Ran). x .answer) es);
+      place = ap (λ (x : Ran). x .place) er ∙ both .place ∙ sym (ap (λ (x : Ran). x .place) es);
+      lines = ap (λ (x : Ran). x .lines) er ∙ both .lines ∙ sym (ap (λ (x : Ran). x .lines) es);
+      worlds = ap (λ (x : Ran). worldSeen a (x .world)) er ∙ both .worlds ∙ sym (ap (λ (x : Ran). worldSeen a (x .world)) es);
+    }

@@ -1,3 +1,4 @@
 pub mod Apart
+pub mod Examples
 pub mod Steps
 pub mod Still

@@ -339,9 +339,9 @@ taken false j h e = absurd (h e)
 after-iup : (op : ℕ) → cond (between 0x32 0x33 op) Shp (cond (between 0x3A 0x3B op) Msirp (cond (between 0x3C 0x3C op) Alignrp (cond (between 0x3E 0x3F op) Miap (cond (between 0x80 0x80 op) Flippt Set)))) ≡ Iup → ⊥
 after-iup op e =
     let none : Set ≡ Iup =
-        skip (between 0x80 0x80 op) Flippt _ (other-line Flippt refl)
-        (skip (between 0x3E 0x3F op) Miap _ (other-line Miap refl)
-        (skip (between 0x3C 0x3C op) Alignrp _ (other-line Alignrp refl) (skip (between 0x3A 0x3B op) Msirp _ (other-line Msirp refl) (skip (between 0x32 0x33 op) Shp _ (other-line Shp refl) e)))) in
+    skip (between 0x80 0x80 op) Flippt _ (other-line Flippt refl)
+    (skip (between 0x3E 0x3F op) Miap _ (other-line Miap refl)
+    (skip (between 0x3C 0x3C op) Alignrp _ (other-line Alignrp refl) (skip (between 0x3A 0x3B op) Msirp _ (other-line Msirp refl) (skip (between 0x32 0x33 op) Shp _ (other-line Shp refl) e)))) in
     other-line Set refl none
 
 iup-codes : (op : ℕ) → instructionOf op ≡ Iup → between 0x30 0x31 op ≡ true
