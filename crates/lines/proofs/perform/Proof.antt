@@ -15,105 +15,105 @@ abbrev held : tie.Start → Fixed
 held s = fixed (now (s .args .controls)) (now (s .args .gux)) (now (s .args .guy)) (now (s .args .gox)) (now (s .args .goy)) (now (s .args .contours))
 
 instruction-of-requires : tie.Need-instruction-of-requires
-instruction-of-requires c κs = search needs
+instruction-of-requires c κs = tt
 
 enum-told : tie.Need-enum-told
 enum-told c = search needs
 
 set-state-requires : tie.Need-set-state-requires
-set-state-requires c κs = search needs
+set-state-requires c κs = tt
 
 enum-told-2 : tie.Need-enum-told-2
 enum-told-2 c = search needs
 
 isect-requires : tie.Need-isect-requires
-isect-requires c κs = search needs
+isect-requires c κs = let s = c .before .before .before .before .before .before .before .before .before .before .before .before in (s .pre .4, s .pre .7)
 
 enum-told-3 : tie.Need-enum-told-3
 enum-told-3 c = search needs
 
 mdap-requires : tie.Need-mdap-requires
-mdap-requires c κs = search needs
+mdap-requires c κs = let s = c .before .before .before .before .before .before .before .before .before .before .before .before in (s .pre .4, s .pre .5, s .pre .7, s .pre .8)
 
 enum-told-4 : tie.Need-enum-told-4
 enum-told-4 c = search needs
 
 dispatch-iup-requires : tie.Need-dispatch-iup-requires
-dispatch-iup-requires c κs = search needs
+dispatch-iup-requires c κs = let s = c .before .before .before .before .before .before .before .before .before in (s .pre .4, s .pre .5, s .pre .0, s .pre .1, s .pre .2, s .pre .3)
 
 enum-told-5 : tie.Need-enum-told-5
 enum-told-5 c = search needs
 
 shp-requires : tie.Need-shp-requires
-shp-requires c κs = search needs
+shp-requires c κs = let s = c .before .before .before .before .before .before .before .before .before .before .before .before .before .before in (s .pre .3 ∙ sym (s .pre .2), s .pre .6, s .pre .4, s .pre .5, s .pre .7, s .pre .8)
 
 enum-told-6 : tie.Need-enum-told-6
 enum-told-6 c = search needs
 
 msirp-requires : tie.Need-msirp-requires
-msirp-requires c κs = search needs
+msirp-requires c κs = let s = c .before .before .before .before .before .before .before .before .before .before .before .before .before .before in (s .pre .4, s .pre .5, s .pre .7, s .pre .8)
 
 enum-told-7 : tie.Need-enum-told-7
 enum-told-7 c = search needs
 
 alignrp-requires : tie.Need-alignrp-requires
-alignrp-requires c κs = search needs
+alignrp-requires c κs = let s = c .before .before .before .before .before .before .before .before .before .before .before .before in (s .pre .4, s .pre .5, s .pre .7, s .pre .8)
 
 enum-told-8 : tie.Need-enum-told-8
 enum-told-8 c = search needs
 
 miap-requires : tie.Need-miap-requires
-miap-requires c κs = search needs
+miap-requires c κs = let s = c .before .before .before .before .before .before .before .before .before .before .before .before .before .before in (s .pre .4, s .pre .5, s .pre .7, s .pre .8)
 
 enum-told-9 : tie.Need-enum-told-9
 enum-told-9 c = search needs
 
 flippt-requires : tie.Need-flippt-requires
-flippt-requires c κs = search needs
+flippt-requires c κs = tt
 
 returns : tie.Need-returns
 returns c = let k = c in let e = k .before in let i = e .before .before in let s = i .before .before .before .before in
     set-line (held s) (s .args .opcode) (now (s .args .operands)) (entry s) (sym (i .instruction-of .ensures) ∙ e .enum-told .given .1) (k .set-state .ensures)
 
 same-length : tie.Need-same-length
-same-length c = search needs
+same-length c = let k = c .before .before .before .before .before .before .before .before in k .isect .kept .1 .1 .0
 
 same-length-2 : tie.Need-same-length-2
-same-length-2 c = search needs
+same-length-2 c = let k = c .before .before .before .before .before .before .before .before in k .isect .kept .1 .1 .1 .0
 
 same-length-3 : tie.Need-same-length-3
-same-length-3 c = search needs
+same-length-3 c = let k = c .before .before .before .before .before .before .before .before in k .isect .kept .1 .1 .1 .1 .0
 
 same-length-4 : tie.Need-same-length-4
-same-length-4 c = search needs
+same-length-4 c = let k = c .before .before .before .before .before .before .before .before in k .isect .kept .1 .1 .1 .1 .1 .0
 
 same-length-5 : tie.Need-same-length-5
-same-length-5 c = search needs
+same-length-5 c = let k = c .before .before .before .before .before .before .before .before in k .isect .kept .1 .1 .1 .1 .1 .1 .0
 
 same-length-6 : tie.Need-same-length-6
-same-length-6 c = search needs
+same-length-6 c = let k = c .before .before .before .before .before .before .before .before in k .isect .kept .1 .1 .1 .1 .1 .1 .1 .0
 
 returns-2 : tie.Need-returns-2
 returns-2 c = let k = c .before .before .before .before .before .before .before .before in let e = k .before .before .before .before .before .before .before in let i = e .before .before in let s = i .before .before .before .before in
     isect-line (held s) (s .args .opcode) (now (s .args .operands)) (entry s) (sym (i .instruction-of .ensures) ∙ e .enum-told2 .given .1) (k .isect .ensures)
 
 same-length-7 : tie.Need-same-length-7
-same-length-7 c = search needs
+same-length-7 c = let k = c .before .before .before .before .before .before .before .before in k .mdap .kept .1 .1 .1 .0
 
 same-length-8 : tie.Need-same-length-8
-same-length-8 c = search needs
+same-length-8 c = let k = c .before .before .before .before .before .before .before .before in k .mdap .kept .1 .1 .1 .1 .0
 
 same-length-9 : tie.Need-same-length-9
-same-length-9 c = search needs
+same-length-9 c = let k = c .before .before .before .before .before .before .before .before in k .mdap .kept .1 .1 .1 .1 .1 .0
 
 same-length-10 : tie.Need-same-length-10
-same-length-10 c = search needs
+same-length-10 c = let k = c .before .before .before .before .before .before .before .before in k .mdap .kept .1 .1 .1 .1 .1 .1 .0
 
 same-length-11 : tie.Need-same-length-11
-same-length-11 c = search needs
+same-length-11 c = let k = c .before .before .before .before .before .before .before .before in k .mdap .kept .1 .1 .1 .1 .1 .1 .1 .0
 
 same-length-12 : tie.Need-same-length-12
-same-length-12 c = search needs
+same-length-12 c = let k = c .before .before .before .before .before .before .before .before in k .mdap .kept .1 .1 .1 .1 .1 .1 .1 .1 .0
 
 returns-3 : tie.Need-returns-3
 returns-3 c = let k = c .before .before .before .before .before .before .before .before in let e = k .before .before .before .before .before .before .before in let i = e .before .before in let s = i .before .before .before .before in
@@ -161,85 +161,85 @@ returns-5 c = let k = c .before .before .before .before .before .before .before 
     shp-line (held s) (s .args .opcode) (now (s .args .operands)) (entry s) (sym (i .instruction-of .ensures) ∙ e .enum-told5 .given .1) (k .shp .ensures)
 
 same-length-24 : tie.Need-same-length-24
-same-length-24 c = search needs
+same-length-24 c = let k = c .before .before .before .before .before .before .before .before .before .before in k .msirp .kept .1 .1 .1 .0
 
 same-length-25 : tie.Need-same-length-25
-same-length-25 c = search needs
+same-length-25 c = let k = c .before .before .before .before .before .before .before .before .before .before in k .msirp .kept .1 .1 .1 .1 .0
 
 same-length-26 : tie.Need-same-length-26
-same-length-26 c = search needs
+same-length-26 c = let k = c .before .before .before .before .before .before .before .before .before .before in k .msirp .kept .1 .1 .1 .1 .1 .0
 
 same-length-27 : tie.Need-same-length-27
-same-length-27 c = search needs
+same-length-27 c = let k = c .before .before .before .before .before .before .before .before .before .before in k .msirp .kept .1 .1 .1 .1 .1 .1 .0
 
 same-length-28 : tie.Need-same-length-28
-same-length-28 c = search needs
+same-length-28 c = let k = c .before .before .before .before .before .before .before .before .before .before in k .msirp .kept .1 .1 .1 .1 .1 .1 .1 .0
 
 same-length-29 : tie.Need-same-length-29
-same-length-29 c = search needs
+same-length-29 c = let k = c .before .before .before .before .before .before .before .before .before .before in k .msirp .kept .1 .1 .1 .1 .1 .1 .1 .1 .0
 
 same-length-30 : tie.Need-same-length-30
-same-length-30 c = search needs
+same-length-30 c = let k = c .before .before .before .before .before .before .before .before .before .before in k .msirp .kept .1 .1 .1 .1 .1 .1 .1 .1 .1 .0
 
 same-length-31 : tie.Need-same-length-31
-same-length-31 c = search needs
+same-length-31 c = let k = c .before .before .before .before .before .before .before .before .before .before in k .msirp .kept .1 .1 .1 .1 .1 .1 .1 .1 .1 .1 .0
 
 returns-6 : tie.Need-returns-6
 returns-6 c = let k = c .before .before .before .before .before .before .before .before .before .before in let e = k .before .before .before .before .before .before .before .before .before in let i = e .before .before in let s = i .before .before .before .before in
     msirp-line (held s) (s .args .opcode) (now (s .args .operands)) (entry s) (sym (i .instruction-of .ensures) ∙ e .enum-told6 .given .1) (k .msirp .ensures)
 
 same-length-32 : tie.Need-same-length-32
-same-length-32 c = search needs
+same-length-32 c = let k = c .before .before .before .before .before .before .before .before in k .alignrp .kept .1 .1 .0
 
 same-length-33 : tie.Need-same-length-33
-same-length-33 c = search needs
+same-length-33 c = let k = c .before .before .before .before .before .before .before .before in k .alignrp .kept .1 .1 .1 .0
 
 same-length-34 : tie.Need-same-length-34
-same-length-34 c = search needs
+same-length-34 c = let k = c .before .before .before .before .before .before .before .before in k .alignrp .kept .1 .1 .1 .1 .0
 
 same-length-35 : tie.Need-same-length-35
-same-length-35 c = search needs
+same-length-35 c = let k = c .before .before .before .before .before .before .before .before in k .alignrp .kept .1 .1 .1 .1 .1 .0
 
 same-length-36 : tie.Need-same-length-36
-same-length-36 c = search needs
+same-length-36 c = let k = c .before .before .before .before .before .before .before .before in k .alignrp .kept .1 .1 .1 .1 .1 .1 .0
 
 same-length-37 : tie.Need-same-length-37
-same-length-37 c = search needs
+same-length-37 c = let k = c .before .before .before .before .before .before .before .before in k .alignrp .kept .1 .1 .1 .1 .1 .1 .1 .0
 
 returns-7 : tie.Need-returns-7
 returns-7 c = let k = c .before .before .before .before .before .before .before .before in let e = k .before .before .before .before .before .before .before in let i = e .before .before in let s = i .before .before .before .before in
     alignrp-line (held s) (s .args .opcode) (now (s .args .operands)) (entry s) (sym (i .instruction-of .ensures) ∙ e .enum-told7 .given .1) (k .alignrp .ensures)
 
 same-length-38 : tie.Need-same-length-38
-same-length-38 c = search needs
+same-length-38 c = let k = c .before .before .before .before .before .before .before .before .before .before in k .miap .kept .1 .1 .1 .1 .0
 
 same-length-39 : tie.Need-same-length-39
-same-length-39 c = search needs
+same-length-39 c = let k = c .before .before .before .before .before .before .before .before .before .before in k .miap .kept .1 .1 .1 .1 .1 .0
 
 same-length-40 : tie.Need-same-length-40
-same-length-40 c = search needs
+same-length-40 c = let k = c .before .before .before .before .before .before .before .before .before .before in k .miap .kept .1 .1 .1 .1 .1 .1 .0
 
 same-length-41 : tie.Need-same-length-41
-same-length-41 c = search needs
+same-length-41 c = let k = c .before .before .before .before .before .before .before .before .before .before in k .miap .kept .1 .1 .1 .1 .1 .1 .1 .0
 
 same-length-42 : tie.Need-same-length-42
-same-length-42 c = search needs
+same-length-42 c = let k = c .before .before .before .before .before .before .before .before .before .before in k .miap .kept .1 .1 .1 .1 .1 .1 .1 .1 .0
 
 same-length-43 : tie.Need-same-length-43
-same-length-43 c = search needs
+same-length-43 c = let k = c .before .before .before .before .before .before .before .before .before .before in k .miap .kept .1 .1 .1 .1 .1 .1 .1 .1 .1 .0
 
 same-length-44 : tie.Need-same-length-44
-same-length-44 c = search needs
+same-length-44 c = let k = c .before .before .before .before .before .before .before .before .before .before in k .miap .kept .1 .1 .1 .1 .1 .1 .1 .1 .1 .1 .0
 
 same-length-45 : tie.Need-same-length-45
-same-length-45 c = search needs
+same-length-45 c = let k = c .before .before .before .before .before .before .before .before .before .before in k .miap .kept .1 .1 .1 .1 .1 .1 .1 .1 .1 .1 .1 .0
 
 returns-8 : tie.Need-returns-8
 returns-8 c = let k = c .before .before .before .before .before .before .before .before .before .before in let e = k .before .before .before .before .before .before .before .before .before in let i = e .before .before in let s = i .before .before .before .before in
     miap-line (held s) (s .args .opcode) (now (s .args .operands)) (entry s) (sym (i .instruction-of .ensures) ∙ e .enum-told8 .given .1) (k .miap .ensures)
 
 same-length-46 : tie.Need-same-length-46
-same-length-46 c = search needs
+same-length-46 c = let k = c .before .before in k .flippt .kept .1 .1 .0
 
 returns-9 : tie.Need-returns-9
 returns-9 c = let k = c .before .before in let e = k .before .before in let i = e .before .before in let s = i .before .before .before .before in
