@@ -1,22 +1,26 @@
--- The budget rule of document 01, "A sheet and its lines": a run with a summed budget is the first run, and where that used its budget up, the second
--- from its place, the counts added. By induction on the first budget; a line that is done leaves the zones' lengths and a usable state, so that the
--- second run passes its entry too. Assumes nothing.
+-- The budget rule of document 01, "A sheet and its lines": two runs, the second from the place where the first ended with answer 1, equal one run with
+-- the summed budget, the counts added. By induction on the first budget; the first run keeps what the entry tests, so that the second is
+-- entered too. The definition takes any numbers; the public call's budgets are u64, and where their sum is one too, all three runs are its
+-- own. Assumes nothing.
 use mathlib.Core.Bool.{Bool, cond, false, true}
 use mathlib.Core.List.{List}
-use Prim.Native.Nat.{_+_, suc, zero, ℕ}
+use Prim.Native.Nat.{_+_, _≤_, suc, zero, ℕ}
 use mathlib.Core.Path.{_∙_, _≡_, ap, refl, sym}
 use native.Mathlib.Nat.{add-suc, add-zero, suc-add, zero-add}
+use borrow.Author.Tests.{le-leb, leb-true, ltb-false}
+use lib.Dec.{leb, ltb}
 use lib.ListN.{length}
-use lib.Dec.{ltb}
-use borrow.Author.Tests.{ltb-false}
 use lib.IntN.{ℤ}
 use Rattle.replay.specs.declared.Answer.{Answer}
 use Rattle.answer.specs.declared.Call.{Call}
 use Rattle.answer.specs.declared.Call.the-variants.{Done, Refused as RefusedCall}
 use Rattle.replay.specs.declared.Answer.the-variants.{Finished, OutOfBudget, Refused}
 use Rattle.lines.specs.World.{Fixed, World, world}
-use Rattle.replay.specs.Run.{Ran, ends, onCall, replayOf, stepOf}
-use Rattle.replay.proofs.Loop.{at-end}
+use Rattle.replay.specs.Run.{Ran, ends, entryOf, onCall, onEntry, replayOf, runOf, stepOf, worldFits}
+use Rattle.answer.specs.declared.Refusal.{Refusal}
+use Rattle.replay.proofs.Loop.{at-end, entered, not-entered}
+use Rattle.graphics.specs.State.{usableState}
+use Rattle.laws.proofs.Keeps.{run-keeps, run-place, still-fits}
 
 -- the run goes on with a further budget where the first was used up
 unfoldable pub onAnswer : Fixed → List ℤ → ℕ → Ran → Answer → Ran
@@ -102,3 +106,81 @@ two-replays f sheet a b at w e =
     ∙ resumed f sheet b r e
     ∙ ap (λ (k : ℕ). replayOf f sheet b k (r .place) (r .world)) (sym (add-zero (r .lines)))
     ∙ count f sheet b (r .lines) 0 (r .place) (r .world)
+
+-- ---- the public run
+entry-of-three : (f : Fixed) (sheet : List ℤ) (b at : ℕ) (w : World) → worldFits f sheet w ≡ true → usableState (w .state) ≡ true → at ≤ length sheet
+    → runOf f sheet b at w ≡ replayOf f sheet b 0 at w
+unfolding runOf onEntry entryOf
+entry-of-three f sheet b at w sized ready within = rw (sized, ready, le-leb at (length sheet) within)
+
+-- where a run was entered, the tests were passed
+passed-sizes : (sized ready starts : Bool) → entryOf sized ready starts ≡ Done → sized ≡ true
+unfolding entryOf
+passed-sizes true ready starts e = refl
+passed-sizes false ready starts e = cc e
+
+passed-state : (sized ready starts : Bool) → entryOf sized ready starts ≡ Done → ready ≡ true
+unfolding entryOf
+passed-state true true starts e = refl
+passed-state true false starts e = cc e
+passed-state false ready starts e = cc e
+
+passed-place : (sized ready starts : Bool) → entryOf sized ready starts ≡ Done → starts ≡ true
+unfolding entryOf
+passed-place true true true e = refl
+passed-place true true false e = cc e
+passed-place true false starts e = cc e
+passed-place false ready starts e = cc e
+
+refused-otherwise : (why : Refusal) (r s : Ran) → Refused why ≡ OutOfBudget → r ≡ s
+refused-otherwise why r s e = cc e
+
+module _ (f : Fixed) (sheet : List ℤ) (a b start : ℕ) (w : World) where
+  abbrev first : Ran
+  first = runOf f sheet a start w
+
+  abbrev tests : Call
+  tests = entryOf (worldFits f sheet w) (usableState (w .state)) (leb start (length sheet))
+
+  -- the second run is entered because the first was
+  entered-again : tests ≡ Done → runOf f sheet b (first .place) (first .world) ≡ replayOf f sheet b 0 (first .place) (first .world)
+  entered-again told =
+      let kept = run-keeps f sheet a start w in
+      let sized = passed-sizes (worldFits f sheet w) (usableState (w .state)) (leb start (length sheet)) told in
+      let ready = passed-state (worldFits f sheet w) (usableState (w .state)) (leb start (length sheet)) told in
+      let starts = passed-place (worldFits f sheet w) (usableState (w .state)) (leb start (length sheet)) told in
+      entry-of-three f sheet b (first .place) (first .world) (still-fits f sheet w (first .world) kept ∙ sized) (kept .usable ready)
+      (run-place f sheet a start w (leb-true start (length sheet) starts))
+
+  two-entered : tests ≡ Done → first .answer ≡ OutOfBudget
+      → runOf f sheet (a + b) start w ≡ counted (first .lines) (runOf f sheet b (first .place) (first .world))
+  two-entered told e =
+      let is : replayOf f sheet a 0 start w ≡ first = entered f sheet a start w refl told in
+      sym (entered f sheet (a + b) start w refl told)
+      ∙ two-replays f sheet a b start w (ap (λ (r : Ran). r .answer) is ∙ e)
+      ∙ ap (λ (r : Ran). counted (r .lines) (replayOf f sheet b 0 (r .place) (r .world))) is
+      ∙ ap (counted (first .lines)) (sym (entered-again told))
+
+  two-by : (begun : Call) → tests ≡ begun → first .answer ≡ OutOfBudget
+      → runOf f sheet (a + b) start w ≡ counted (first .lines) (runOf f sheet b (first .place) (first .world))
+  two-by Done told e = two-entered told e
+  two-by (RefusedCall why) told e = refused-otherwise why _ _ (ap (λ (r : Ran). r .answer) (not-entered f sheet a start w refl told) ∙ e)
+
+-- the rule
+pub two-runs : (f : Fixed) (sheet : List ℤ) (a b start : ℕ) (w : World) → runOf f sheet a start w .answer ≡ OutOfBudget
+    → runOf f sheet (a + b) start w
+    ≡ counted (runOf f sheet a start w .lines) (runOf f sheet b (runOf f sheet a start w .place) (runOf f sheet a start w .world))
+two-runs f sheet a b start w e = two-by f sheet a b start w (tests f sheet a b start w) refl e
+
+-- the same of three outcomes that the contract of `run` allows: the first with budget a, the second with b from where the first ended, one with both
+pub two-calls : (f : Fixed) (sheet : List ℤ) (a b start : ℕ) (w : World) (first second both : Ran)
+    → first ≡ runOf f sheet a start w
+    → second ≡ runOf f sheet b (first .place) (first .world)
+    → both ≡ runOf f sheet (a + b) start w
+    → first .answer ≡ OutOfBudget
+    → both ≡ counted (first .lines) second
+two-calls f sheet a b start w first second both p q r e =
+    r
+    ∙ two-runs f sheet a b start w (sym (ap (λ (x : Ran). x .answer) p) ∙ e)
+    ∙ ap (λ (x : Ran). counted (x .lines) (runOf f sheet b (x .place) (x .world))) (sym p)
+    ∙ ap (counted (first .lines)) (sym q)

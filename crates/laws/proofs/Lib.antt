@@ -1,2 +1,5 @@
 pub mod Budget
-pub mod Runs
+pub mod Keeps
+pub mod Outcome
+pub mod Numbers
+pub mod Usable
