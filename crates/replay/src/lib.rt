@@ -1,7 +1,22 @@
-// Whole sheets: one line, and a run of lines with a budget. The public face.
+// Whole sheets: a run of lines with a budget. The public face.
 //
 // `run` answers for every input. What it says, the state, and what every list holds afterwards, refused or not, are one equation with `runOf` of
-// specs/Run.antt. The glyph's unscaled and original points, its contours' ends, the control values and the sheet are only read.
+// specs/Run.antt. The glyph's unscaled and original points, its contours' ends, the control values and the sheet are only read. No caller has to
+// test first: lists of unequal lengths, a start beyond the sheet or an unknown opcode are answers by number.
+//
+// A call, with the sheet SVTCA[y], MDAP[1] of point 0, IUP[y]; the lists are the caller's own:
+//
+//     let sheet = [0, 0, 47, 1, 0, 48, 0];
+//     let none: [i32; 0] = [];
+//     let r = run(
+//         0, 3, GraphicsState::fresh(), &sheet, &none,
+//         &unscaled_x, &unscaled_y, &original_x, &original_y, &mut x, &mut y, &mut flags, &contours,
+//         &mut twilight_original_x, &mut twilight_original_y, &mut twilight_x, &mut twilight_y, &mut twilight_flags,
+//     );
+//
+// `r.answer.number()` is 0 where the sheet's end was reached, 1 where the budget was used, else a refusal's number; `r.answer.detail()` its detail;
+// `r.place` is the next line, or the refused one, and `r.lines` how many were finished. To go on after 1, call again with `r.place`, `r.state`
+// and the same lists.
 use answer::Call;
 use answer::Refusal;
 use graphics::GraphicsState;
@@ -83,7 +98,7 @@ fn land(at: usize, end: usize, r: Stepped) -> Landing
 }
 
 // The line at a place of the sheet.
-pub fn step(
+fn step(
     at: usize,
     s: GraphicsState,
     sheet: &[i32],
