@@ -1,8 +1,8 @@
 // Replays the oracle's answers on whole calls: a case a call, and prints how many agree.
 //
 // A case agrees where the call says what the case says, and leaves every coordinate, every flag and the state as the case says (the crates
-// zone_calls and state_calls). What this prints is held to the file `stdout`; the cases stand in the file `stdin`: the direct calls other
-// than iup, then those of iup.
+// zone_calls, state_calls and runs). What this prints is held to the file `stdout`; the cases stand in the file `stdin`: the direct calls
+// other than iup, those of iup, single lines, and runs.
 use cases::KIND;
 use cases::word;
 use libc::STDIN_FILENO;
@@ -11,6 +11,7 @@ use tally::Turn;
 
 fn agrees(case: &[u8]) -> bool {
     match word(case, KIND) {
+        0 => runs::agrees(case),
         1..=9 => zone_calls::agrees(case),
         10..=13 => state_calls::agrees(case),
         _ => false,
