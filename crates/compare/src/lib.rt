@@ -87,7 +87,26 @@ impl Said {
 }
 
 // ---- what a call left
-// A list is right where as many elements differ from before as the changes name in it, and each change says what the list holds.
+// Whether the case's changes stand in the order of their indices, so that none is named twice.
+fn named_once(case: &[u8]) -> bool {
+    let changes = wide(word(case, CHANGES));
+    let last = place_of(case, LISTS);
+    let mut at = last.stored;
+    let mut least = 0;
+    let mut k = 0;
+    while k < changes {
+        let index = wide(word(case, at));
+        if index < least {
+            return false;
+        }
+        least = after(index, 1);
+        at = after(at, 2);
+        k += 1;
+    }
+    true
+}
+
+// A list is right where as many elements differ from before as the changes name in it, and it holds each of these changes.
 pub struct Compared {
     // Elements that differ from before.
     pub differ: u64,
@@ -110,7 +129,7 @@ impl Compared {
     // Whether the changes that the case names are those that were made.
     fn is_all(self, case: &[u8]) -> bool {
         let changes = wide(word(case, CHANGES));
-        self.differ == changes && self.held == changes
+        self.differ == changes && self.held == changes && named_once(case)
     }
 }
 
@@ -143,25 +162,28 @@ fn flags_differ(case: &[u8], p: Place, list: &[u8]) -> u64 {
     differ
 }
 
-fn word_is(p: Place, list: &[i32], index: u64, new: u32) -> bool {
+// Whether a change of the list is one, and the list holds it.
+fn word_is(case: &[u8], p: Place, list: &[i32], index: u64, new: u32) -> bool {
     if index < p.index {
         return false;
     }
-    let j = (index - p.index) as usize;
+    let k = index - p.index;
+    let j = k as usize;
     if j < list.len() {
-        to_bits(list[j]) == new
+        (to_bits(list[j]) == new) & (element(case, p, k) != new)
     } else {
         false
     }
 }
 
-fn flag_is(p: Place, list: &[u8], index: u64, new: u32) -> bool {
+fn flag_is(case: &[u8], p: Place, list: &[u8], index: u64, new: u32) -> bool {
     if index < p.index {
         return false;
     }
-    let j = (index - p.index) as usize;
+    let k = index - p.index;
+    let j = k as usize;
     if j < list.len() {
-        wide_flag(list[j]) == new
+        (wide_flag(list[j]) == new) & (element(case, p, k) != new)
     } else {
         false
     }
@@ -174,7 +196,13 @@ fn words_held(case: &[u8], p: Place, list: &[i32]) -> u64 {
     let mut held = 0;
     let mut k = 0;
     while k < changes {
-        if word_is(p, list, wide(word(case, at)), word(case, after(at, 1))) {
+        if word_is(
+            case,
+            p,
+            list,
+            wide(word(case, at)),
+            word(case, after(at, 1)),
+        ) {
             held = after(held, 1);
         }
         at = after(at, 2);
@@ -190,7 +218,13 @@ fn flags_held(case: &[u8], p: Place, list: &[u8]) -> u64 {
     let mut held = 0;
     let mut k = 0;
     while k < changes {
-        if flag_is(p, list, wide(word(case, at)), word(case, after(at, 1))) {
+        if flag_is(
+            case,
+            p,
+            list,
+            wide(word(case, at)),
+            word(case, after(at, 1)),
+        ) {
             held = after(held, 1);
         }
         at = after(at, 2);
@@ -338,9 +372,9 @@ fn state_differs(case: &[u8], s: GraphicsState) -> u64 {
     differ
 }
 
-fn state_word_is(s: GraphicsState, index: u64, new: u32) -> bool {
+fn state_word_is(case: &[u8], s: GraphicsState, index: u64, new: u32) -> bool {
     if index < STATE_WORDS {
-        state_word(s, index) == new
+        (state_word(s, index) == new) & (word(case, after(STATE, index)) != new)
     } else {
         false
     }
@@ -353,7 +387,7 @@ fn state_held(case: &[u8], s: GraphicsState) -> u64 {
     let mut held = 0;
     let mut k = 0;
     while k < changes {
-        if state_word_is(s, wide(word(case, at)), word(case, after(at, 1))) {
+        if state_word_is(case, s, wide(word(case, at)), word(case, after(at, 1))) {
             held = after(held, 1);
         }
         at = after(at, 2);
