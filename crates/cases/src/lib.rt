@@ -12,10 +12,12 @@ use graphics::Vectors;
 use graphics::ZonePointer;
 use graphics::ZonePointers;
 use int::from_bits;
-use int::to_bits;
 use round::RoundMode;
 use round::RoundState;
 use words::word_at;
+ghost use mathlib.Core.Path.{_≡_};
+ghost use Prim.Native.Nat.{_≤_};
+ghost use lib.ListN.{length};
 
 pub const KIND: u64 = 1;
 
@@ -51,11 +53,11 @@ pub fn number(case: &[u8], k: u64) -> i32 {
     from_bits(word(case, k))
 }
 
-fn after(k: u64, by: u64) -> u64 {
+pub fn after(k: u64, by: u64) -> u64 {
     std::num::wrapping_add_u64(k, by)
 }
 
-fn wide(x: u32) -> u64 {
+pub fn wide(x: u32) -> u64 {
     x as u64
 }
 
@@ -86,7 +88,7 @@ pub fn zone_of(n: u32) -> ZonePointer {
     }
 }
 
-fn mode_of(n: u32) -> RoundMode {
+pub fn mode_of(n: u32) -> RoundMode {
     match n {
         0 => RoundMode::Grid,
         1 => RoundMode::HalfGrid,
@@ -185,14 +187,39 @@ fn length_word(case: &[u8], list: u64) -> u32 {
     word(case, after(LENGTHS, list))
 }
 
+pub fn list_length(case: &[u8], list: u64) -> u64 {
+    wide(length_word(case, list) & 0x7fff_ffff)
+}
+
+// Whether a zone's lists have equal lengths within the limits.
+pub fn twilight_fits(case: &[u8]) -> bool {
+    let n = list_length(case, 10);
+    n <= 16384
+        && list_length(case, 8) == n
+        && list_length(case, 9) == n
+        && list_length(case, 11) == n
+        && list_length(case, 12) == n
+}
+
+pub fn glyph_fits(case: &[u8]) -> bool {
+    let n = list_length(case, 4);
+    n <= 16384
+        && list_length(case, 0) == n
+        && list_length(case, 1) == n
+        && list_length(case, 2) == n
+        && list_length(case, 3) == n
+        && list_length(case, 5) == n
+        && list_length(case, 6) == n
+        && list_length(case, 7) <= 4096
+}
+
 // The place of a list that starts at the given words.
 fn place_at(case: &[u8], list: u64, stored: u64, index: u64) -> Place {
-    let length = length_word(case, list);
     Place {
         stored,
         index,
-        length: wide(length & 0x7fff_ffff),
-        alike: length & 0x8000_0000 != 0,
+        length: list_length(case, list),
+        alike: length_word(case, list) & 0x8000_0000 != 0,
     }
 }
 
@@ -216,7 +243,7 @@ pub fn place_of(case: &[u8], list: u64) -> Place {
 }
 
 // A list's element, before the call.
-fn element(case: &[u8], p: Place, j: u64) -> u32 {
+pub fn element(case: &[u8], p: Place, j: u64) -> u32 {
     if p.alike {
         word(case, p.stored)
     } else {
@@ -230,10 +257,6 @@ pub fn fill_words(case: &[u8], p: Place, out: &mut [i32]) {
         out[j] = from_bits(element(case, p, j as u64));
         j += 1;
     }
-}
-
-fn wide_flag(x: u8) -> u32 {
-    x as u32
 }
 
 fn low_byte(x: u32) -> u8 {
@@ -260,124 +283,58 @@ pub fn fill_ends(case: &[u8], p: Place, out: &mut [u16]) {
     }
 }
 
-// ---- what the call left
-// A list is right where as many elements differ from before as the changes name in it, and each change says what the list holds.
-pub struct Compared {
-    // Elements that differ from before.
-    pub differ: u64,
-    // Changes that the list holds.
-    pub held: u64,
+// A list's length, at most the room for it.
+pub fn length_of(case: &[u8], list: u64, room: usize) -> usize
+    ensures { λ r. ⌜ r ≤ room ⌝ }
+{
+    let n = list_length(case, list) as usize;
+    if n < room { n } else { room }
 }
 
-impl Compared {
-    pub fn none() -> Compared {
-        Compared { differ: 0, held: 0 }
-    }
-
-    pub fn and(self, other: Compared) -> Compared {
-        Compared {
-            differ: after(self.differ, other.differ),
-            held: after(self.held, other.held),
-        }
-    }
-
-    // Whether the changes that the case names are those that were made.
-    pub fn is_all(self, case: &[u8]) -> bool {
-        let changes = wide(word(case, CHANGES));
-        self.differ == changes && self.held == changes
-    }
+fn load_words(case: &[u8], list: u64, out: &mut [i32]) {
+    let n = length_of(case, list, out.len());
+    fill_words(case, place_of(case, list), &mut out[..n]);
 }
 
-fn words_differ(case: &[u8], p: Place, list: &[i32]) -> u64 {
-    let mut differ = 0;
-    let mut j = 0;
-    while j < list.len() {
-        if to_bits(list[j]) != element(case, p, j as u64) {
-            differ = after(differ, 1);
-        }
-        j += 1;
-    }
-    differ
+fn load_flags(case: &[u8], list: u64, out: &mut [u8]) {
+    let n = length_of(case, list, out.len());
+    fill_flags(case, place_of(case, list), &mut out[..n]);
 }
 
-fn flags_differ(case: &[u8], p: Place, list: &[u8]) -> u64 {
-    let mut differ = 0;
-    let mut j = 0;
-    while j < list.len() {
-        if wide_flag(list[j]) != element(case, p, j as u64) {
-            differ = after(differ, 1);
-        }
-        j += 1;
-    }
-    differ
+fn load_ends(case: &[u8], list: u64, out: &mut [u16]) {
+    let n = length_of(case, list, out.len());
+    fill_ends(case, place_of(case, list), &mut out[..n]);
 }
 
-fn word_is(p: Place, list: &[i32], index: u64, new: u32) -> bool {
-    if index < p.index {
-        return false;
-    }
-    let j = (index - p.index) as usize;
-    if j < list.len() {
-        to_bits(list[j]) == new
-    } else {
-        false
-    }
+// A list, then zeros. A list that is cut to the room is above its limit still.
+pub fn words_of(case: &[u8], list: u64) -> [i32; 16385]
+    ensures { λ r. ⌜ 16385 ≡ length r ⌝ }
+{
+    let mut out = [0i32; 16385];
+    load_words(case, list, &mut out);
+    out
 }
 
-fn flag_is(p: Place, list: &[u8], index: u64, new: u32) -> bool {
-    if index < p.index {
-        return false;
-    }
-    let j = (index - p.index) as usize;
-    if j < list.len() {
-        wide_flag(list[j]) == new
-    } else {
-        false
-    }
+pub fn flags_of(case: &[u8], list: u64) -> [u8; 16385]
+    ensures { λ r. ⌜ 16385 ≡ length r ⌝ }
+{
+    let mut out = [0u8; 16385];
+    load_flags(case, list, &mut out);
+    out
 }
 
-fn words_held(case: &[u8], p: Place, list: &[i32]) -> u64 {
-    let changes = wide(word(case, CHANGES));
-    let last = place_of(case, LISTS);
-    let mut at = last.stored;
-    let mut held = 0;
-    let mut k = 0;
-    while k < changes {
-        if word_is(p, list, wide(word(case, at)), word(case, after(at, 1))) {
-            held = after(held, 1);
-        }
-        at = after(at, 2);
-        k += 1;
-    }
-    held
+pub fn ends_of(case: &[u8], list: u64) -> [u16; 4097]
+    ensures { λ r. ⌜ 4097 ≡ length r ⌝ }
+{
+    let mut out = [0u16; 4097];
+    load_ends(case, list, &mut out);
+    out
 }
 
-fn flags_held(case: &[u8], p: Place, list: &[u8]) -> u64 {
-    let changes = wide(word(case, CHANGES));
-    let last = place_of(case, LISTS);
-    let mut at = last.stored;
-    let mut held = 0;
-    let mut k = 0;
-    while k < changes {
-        if flag_is(p, list, wide(word(case, at)), word(case, after(at, 1))) {
-            held = after(held, 1);
-        }
-        at = after(at, 2);
-        k += 1;
-    }
-    held
-}
-
-pub fn compare_words(case: &[u8], list: u64, after_call: &[i32]) -> Compared {
-    let p = place_of(case, list);
-    let differ = words_differ(case, p, after_call);
-    let held = words_held(case, p, after_call);
-    Compared { differ, held }
-}
-
-pub fn compare_flags(case: &[u8], list: u64, after_call: &[u8]) -> Compared {
-    let p = place_of(case, list);
-    let differ = flags_differ(case, p, after_call);
-    let held = flags_held(case, p, after_call);
-    Compared { differ, held }
+pub fn sheet_of(case: &[u8], list: u64) -> [i32; 65537]
+    ensures { λ r. ⌜ 65537 ≡ length r ⌝ }
+{
+    let mut out = [0i32; 65537];
+    load_words(case, list, &mut out);
+    out
 }

@@ -2,6 +2,7 @@
 //
 // A row is eight little-endian words: the call, up to four arguments, 0, the answer's number and the result (docs/ORACLE.md). What
 // this prints is held to the file `stdout`; the rows stand in the file `stdin`.
+use cases::mode_of;
 use int::from_bits;
 use libc::STDIN_FILENO;
 use round::RoundMode;
@@ -27,19 +28,6 @@ fn math_result(op: u32, a: i32, b: i32, c: i32) -> i32 {
         5 => math::mul(a, b),
         6 => math::div(a, b),
         _ => math::mul_div(a, b, c),
-    }
-}
-
-fn mode_of(n: u32) -> RoundMode {
-    match n {
-        0 => RoundMode::Grid,
-        1 => RoundMode::HalfGrid,
-        2 => RoundMode::DoubleGrid,
-        3 => RoundMode::DownToGrid,
-        4 => RoundMode::UpToGrid,
-        5 => RoundMode::Off,
-        6 => RoundMode::Super,
-        _ => RoundMode::Super45,
     }
 }
 

@@ -1,9 +1,9 @@
--- `cases::words_held` is safe and ends: each turn passes one element. Assumes nothing.
+-- `compare::words_held` is safe and ends: each turn passes one element. Assumes nothing.
 use Prim.Native.Nat.{_-_}
 use native.Mathlib.Omega.{arith}
 use borrow.Author.Needs.{needs}
-use Rattle.cases.proofs.words_held.Statement.{statement}
-use Rattle.cases.proofs.words_held.Tie as tie
+use Rattle.compare.proofs.words_held.Statement.{statement}
+use Rattle.compare.proofs.words_held.Tie as tie
 
 abbrev Inv-loop : tie.InvT-loop
 Inv-loop case p list changes at₀ held₀ k₀ at held k = Unit {0}

@@ -1,15 +1,15 @@
--- `cases::flags_held` is safe and ends: each turn passes one element. Assumes nothing.
+-- `compare::state_held` is safe and ends: each turn passes one change. Assumes nothing.
 use Prim.Native.Nat.{_-_}
 use native.Mathlib.Omega.{arith}
 use borrow.Author.Needs.{needs}
-use Rattle.cases.proofs.flags_held.Statement.{statement}
-use Rattle.cases.proofs.flags_held.Tie as tie
+use Rattle.compare.proofs.state_held.Statement.{statement}
+use Rattle.compare.proofs.state_held.Tie as tie
 
 abbrev Inv-loop : tie.InvT-loop
-Inv-loop case p list changes at₀ held₀ k₀ at held k = Unit {0}
+Inv-loop case s changes at₀ held₀ k₀ at held k = Unit {0}
 
 abbrev μ-loop : tie.MeasureT-loop
-μ-loop case p list changes at₀ held₀ k₀ at held k = changes - k
+μ-loop case s changes at₀ held₀ k₀ at held k = changes - k
 
 word-requires : tie.Need-word-requires Inv-loop μ-loop
 word-requires c κs = tt
@@ -35,8 +35,8 @@ after-requires c κs = tt
 word-requires-3 : tie.Need-word-requires-3 Inv-loop μ-loop
 word-requires-3 c κs = tt
 
-flag-is-requires : tie.Need-flag-is-requires Inv-loop μ-loop
-flag-is-requires c κs = tt
+state-word-is-requires : tie.Need-state-word-is-requires Inv-loop μ-loop
+state-word-is-requires c κs = tt
 
 after-requires-2 : tie.Need-after-requires-2 Inv-loop μ-loop
 after-requires-2 c κs = tt
@@ -56,8 +56,8 @@ loop-again c = tt
 returns : tie.Need-returns Inv-loop μ-loop
 returns c = tt
 
-pub flags-held-spec : {M : Type 1} → statement M
-flags-held-spec =
+pub state-held-spec : {M : Type 1} → statement M
+state-held-spec =
     tie.close
     (tie.spec
     Inv-loop
@@ -70,7 +70,7 @@ flags-held-spec =
     wide-requires-2
     after-requires
     word-requires-3
-    flag-is-requires
+    state-word-is-requires
     after-requires-2
     after-requires-3
     add-k

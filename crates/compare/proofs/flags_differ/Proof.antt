@@ -1,10 +1,10 @@
--- `cases::flags_differ` is safe and ends: each turn passes one element. Assumes nothing.
+-- `compare::flags_differ` is safe and ends: each turn passes one element. Assumes nothing.
 use Prim.Native.Nat.{_-_}
 use native.Mathlib.Omega.{arith}
 use borrow.Author.Needs.{needs}
 use lib.ListN.{length}
-use Rattle.cases.proofs.flags_differ.Statement.{statement}
-use Rattle.cases.proofs.flags_differ.Tie as tie
+use Rattle.compare.proofs.flags_differ.Statement.{statement}
+use Rattle.compare.proofs.flags_differ.Tie as tie
 
 abbrev Inv-loop : tie.InvT-loop
 Inv-loop case p list differ₀ j₀ differ j = Unit {0}

@@ -1,0 +1,403 @@
+// What a call said and left, against what a case of the oracle's stream says (docs/ORACLE.md).
+//
+// A case names the words of lists and state that the call changes, each with its new value, and says of every other that it stays. So two
+// counts decide: of the words that differ from before, and of the named changes that were made. Lists that a call isn't given can't change:
+// they need no comparing, for a change that the case names there is missing from both counts. Nothing is promised here but
+// that every function is safe and ends.
+use answer::Call;
+use answer::Refusal;
+use cases::CHANGES;
+use cases::LISTS;
+use cases::Place;
+use cases::STATE;
+use cases::STATE_WORDS;
+use cases::after;
+use cases::element;
+use cases::long;
+use cases::number;
+use cases::place_of;
+use cases::wide;
+use cases::word;
+use graphics::Facts;
+use graphics::GraphicsState;
+use graphics::References;
+use graphics::Vectors;
+use graphics::ZonePointer;
+use graphics::ZonePointers;
+use int::equal;
+use int::to_bits;
+use round::RoundMode;
+use round::RoundState;
+
+// ---- what a call says
+// Its answer and its two result words.
+pub struct Said {
+    pub number: u32,
+    pub place: u64,
+    pub lines: u64,
+    pub detail: u64,
+    pub x: i32,
+    pub y: i32,
+}
+
+impl Said {
+    // A direct call says no place and no lines.
+    pub fn done(x: i32, y: i32) -> Said {
+        Said {
+            number: 0,
+            place: 0,
+            lines: 0,
+            detail: 0,
+            x,
+            y,
+        }
+    }
+
+    pub fn refused(why: Refusal) -> Said {
+        Said {
+            number: why.number(),
+            place: 0,
+            lines: 0,
+            detail: why.detail(),
+            x: 0,
+            y: 0,
+        }
+    }
+
+    pub fn of_call(call: Call) -> Said {
+        match call {
+            Call::Refused(why) => Said::refused(why),
+            Call::Done => Said::done(0, 0),
+        }
+    }
+
+    fn is_said(self, case: &[u8]) -> bool {
+        word(case, 14) == self.number
+            && long(case, 15) == self.place
+            && long(case, 17) == self.lines
+            && long(case, 19) == self.detail
+            && equal(number(case, 21), self.x)
+            && equal(number(case, 22), self.y)
+    }
+
+    // Whether a call that said this and left that is the call of the case.
+    pub fn agrees(self, left: Compared, case: &[u8]) -> bool {
+        self.is_said(case) & left.is_all(case)
+    }
+}
+
+// ---- what a call left
+// Whether the case's changes stand in the order of their indices, so that none is named twice.
+fn named_once(case: &[u8]) -> bool {
+    let changes = wide(word(case, CHANGES));
+    let last = place_of(case, LISTS);
+    let mut at = last.stored;
+    let mut least = 0;
+    let mut k = 0;
+    while k < changes {
+        let index = wide(word(case, at));
+        if index < least {
+            return false;
+        }
+        least = after(index, 1);
+        at = after(at, 2);
+        k += 1;
+    }
+    true
+}
+
+// A list is right where as many elements differ from before as the changes name in it, and it holds each of these changes.
+pub struct Compared {
+    // Elements that differ from before.
+    pub differ: u64,
+    // Changes that the list holds.
+    pub held: u64,
+}
+
+impl Compared {
+    pub fn nothing() -> Compared {
+        Compared { differ: 0, held: 0 }
+    }
+
+    pub fn and(self, other: Compared) -> Compared {
+        Compared {
+            differ: after(self.differ, other.differ),
+            held: after(self.held, other.held),
+        }
+    }
+
+    // Whether the changes that the case names are those that were made.
+    fn is_all(self, case: &[u8]) -> bool {
+        let changes = wide(word(case, CHANGES));
+        self.differ == changes && self.held == changes && named_once(case)
+    }
+}
+
+// ---- the lists
+fn wide_flag(x: u8) -> u32 {
+    x as u32
+}
+
+fn words_differ(case: &[u8], p: Place, list: &[i32]) -> u64 {
+    let mut differ = 0;
+    let mut j = 0;
+    while j < list.len() {
+        if to_bits(list[j]) != element(case, p, j as u64) {
+            differ = after(differ, 1);
+        }
+        j += 1;
+    }
+    differ
+}
+
+fn flags_differ(case: &[u8], p: Place, list: &[u8]) -> u64 {
+    let mut differ = 0;
+    let mut j = 0;
+    while j < list.len() {
+        if wide_flag(list[j]) != element(case, p, j as u64) {
+            differ = after(differ, 1);
+        }
+        j += 1;
+    }
+    differ
+}
+
+// Whether a change of the list is one, and the list holds it.
+fn word_is(case: &[u8], p: Place, list: &[i32], index: u64, new: u32) -> bool {
+    if index < p.index {
+        return false;
+    }
+    let k = index - p.index;
+    let j = k as usize;
+    if j < list.len() {
+        (to_bits(list[j]) == new) & (element(case, p, k) != new)
+    } else {
+        false
+    }
+}
+
+fn flag_is(case: &[u8], p: Place, list: &[u8], index: u64, new: u32) -> bool {
+    if index < p.index {
+        return false;
+    }
+    let k = index - p.index;
+    let j = k as usize;
+    if j < list.len() {
+        (wide_flag(list[j]) == new) & (element(case, p, k) != new)
+    } else {
+        false
+    }
+}
+
+fn words_held(case: &[u8], p: Place, list: &[i32]) -> u64 {
+    let changes = wide(word(case, CHANGES));
+    let last = place_of(case, LISTS);
+    let mut at = last.stored;
+    let mut held = 0;
+    let mut k = 0;
+    while k < changes {
+        if word_is(
+            case,
+            p,
+            list,
+            wide(word(case, at)),
+            word(case, after(at, 1)),
+        ) {
+            held = after(held, 1);
+        }
+        at = after(at, 2);
+        k += 1;
+    }
+    held
+}
+
+fn flags_held(case: &[u8], p: Place, list: &[u8]) -> u64 {
+    let changes = wide(word(case, CHANGES));
+    let last = place_of(case, LISTS);
+    let mut at = last.stored;
+    let mut held = 0;
+    let mut k = 0;
+    while k < changes {
+        if flag_is(
+            case,
+            p,
+            list,
+            wide(word(case, at)),
+            word(case, after(at, 1)),
+        ) {
+            held = after(held, 1);
+        }
+        at = after(at, 2);
+        k += 1;
+    }
+    held
+}
+
+pub fn compare_words(case: &[u8], list: u64, after_call: &[i32]) -> Compared {
+    let p = place_of(case, list);
+    let differ = words_differ(case, p, after_call);
+    let held = words_held(case, p, after_call);
+    Compared { differ, held }
+}
+
+pub fn compare_flags(case: &[u8], list: u64, after_call: &[u8]) -> Compared {
+    let p = place_of(case, list);
+    let differ = flags_differ(case, p, after_call);
+    let held = flags_held(case, p, after_call);
+    Compared { differ, held }
+}
+
+// Two lists that stand side by side.
+pub fn compare_pair(case: &[u8], first: u64, xs: &[i32], ys: &[i32]) -> Compared {
+    let x = compare_words(case, first, xs);
+    let y = compare_words(case, after(first, 1), ys);
+    x.and(y)
+}
+
+// The places that a zone has now, and its flags.
+pub fn compare_placed(case: &[u8], first: u64, xs: &[i32], ys: &[i32], flags: &[u8]) -> Compared {
+    let places = compare_pair(case, first, xs, ys);
+    let marks = compare_flags(case, after(first, 2), flags);
+    places.and(marks)
+}
+
+// ---- the state after the call
+fn vector_word(v: Vectors, k: u64) -> u32 {
+    match k {
+        0 => to_bits(v.projection.x),
+        1 => to_bits(v.projection.y),
+        2 => to_bits(v.dual.x),
+        3 => to_bits(v.dual.y),
+        4 => to_bits(v.freedom.x),
+        _ => to_bits(v.freedom.y),
+    }
+}
+
+fn mode_number(mode: RoundMode) -> u32 {
+    match mode {
+        RoundMode::Grid => 0,
+        RoundMode::HalfGrid => 1,
+        RoundMode::DoubleGrid => 2,
+        RoundMode::DownToGrid => 3,
+        RoundMode::UpToGrid => 4,
+        RoundMode::Off => 5,
+        RoundMode::Super => 6,
+        RoundMode::Super45 => 7,
+    }
+}
+
+fn round_word(r: RoundState, k: u64) -> u32 {
+    let mode = r.mode;
+    match k {
+        6 => mode_number(mode),
+        7 => to_bits(r.threshold),
+        8 => to_bits(r.phase),
+        _ => to_bits(r.period),
+    }
+}
+
+fn low_word(x: u64) -> u32 {
+    (x % 0x1_0000_0000) as u32
+}
+
+fn high_word(x: u64) -> u32 {
+    (x / 0x1_0000_0000) as u32
+}
+
+fn reference_word(r: References, k: u64) -> u32 {
+    match k {
+        10 => low_word(r.rp0),
+        11 => high_word(r.rp0),
+        12 => low_word(r.rp1),
+        13 => high_word(r.rp1),
+        14 => low_word(r.rp2),
+        _ => high_word(r.rp2),
+    }
+}
+
+fn zone_number(zone: ZonePointer) -> u32 {
+    match zone {
+        ZonePointer::Twilight => 0,
+        ZonePointer::Glyph => 1,
+    }
+}
+
+fn pointer_word(p: ZonePointers, k: u64) -> u32 {
+    let zp0 = p.zp0;
+    let zp1 = p.zp1;
+    let zp2 = p.zp2;
+    match k {
+        17 => zone_number(zp0),
+        18 => zone_number(zp1),
+        _ => zone_number(zp2),
+    }
+}
+
+fn truth(yes: bool) -> u32 {
+    if yes { 1 } else { 0 }
+}
+
+fn fact_word(f: Facts, k: u64) -> u32 {
+    match k {
+        20 => truth(f.backward_compatibility),
+        21 => truth(f.pedantic),
+        22 => truth(f.native_clear_type_x),
+        23 => truth(f.did_iup_x),
+        _ => truth(f.did_iup_y),
+    }
+}
+
+// Word k of a state, in the order of the words that `state_of` reads.
+pub fn state_word(s: GraphicsState, k: u64) -> u32 {
+    match k {
+        0..=5 => vector_word(s.vectors, k),
+        6..=9 => round_word(s.round, k),
+        10..=15 => reference_word(s.references, k),
+        16 => s.loop_counter,
+        17..=19 => pointer_word(s.pointers, k),
+        20..=24 => fact_word(s.facts, k),
+        _ => to_bits(s.cut_in),
+    }
+}
+
+fn state_differs(case: &[u8], s: GraphicsState) -> u64 {
+    let mut differ = 0;
+    let mut k = 0;
+    while k < STATE_WORDS {
+        if state_word(s, k) != word(case, after(STATE, k)) {
+            differ = after(differ, 1);
+        }
+        k += 1;
+    }
+    differ
+}
+
+fn state_word_is(case: &[u8], s: GraphicsState, index: u64, new: u32) -> bool {
+    if index < STATE_WORDS {
+        (state_word(s, index) == new) & (word(case, after(STATE, index)) != new)
+    } else {
+        false
+    }
+}
+
+fn state_held(case: &[u8], s: GraphicsState) -> u64 {
+    let changes = wide(word(case, CHANGES));
+    let last = place_of(case, LISTS);
+    let mut at = last.stored;
+    let mut held = 0;
+    let mut k = 0;
+    while k < changes {
+        if state_word_is(case, s, wide(word(case, at)), word(case, after(at, 1))) {
+            held = after(held, 1);
+        }
+        at = after(at, 2);
+        k += 1;
+    }
+    held
+}
+
+pub fn compare_state(case: &[u8], after_call: GraphicsState) -> Compared {
+    let differ = state_differs(case, after_call);
+    let held = state_held(case, after_call);
+    Compared { differ, held }
+}

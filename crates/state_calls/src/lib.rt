@@ -1,0 +1,223 @@
+// The oracle's calls over a state and both zones, move_original to point_displacement: each made on a case's lists, and judged by the case
+// (docs/ORACLE.md).
+//
+// Word 2 of a case says which zone, words 3 and 4 which point, word 7 a choice, words 8 and 9 distances. A call tests the sizes of the lists
+// that it is given; the other lists of the zones are tested here, by the lengths in the case. Nothing is promised here but
+// that every function is safe and ends.
+use answer::Call;
+use answer::Refusal;
+use cases::KIND;
+use cases::flags_of;
+use cases::glyph_fits;
+use cases::length_of;
+use cases::long;
+use cases::number;
+use cases::state_of;
+use cases::twilight_fits;
+use cases::word;
+use cases::words_of;
+use cases::zone_of;
+use compare::Compared;
+use compare::Said;
+use compare::compare_pair;
+use compare::compare_placed;
+use moves::Displaced;
+
+// ---- move_original
+fn original_agrees_over(
+    case: &[u8],
+    ox: &mut [i32],
+    oy: &mut [i32],
+    tox: &mut [i32],
+    toy: &mut [i32],
+) -> bool {
+    let s = state_of(case);
+    let zone = zone_of(word(case, 2));
+    let at = long(case, 3);
+    let distance = number(case, 8);
+    let call = direct::try_move_original(s, zone, at, distance, ox, oy, tox, toy);
+    let glyph = compare_pair(case, 2, ox, oy);
+    let twilight = compare_pair(case, 8, tox, toy);
+    Said::of_call(call).agrees(glyph.and(twilight), case)
+}
+
+fn original_agrees(case: &[u8]) -> bool {
+    let mut ox = words_of(case, 2);
+    let mut oy = words_of(case, 3);
+    let mut tox = words_of(case, 8);
+    let mut toy = words_of(case, 9);
+    let n2 = length_of(case, 2, 16385);
+    let n3 = length_of(case, 3, 16385);
+    let n8 = length_of(case, 8, 16385);
+    let n9 = length_of(case, 9, 16385);
+    original_agrees_over(
+        case,
+        &mut ox[..n2],
+        &mut oy[..n3],
+        &mut tox[..n8],
+        &mut toy[..n9],
+    )
+}
+
+// ---- move_point and move_zp2_point
+fn moved_point(
+    case: &[u8],
+    cx: &mut [i32],
+    cy: &mut [i32],
+    flags: &mut [u8],
+    tcx: &mut [i32],
+    tcy: &mut [i32],
+    tflags: &mut [u8],
+) -> Call {
+    let s = state_of(case);
+    let zone = zone_of(word(case, 2));
+    let at = long(case, 3);
+    let distance = number(case, 8);
+    direct::try_move_point(s, zone, at, distance, cx, cy, flags, tcx, tcy, tflags)
+}
+
+fn moved_zp2_point(
+    case: &[u8],
+    cx: &mut [i32],
+    cy: &mut [i32],
+    flags: &mut [u8],
+    tcx: &mut [i32],
+    tcy: &mut [i32],
+    tflags: &mut [u8],
+) -> Call {
+    let s = state_of(case);
+    let at = long(case, 3);
+    let touches = word(case, 7) == 1;
+    let dx = number(case, 8);
+    let dy = number(case, 9);
+    direct::try_move_zp2_point(s, at, dx, dy, touches, cx, cy, flags, tcx, tcy, tflags)
+}
+
+fn moved(
+    case: &[u8],
+    cx: &mut [i32],
+    cy: &mut [i32],
+    flags: &mut [u8],
+    tcx: &mut [i32],
+    tcy: &mut [i32],
+    tflags: &mut [u8],
+) -> Call {
+    if word(case, KIND) == 11 {
+        moved_point(case, cx, cy, flags, tcx, tcy, tflags)
+    } else {
+        moved_zp2_point(case, cx, cy, flags, tcx, tcy, tflags)
+    }
+}
+
+fn move_agrees_over(
+    case: &[u8],
+    cx: &mut [i32],
+    cy: &mut [i32],
+    flags: &mut [u8],
+    tcx: &mut [i32],
+    tcy: &mut [i32],
+    tflags: &mut [u8],
+) -> bool {
+    let call = moved(case, cx, cy, flags, tcx, tcy, tflags);
+    let glyph = compare_placed(case, 4, cx, cy, flags);
+    let twilight = compare_placed(case, 10, tcx, tcy, tflags);
+    Said::of_call(call).agrees(glyph.and(twilight), case)
+}
+
+fn move_agrees(case: &[u8]) -> bool {
+    let mut cx = words_of(case, 4);
+    let mut cy = words_of(case, 5);
+    let mut flags = flags_of(case, 6);
+    let mut tcx = words_of(case, 10);
+    let mut tcy = words_of(case, 11);
+    let mut tflags = flags_of(case, 12);
+    let n4 = length_of(case, 4, 16385);
+    let n5 = length_of(case, 5, 16385);
+    let n6 = length_of(case, 6, 16385);
+    let n10 = length_of(case, 10, 16385);
+    let n11 = length_of(case, 11, 16385);
+    let n12 = length_of(case, 12, 16385);
+    move_agrees_over(
+        case,
+        &mut cx[..n4],
+        &mut cy[..n5],
+        &mut flags[..n6],
+        &mut tcx[..n10],
+        &mut tcy[..n11],
+        &mut tflags[..n12],
+    )
+}
+
+// ---- point_displacement
+fn displaced_from(
+    case: &[u8],
+    ox: &[i32],
+    oy: &[i32],
+    cx: &[i32],
+    cy: &[i32],
+    tox: &[i32],
+    toy: &[i32],
+    tcx: &[i32],
+    tcy: &[i32],
+) -> Displaced {
+    let opcode = word(case, 7) as usize;
+    direct::try_point_displacement(state_of(case), opcode, ox, oy, cx, cy, tox, toy, tcx, tcy)
+}
+
+// With the glyph's lists, the twilight zone's are read.
+fn displaced_with(case: &[u8], ox: &[i32], oy: &[i32], cx: &[i32], cy: &[i32]) -> Displaced {
+    let tox = words_of(case, 8);
+    let toy = words_of(case, 9);
+    let tcx = words_of(case, 10);
+    let tcy = words_of(case, 11);
+    let n8 = length_of(case, 8, 16385);
+    let n9 = length_of(case, 9, 16385);
+    let n10 = length_of(case, 10, 16385);
+    let n11 = length_of(case, 11, 16385);
+    displaced_from(
+        case,
+        ox,
+        oy,
+        cx,
+        cy,
+        &tox[..n8],
+        &toy[..n9],
+        &tcx[..n10],
+        &tcy[..n11],
+    )
+}
+
+fn displaced(case: &[u8]) -> Displaced {
+    let ox = words_of(case, 2);
+    let oy = words_of(case, 3);
+    let cx = words_of(case, 4);
+    let cy = words_of(case, 5);
+    let n2 = length_of(case, 2, 16385);
+    let n3 = length_of(case, 3, 16385);
+    let n4 = length_of(case, 4, 16385);
+    let n5 = length_of(case, 5, 16385);
+    displaced_with(case, &ox[..n2], &oy[..n3], &cx[..n4], &cy[..n5])
+}
+
+fn of_displaced(displaced: Displaced) -> Said {
+    match displaced {
+        Displaced::Refused(why) => Said::refused(why),
+        Displaced::By(d) => Said::done(d.dx, d.dy),
+    }
+}
+
+fn displacement_agrees(case: &[u8]) -> bool {
+    of_displaced(displaced(case)).agrees(Compared::nothing(), case)
+}
+
+// ---- every call
+pub fn agrees(case: &[u8]) -> bool {
+    if !glyph_fits(case) || !twilight_fits(case) {
+        return Said::refused(Refusal::Sizes).agrees(Compared::nothing(), case);
+    }
+    match word(case, KIND) {
+        10 => original_agrees(case),
+        11 | 12 => move_agrees(case),
+        _ => displacement_agrees(case),
+    }
+}
