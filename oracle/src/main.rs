@@ -27,7 +27,7 @@ mod words;
 mod world;
 
 use serve::Stream;
-use std::{path::Path, process::ExitCode};
+use std::{io::Write, path::Path, process::ExitCode};
 
 const USAGE: &str = "\
 usage: oracle/run COMMAND
@@ -39,6 +39,7 @@ usage: oracle/run COMMAND
   claims                   run document 01's numbers and the findings
   compare [--math|--projection] N SEED PROGRAM
                            run the Rust and a program, print differences
+  stream N SEED            write the fixed cases and N random ones, with the Rust's outcomes
   serve cases|math|projection         answer a stream from standard input
   serve-wrongly cases|math|projection the same with one answer wrong
   record FILE              write document 01's whole run as a record
@@ -70,6 +71,7 @@ fn command(arguments: &[&str]) -> Result<bool, String> {
         ["compare", "--math", rest @ ..] => compare(Stream::Math, rest),
         ["compare", "--projection", rest @ ..] => compare(Stream::Projection, rest),
         ["compare", rest @ ..] => compare(Stream::Cases, rest),
+        ["stream", count, seed] => write_stream(count_of(count)?, number(seed)?).map(|()| true),
         ["serve", name] => serve::serve(stream(name)?).map(|()| true),
         ["serve-wrongly", name] => serve::serve_wrongly(stream(name)?).map(|()| true),
         ["record", file] => write_record(file).map(|()| true),
@@ -104,6 +106,19 @@ fn compare(stream: Stream, arguments: &[&str]) -> Result<bool, String> {
         return Err("compare takes N, SEED and a PROGRAM".into());
     };
     compare::compare(stream, count_of(count)?, number(seed)?, program)
+}
+
+/// The cases that `compare` asks about, each with its outcome, as a sample has them.
+fn write_stream(count: usize, seed: u64) -> Result<(), String> {
+    let mut random = random::Random::new(seed);
+    let mut out = std::io::BufWriter::new(std::io::stdout().lock());
+    let fixed = generate::fixed_cases(&mut random);
+    let others = (0..count).map(|_| generate::any_case(&mut random));
+    for case in fixed.into_iter().chain(others) {
+        let bytes = words::to_bytes(&case.words(&case.outcome()));
+        out.write_all(&bytes).map_err(|error| error.to_string())?;
+    }
+    out.flush().map_err(|error| error.to_string())
 }
 
 fn show_file(file: &str) -> Result<(), String> {
