@@ -1,0 +1,57 @@
+-- What a call from C returns and leaves: a run of document 01 on the state that the words stand for (document 02, K4), or 16, "a word out of
+-- its range". Assumes nothing.
+use Prim.Native.Nat.{ℕ}
+use mathlib.Core.Bool.{Bool, cond, _&&_}
+use mathlib.Core.List.{List, [], _∷_}
+use lib.Dec.{eqb}
+use lib.IntN.{ℤ}
+use lib.ListN.{length}
+use Rattle.lines.specs.World.{Fixed, world}
+use Rattle.replay.specs.Run.{Ran, runOf, numberOfAnswer, detailOfAnswer}
+use Rattle.state_words.specs.Words.{stateWords, stateOf, isState}
+
+-- the number that is returned, and what every list that can change holds afterwards
+pub record Left : Type 0 where
+  pub number : ℕ
+  pub state : List ℕ
+  pub answer : List ℕ
+  pub gx : List ℤ
+  pub gy : List ℤ
+  pub gflags : List ℕ
+  pub tox : List ℤ
+  pub toy : List ℤ
+  pub tx : List ℤ
+  pub ty : List ℤ
+  pub tflags : List ℕ
+
+abbrev pub left : ℕ → List ℕ → List ℕ → List ℤ → List ℤ → List ℕ → List ℤ → List ℤ → List ℤ → List ℤ → List ℕ → Left
+left number state answer gx gy gflags tox toy tx ty tflags =
+    record { number = number; state = state; answer = answer; gx = gx; gy = gy; gflags = gflags; tox = tox; toy = toy; tx = tx; ty = ty; tflags = tflags }
+
+-- number, place, lines and detail, where there are places for exactly these
+abbrev pub answerSize : ℕ
+answerSize = 4
+
+unfoldable pub answered : ℕ → ℕ → ℕ → ℕ → List ℕ → List ℕ
+answered number place lines detail old = cond (eqb (length old) answerSize) (number ∷ place ∷ lines ∷ detail ∷ []) old
+
+-- a word out of its range
+abbrev pub badWord : ℕ
+badWord = 16
+
+unfoldable pub isCall : List ℕ → List ℕ → Bool
+isCall words answer = isState words && eqb (length answer) answerSize
+
+-- what a run leaves
+abbrev pub handedBack : Ran → Left
+handedBack r =
+    let number = numberOfAnswer (r .answer) in
+    let w = r .world in
+    left number (stateWords (w .state)) (number ∷ r .place ∷ r .lines ∷ detailOfAnswer (r .answer) ∷ []) (w .gx) (w .gy) (w .gflags) (w .tox) (w .toy) (w .tx) (w .ty) (w .tflags)
+
+-- words that are no state, or an answer that is not four long, are refused, and only the answer changes
+unfoldable pub callOf : Fixed → List ℤ → ℕ → ℕ → List ℕ → List ℕ → List ℤ → List ℤ → List ℕ → List ℤ → List ℤ → List ℤ → List ℤ → List ℕ → Left
+callOf f sheet budget start words answer gx gy gflags tox toy tx ty tflags =
+    cond (isCall words answer)
+    (handedBack (runOf f sheet budget start (world (stateOf words) gx gy gflags tox toy tx ty tflags)))
+    (left badWord words (answered badWord start 0 0 answer) gx gy gflags tox toy tx ty tflags)

@@ -1,0 +1,234 @@
+-- Reading undoes writing, and writing undoes reading: `read-written` holds of every state whose signed fields are words, as those of a running
+-- program always are, and `written-read` of every list of words that `isState` takes. Assumes nothing.
+use mathlib.Core.Bool.{Bool, _&&_, false, true}
+use mathlib.Core.List.{List, [], _∷_}
+use mir.Val.{SFits}
+use Prim.Native.Nat.{_%_, _*_, _+_, _/_, _<_, _^_, _≤_, suc, zero, ℕ}
+use mathlib.Core.Path.{_∙_, _≡_, ap, ap₂, refl, sym}
+use native.Mathlib.Omega.{arith}
+use lib.Dec.{eqb, leb}
+use borrow.Author.Tests.{eqb-true, leb-true}
+use lib.ListN.{length}
+use mir.Facts.{ofZ-toZ, toZ-ofZ}
+use mir.Syntax.{w32}
+use lib.IntN.{ℤ}
+use Rattle.round.specs.declared.RoundMode.the-variants.{DoubleGrid, DownToGrid, Grid, HalfGrid, Off, Super, Super45, UpToGrid}
+use Rattle.graphics.specs.declared.ZonePointer.the-variants.{Glyph, Twilight}
+use Rattle.graphics.specs.declared.GraphicsState.{GraphicsState}
+use Rattle.round.specs.declared.RoundMode.{RoundMode}
+use Rattle.round.specs.declared.RoundState.{RoundState}
+use Rattle.graphics.specs.declared.Vector.{Vector}
+use Rattle.graphics.specs.declared.Vectors.{Vectors}
+use Rattle.graphics.specs.declared.ZonePointer.{ZonePointer}
+use Rattle.graphics.proofs.Laws.{and-left, and-right}
+use Rattle.int.specs.Word.{bitsOf, ofBits}
+use Rattle.state_words.specs.Words.{factOf, factWord, factsInRange, factsOf, isState, modeOf, modeWord, pointersInRange, pointersOf, referencesOf, roundOf, stateOf, stateSize, stateWords, vectorsOf, wordAt, zoneOf, zoneWord}
+use Rattle.state_words.proofs.Same.{same-facts, same-pointers, same-references, same-round, same-state, same-vector, same-vectors}
+
+-- ---- one word, written and read
+word-read : {z : ℤ} → SFits w32 z → ofBits (bitsOf z) ≡ z
+word-read f = toZ-ofZ f
+
+long-read : (n : ℕ) → n % 2 ^ 32 + n / 2 ^ 32 * 2 ^ 32 ≡ n
+long-read n = omega arith
+
+mode-read : (m : RoundMode) → modeOf (modeWord m) ≡ m
+mode-read Grid = refl
+mode-read HalfGrid = refl
+mode-read DoubleGrid = refl
+mode-read DownToGrid = refl
+mode-read UpToGrid = refl
+mode-read Off = refl
+mode-read Super = refl
+mode-read Super45 = refl
+
+zone-read : (z : ZonePointer) → zoneOf (zoneWord z) ≡ z
+zone-read Twilight = refl
+zone-read Glyph = refl
+
+fact-read : (b : Bool) → factOf (factWord b) ≡ b
+fact-read true = refl
+fact-read false = refl
+
+-- ---- a state, written and read
+abbrev pub VectorFits : Vector → Type 0
+VectorFits v = SFits w32 (v .x) × SFits w32 (v .y)
+
+abbrev pub VectorsFit : Vectors → Type 0
+VectorsFit v = VectorFits (v .projection) × VectorFits (v .dual) × VectorFits (v .freedom)
+
+abbrev pub RoundFits : RoundState → Type 0
+RoundFits r = SFits w32 (r .threshold) × SFits w32 (r .phase) × SFits w32 (r .period)
+
+-- each signed field is a word: from -2 ^ 31 up to 2 ^ 31 - 1
+pub record StateFits (s : GraphicsState) : Type 0 where
+  pub vectors : VectorsFit (s .vectors)
+  pub round : RoundFits (s .round)
+  pub cut-in : SFits w32 (s .«cut_in»)
+
+vector-read : (v : Vector) → VectorFits v → record { x = ofBits (bitsOf (v .x)); y = ofBits (bitsOf (v .y)) } ≡ v
+vector-read v f = same-vector (word-read (f .0)) (word-read (f .1))
+
+vectors-read : (s : GraphicsState) → VectorsFit (s .vectors) → vectorsOf (stateWords s) ≡ s .vectors
+unfolding stateWords
+vectors-read s f =
+    same-vectors (vector-read (s .vectors .projection) (f .0)) (vector-read (s .vectors .dual) (f .1)) (vector-read (s .vectors .freedom) (f .2))
+
+round-read : (s : GraphicsState) → RoundFits (s .round) → roundOf (stateWords s) ≡ s .round
+unfolding stateWords
+round-read s f = same-round (mode-read (s .round .mode)) (word-read (f .0)) (word-read (f .1)) (word-read (f .2))
+
+references-read : (s : GraphicsState) → referencesOf (stateWords s) ≡ s .references
+unfolding stateWords
+references-read s = same-references (long-read (s .references .rp0)) (long-read (s .references .rp1)) (long-read (s .references .rp2))
+
+pointers-read : (s : GraphicsState) → pointersOf (stateWords s) ≡ s .pointers
+unfolding stateWords
+pointers-read s = same-pointers (zone-read (s .pointers .zp0)) (zone-read (s .pointers .zp1)) (zone-read (s .pointers .zp2))
+
+facts-read : (s : GraphicsState) → factsOf (stateWords s) ≡ s .facts
+unfolding stateWords
+facts-read s =
+    let f = s .facts in
+    same-facts (fact-read (f .«backward_compatibility»)) (fact-read (f .pedantic)) (fact-read (f .«native_clear_type_x»)) (fact-read (f .«did_iup_x»)) (fact-read (f .«did_iup_y»))
+
+pub read-written : (s : GraphicsState) → StateFits s → stateOf (stateWords s) ≡ s
+unfolding stateOf stateWords
+read-written s f =
+    same-state (vectors-read s (f .vectors)) (round-read s (f .round)) (references-read s) refl (pointers-read s) (word-read (f .cut-in)) (facts-read s)
+
+-- ---- one word, read and written
+word-written : (n : ℕ) → n < 2 ^ 32 → bitsOf (ofBits n) ≡ n
+word-written n h = ofZ-toZ {w = w32} (record { fits = h })
+
+low-written : (l h : ℕ) → l < 2 ^ 32 → (l + h * 2 ^ 32) % 2 ^ 32 ≡ l
+low-written l h f = omega arith
+
+high-written : (l h : ℕ) → l < 2 ^ 32 → (l + h * 2 ^ 32) / 2 ^ 32 ≡ h
+high-written l h f = omega arith
+
+mode-written : (n : ℕ) → n ≤ 7 → modeWord (modeOf n) ≡ n
+mode-written zero h = refl
+mode-written (suc zero) h = refl
+mode-written (suc (suc zero)) h = refl
+mode-written (suc (suc (suc zero))) h = refl
+mode-written (suc (suc (suc (suc zero)))) h = refl
+mode-written (suc (suc (suc (suc (suc zero))))) h = refl
+mode-written (suc (suc (suc (suc (suc (suc zero)))))) h = refl
+mode-written (suc (suc (suc (suc (suc (suc (suc zero))))))) h = refl
+mode-written (suc (suc (suc (suc (suc (suc (suc (suc n)))))))) h = absurd (omega arith)
+
+zone-written : (n : ℕ) → n ≤ 1 → zoneWord (zoneOf n) ≡ n
+zone-written zero h = refl
+zone-written (suc zero) h = refl
+zone-written (suc (suc n)) h = absurd (omega arith)
+
+fact-written : (n : ℕ) → n ≤ 1 → factWord (factOf n) ≡ n
+fact-written zero h = refl
+fact-written (suc zero) h = refl
+fact-written (suc (suc n)) h = absurd (omega arith)
+
+-- ---- a list, word by word
+-- n words of ws, the first of them word k
+abbrev listed : ℕ → ℕ → List ℕ → List ℕ
+listed k zero ws = []
+listed k (suc n) ws = wordAt ws k ∷ listed (suc k) n ws
+
+listed-tail : (k n x : ℕ) (ws : List ℕ) → listed (suc k) n (x ∷ ws) ≡ listed k n ws
+listed-tail k zero x ws = refl
+listed-tail k (suc n) x ws = ap (λ (t : List ℕ). wordAt ws k ∷ t) (listed-tail (suc k) n x ws)
+
+listed-all : (ws : List ℕ) → listed 0 (length ws) ws ≡ ws
+listed-all [] = refl
+listed-all (x ∷ ws) = ap (λ (t : List ℕ). x ∷ t) (listed-tail 0 (length ws) x ws ∙ listed-all ws)
+
+cons : {a b : ℕ} {l m : List ℕ} → a ≡ b → l ≡ m → a ∷ l ≡ b ∷ m
+cons e es = ap₂ (λ (x : ℕ) (xs : List ℕ). x ∷ xs) e es
+
+-- ---- words, read and written
+-- what `isState` says of each word
+module _ (ws : List ℕ) (e : isState ws ≡ true) where
+  all-in : (eqb (length ws) stateSize && leb (wordAt ws 6) 7) && pointersInRange ws && factsInRange ws ≡ true
+  unfolding isState
+  all-in = e
+
+  first-three : (eqb (length ws) stateSize && leb (wordAt ws 6) 7) && pointersInRange ws ≡ true
+  first-three = and-left _ (factsInRange ws) all-in
+
+  first-two : eqb (length ws) stateSize && leb (wordAt ws 6) 7 ≡ true
+  first-two = and-left _ (pointersInRange ws) first-three
+
+  pub size-is : length ws ≡ stateSize
+  size-is = eqb-true (length ws) stateSize (and-left _ (leb (wordAt ws 6) 7) first-two)
+
+  mode-in : wordAt ws 6 ≤ 7
+  mode-in = leb-true (wordAt ws 6) 7 (and-right (eqb (length ws) stateSize) _ first-two)
+
+  pointers-in : pointersInRange ws ≡ true
+  pointers-in = and-right (eqb (length ws) stateSize && leb (wordAt ws 6) 7) _ first-three
+
+  facts-in : factsInRange ws ≡ true
+  facts-in = and-right ((eqb (length ws) stateSize && leb (wordAt ws 6) 7) && pointersInRange ws) _ all-in
+
+abbrev small : List ℕ → ℕ → Bool
+small ws k = leb (wordAt ws k) 1
+
+module _ (ws : List ℕ) (in-range : isState ws ≡ true) where
+  abbrev f4 : small ws 20 && small ws 21 && small ws 22 && small ws 23 ≡ true
+  f4 = and-left _ (small ws 24) (facts-in ws in-range)
+
+  abbrev f3 : small ws 20 && small ws 21 && small ws 22 ≡ true
+  f3 = and-left _ (small ws 23) f4
+
+  zone-at : (k : ℕ) → small ws k ≡ true → zoneWord (zoneOf (wordAt ws k)) ≡ wordAt ws k
+  zone-at k e = zone-written (wordAt ws k) (leb-true (wordAt ws k) 1 e)
+
+  fact-at : (k : ℕ) → small ws k ≡ true → factWord (factOf (wordAt ws k)) ≡ wordAt ws k
+  fact-at k e = fact-written (wordAt ws k) (leb-true (wordAt ws k) 1 e)
+
+  zone-words : (zoneWord (zoneOf (wordAt ws 17)) ≡ wordAt ws 17) × (zoneWord (zoneOf (wordAt ws 18)) ≡ wordAt ws 18) × (zoneWord (zoneOf (wordAt ws 19)) ≡ wordAt ws 19)
+  zone-words =
+      let p = pointers-in ws in-range in
+      let two : small ws 17 && small ws 18 ≡ true = and-left _ (small ws 19) p in
+      (zone-at 17 (and-left _ (small ws 18) two), zone-at 18 (and-right (small ws 17) _ two), zone-at 19 (and-right (small ws 17 && small ws 18) _ p))
+
+  fact-words :
+      (factWord (factOf (wordAt ws 20)) ≡ wordAt ws 20)
+      × (factWord (factOf (wordAt ws 21)) ≡ wordAt ws 21)
+      × (factWord (factOf (wordAt ws 22)) ≡ wordAt ws 22)
+      × (factWord (factOf (wordAt ws 23)) ≡ wordAt ws 23)
+      × (factWord (factOf (wordAt ws 24)) ≡ wordAt ws 24)
+  fact-words =
+      let two : small ws 20 && small ws 21 ≡ true = and-left _ (small ws 22) f3 in (
+        fact-at 20 (and-left _ (small ws 21) two),
+        fact-at 21 (and-right (small ws 20) _ two),
+        fact-at 22 (and-right (small ws 20 && small ws 21) _ f3),
+        fact-at 23 (and-right (small ws 20 && small ws 21 && small ws 22) _ f4),
+        fact-at 24 (and-right (small ws 20 && small ws 21 && small ws 22 && small ws 23) _ (facts-in ws in-range)),
+      )
+
+  module _ (fit : (k : ℕ) → wordAt ws k < 2 ^ 32) where
+    num : (k : ℕ) → bitsOf (ofBits (wordAt ws k)) ≡ wordAt ws k
+    num k = word-written (wordAt ws k) (fit k)
+
+    low : (k j : ℕ) → (wordAt ws k + wordAt ws j * 2 ^ 32) % 2 ^ 32 ≡ wordAt ws k
+    low k j = low-written (wordAt ws k) (wordAt ws j) (fit k)
+
+    high : (k j : ℕ) → (wordAt ws k + wordAt ws j * 2 ^ 32) / 2 ^ 32 ≡ wordAt ws j
+    high k j = high-written (wordAt ws k) (wordAt ws j) (fit k)
+
+    each : stateWords (stateOf ws) ≡ listed 0 stateSize ws
+    unfolding stateWords stateOf
+    each =
+        let z = zone-words in
+        let f = fact-words in
+        cons (num 0) (cons (num 1) (cons (num 2) (cons (num 3) (cons (num 4) (cons (num 5)
+        (cons (mode-written (wordAt ws 6) (mode-in ws in-range)) (cons (num 7) (cons (num 8) (cons (num 9)
+        (cons (low 10 11) (cons (high 10 11) (cons (low 12 13) (cons (high 12 13) (cons (low 14 15) (cons (high 14 15)
+        (cons refl
+        (cons (z .0) (cons (z .1) (cons (z .2)
+        (cons (f .0) (cons (f .1) (cons (f .2) (cons (f .3) (cons (f .4)
+        (cons (num 25) refl)))))))))))))))))))))))))
+
+    pub written-read : stateWords (stateOf ws) ≡ ws
+    written-read = each ∙ ap (λ (n : ℕ). listed 0 n ws) (sym (size-is ws in-range)) ∙ listed-all ws

@@ -1,0 +1,4 @@
+mod Parts
+mod Places
+mod Same
+pub mod Back

@@ -1,0 +1,73 @@
+-- `state_words::facts_of` meets its contract. Assumes nothing.
+use mathlib.Core.Path.{_∙_, ap}
+use borrow.Author.Needs.{needs}
+use Rattle.state_words.specs.Words.{factOf}
+use Rattle.state_words.proofs.Same.{same-facts}
+use Rattle.state_words.proofs.facts_of.Tie as tie
+use Rattle.state_words.proofs.facts_of.Statement.{statement}
+
+word-requires : tie.Need-word-requires
+word-requires c κs = tt
+
+fact-of-requires : tie.Need-fact-of-requires
+fact-of-requires c κs = tt
+
+add-word : tie.Need-add-word
+add-word c = search needs
+
+word-requires-2 : tie.Need-word-requires-2
+word-requires-2 c κs = tt
+
+fact-of-requires-2 : tie.Need-fact-of-requires-2
+fact-of-requires-2 c κs = tt
+
+add-word-2 : tie.Need-add-word-2
+add-word-2 c = search needs
+
+word-requires-3 : tie.Need-word-requires-3
+word-requires-3 c κs = tt
+
+fact-of-requires-3 : tie.Need-fact-of-requires-3
+fact-of-requires-3 c κs = tt
+
+add-word-3 : tie.Need-add-word-3
+add-word-3 c = search needs
+
+word-requires-4 : tie.Need-word-requires-4
+word-requires-4 c κs = tt
+
+fact-of-requires-4 : tie.Need-fact-of-requires-4
+fact-of-requires-4 c κs = tt
+
+add-word-4 : tie.Need-add-word-4
+add-word-4 c = search needs
+
+word-requires-5 : tie.Need-word-requires-5
+word-requires-5 c κs = tt
+
+fact-of-requires-5 : tie.Need-fact-of-requires-5
+fact-of-requires-5 c κs = tt
+
+returns : tie.Need-returns
+returns c =
+    same-facts (c .before .before .before .before .before .before .before .before .fact-of .ensures ∙ ap factOf (c .before .before .before .before .before .before .before .before .before .word .ensures)) (c .before .before .before .before .before .before .fact-of2 .ensures ∙ ap factOf (c .before .before .before .before .before .before .before .word2 .ensures)) (c .before .before .before .before .fact-of3 .ensures ∙ ap factOf (c .before .before .before .before .before .word3 .ensures)) (c .before .before .fact-of4 .ensures ∙ ap factOf (c .before .before .before .word4 .ensures)) (c .fact-of5 .ensures ∙ ap factOf (c .before .word5 .ensures))
+
+pub facts-of-spec : {M : Type 1} → statement M
+facts-of-spec =
+    tie.close
+    (tie.spec
+    word-requires
+    fact-of-requires
+    add-word
+    word-requires-2
+    fact-of-requires-2
+    add-word-2
+    word-requires-3
+    fact-of-requires-3
+    add-word-3
+    word-requires-4
+    fact-of-requires-4
+    add-word-4
+    word-requires-5
+    fact-of-requires-5
+    returns)

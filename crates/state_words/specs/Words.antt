@@ -1,0 +1,151 @@
+-- The graphics state as words: document 02, K4: "First the state, 26 words: projection, dual and freedom x, y; mode 0 to 7 in round.rs order;
+-- threshold, phase, period; rp0, rp1, rp2, low word first; loop; zp0 to zp2 (0 twilight, 1 glyph); the five facts in 01's order; cut-in."
+-- A signed number is its 32 bits. Assumes nothing.
+use Prim.Native.Nat.{ℕ, _+_, _*_, _/_, _%_, _^_}
+use mathlib.Core.Bool.{Bool, true, false, cond, _&&_}
+use mathlib.Core.List.{List, [], _∷_, _++_}
+use lib.Dec.{eqb, leb}
+use lib.IntN.{ℤ}
+use lib.ListN.{length, getD}
+use Rattle.int.specs.Word.{bitsOf, ofBits}
+use Rattle.round.specs.declared.RoundMode.{RoundMode}
+use Rattle.round.specs.declared.RoundMode.the-variants.{Grid, HalfGrid, DoubleGrid, DownToGrid, UpToGrid, Off, Super, Super45}
+use Rattle.round.specs.declared.RoundState.{RoundState}
+use Rattle.graphics.specs.declared.Facts.{Facts}
+use Rattle.graphics.specs.declared.GraphicsState.{GraphicsState}
+use Rattle.graphics.specs.declared.References.{References}
+use Rattle.graphics.specs.declared.Vector.{Vector}
+use Rattle.graphics.specs.declared.Vectors.{Vectors}
+use Rattle.graphics.specs.declared.ZonePointer.{ZonePointer}
+use Rattle.graphics.specs.declared.ZonePointer.the-variants.{Twilight, Glyph}
+use Rattle.graphics.specs.declared.ZonePointers.{ZonePointers}
+
+-- how many words a state is
+abbrev pub stateSize : ℕ
+stateSize = 26
+
+-- ---- the words of a state
+abbrev pub modeWord : RoundMode → ℕ
+modeWord Grid = 0
+modeWord HalfGrid = 1
+modeWord DoubleGrid = 2
+modeWord DownToGrid = 3
+modeWord UpToGrid = 4
+modeWord Off = 5
+modeWord Super = 6
+modeWord Super45 = 7
+
+abbrev pub zoneWord : ZonePointer → ℕ
+zoneWord Twilight = 0
+zoneWord Glyph = 1
+
+abbrev pub factWord : Bool → ℕ
+factWord b = cond b 1 0
+
+abbrev pub vectorsWords : Vectors → List ℕ
+vectorsWords v =
+    bitsOf (v .projection .x) ∷ bitsOf (v .projection .y) ∷ bitsOf (v .dual .x) ∷ bitsOf (v .dual .y) ∷ bitsOf (v .freedom .x) ∷ bitsOf (v .freedom .y) ∷ []
+
+abbrev pub roundWords : RoundState → List ℕ
+roundWords r = modeWord (r .mode) ∷ bitsOf (r .threshold) ∷ bitsOf (r .phase) ∷ bitsOf (r .period) ∷ []
+
+-- the low word first
+abbrev pub longWords : ℕ → List ℕ → List ℕ
+longWords n rest = n % 2 ^ 32 ∷ n / 2 ^ 32 ∷ rest
+
+abbrev pub referencesWords : References → List ℕ
+referencesWords p = longWords (p .rp0) (longWords (p .rp1) (longWords (p .rp2) []))
+
+abbrev pub pointersWords : ZonePointers → List ℕ
+pointersWords p = zoneWord (p .zp0) ∷ zoneWord (p .zp1) ∷ zoneWord (p .zp2) ∷ []
+
+abbrev pub factsWords : Facts → List ℕ
+factsWords f =
+    factWord (f .«backward_compatibility»)
+    ∷ factWord (f .pedantic)
+    ∷ factWord (f .«native_clear_type_x»)
+    ∷ factWord (f .«did_iup_x»)
+    ∷ factWord (f .«did_iup_y»)
+    ∷ []
+
+unfoldable pub stateWords : GraphicsState → List ℕ
+stateWords s =
+    vectorsWords (s .vectors)
+    ++ (roundWords (s .round)
+    ++ (referencesWords (s .references)
+    ++ (s .«loop_counter» ∷ (pointersWords (s .pointers) ++ (factsWords (s .facts) ++ (bitsOf (s .«cut_in») ∷ []))))))
+
+abbrev pub wordOf : GraphicsState → ℕ → ℕ
+wordOf s k = getD (stateWords s) k 0
+
+-- what is left where a state is written over words: its own words, where these are as many, else what was there
+unfoldable pub written : GraphicsState → List ℕ → List ℕ
+written s ws = cond (eqb (length ws) stateSize) (stateWords s) ws
+
+-- ---- the state that words stand for
+-- word k; a word that is missing counts as 0
+abbrev pub wordAt : List ℕ → ℕ → ℕ
+wordAt ws k = getD ws k 0
+
+abbrev pub numberAt : List ℕ → ℕ → ℤ
+numberAt ws k = ofBits (wordAt ws k)
+
+abbrev pub longAt : List ℕ → ℕ → ℕ → ℕ
+longAt ws low high = wordAt ws low + wordAt ws high * 2 ^ 32
+
+abbrev pub vectorAt : List ℕ → ℕ → ℕ → Vector
+vectorAt ws x y = record { x = numberAt ws x; y = numberAt ws y }
+
+-- a number beyond the last is taken for the last
+abbrev pub modeOf : ℕ → RoundMode
+modeOf n = getD (Grid ∷ HalfGrid ∷ DoubleGrid ∷ DownToGrid ∷ UpToGrid ∷ Off ∷ Super ∷ []) n Super45
+
+abbrev pub zoneOf : ℕ → ZonePointer
+zoneOf n = getD (Twilight ∷ []) n Glyph
+
+abbrev pub factOf : ℕ → Bool
+factOf n = getD (false ∷ []) n true
+
+abbrev pub vectorsOf : List ℕ → Vectors
+vectorsOf ws = record { projection = vectorAt ws 0 1; dual = vectorAt ws 2 3; freedom = vectorAt ws 4 5 }
+
+abbrev pub roundOf : List ℕ → RoundState
+roundOf ws = record { mode = modeOf (wordAt ws 6); threshold = numberAt ws 7; phase = numberAt ws 8; period = numberAt ws 9 }
+
+abbrev pub referencesOf : List ℕ → References
+referencesOf ws = record { rp0 = longAt ws 10 11; rp1 = longAt ws 12 13; rp2 = longAt ws 14 15 }
+
+abbrev pub pointersOf : List ℕ → ZonePointers
+pointersOf ws = record { zp0 = zoneOf (wordAt ws 17); zp1 = zoneOf (wordAt ws 18); zp2 = zoneOf (wordAt ws 19) }
+
+abbrev pub factsOf : List ℕ → Facts
+factsOf ws =
+    record {
+      «backward_compatibility» = factOf (wordAt ws 20);
+      pedantic = factOf (wordAt ws 21);
+      «native_clear_type_x» = factOf (wordAt ws 22);
+      «did_iup_x» = factOf (wordAt ws 23);
+      «did_iup_y» = factOf (wordAt ws 24);
+    }
+
+unfoldable pub stateOf : List ℕ → GraphicsState
+stateOf ws =
+    record {
+      vectors = vectorsOf ws;
+      round = roundOf ws;
+      references = referencesOf ws;
+      «loop_counter» = wordAt ws 16;
+      pointers = pointersOf ws;
+      «cut_in» = numberAt ws 25;
+      facts = factsOf ws;
+    }
+
+-- ---- which words are a state: refused with 16 where not. Vectors and period are left to the run's answer 3
+abbrev pub pointersInRange : List ℕ → Bool
+pointersInRange ws = leb (wordAt ws 17) 1 && leb (wordAt ws 18) 1 && leb (wordAt ws 19) 1
+
+abbrev pub factsInRange : List ℕ → Bool
+factsInRange ws = leb (wordAt ws 20) 1 && leb (wordAt ws 21) 1 && leb (wordAt ws 22) 1 && leb (wordAt ws 23) 1 && leb (wordAt ws 24) 1
+
+unfoldable pub isState : List ℕ → Bool
+isState ws = eqb (length ws) stateSize && leb (wordAt ws 6) 7 && pointersInRange ws && factsInRange ws

@@ -1,0 +1,372 @@
+// The graphics state as words, in the order of document 02, K4: what a record keeps and what a caller from C hands over.
+//
+// The three public functions answer for every input, and each is an equation with a definition of specs/Words.antt: `is_state` tells words that
+// are a state from others, `read_state` gives the state that words stand for, and `write_state` the words of a state. That each undoes the
+// other is in proofs/Back.antt. A field that the state gains goes to the end, so that older words keep their places.
+use graphics::Facts;
+use graphics::GraphicsState;
+use graphics::References;
+use graphics::Vector;
+use graphics::Vectors;
+use graphics::ZonePointer;
+use graphics::ZonePointers;
+use int::from_bits;
+use int::to_bits;
+use round::RoundMode;
+use round::RoundState;
+ghost use mathlib.Core.Path.{_≡_};
+ghost use Prim.Native.Nat.{_%_, _/_, _^_, _+_, _*_};
+ghost use lib.ListN.{getD};
+ghost use lib.Dec.{leb};
+ghost use Rattle.state_words.specs.Words.{wordAt, numberAt, vectorAt, longAt, modeOf, zoneOf, factOf, modeWord, zoneWord, factWord, vectorsWords, roundWords, referencesWords, pointersWords, factsWords, wordOf, vectorsOf, roundOf, referencesOf, pointersOf, factsOf, stateOf, isState, pointersInRange, factsInRange, written};
+
+// How many words a state is.
+pub const STATE_WORDS: usize = 26;
+
+// The first word of each part; the vectors are first.
+const ROUND: usize = 6;
+
+const REFERENCES: usize = 10;
+
+const LOOP_COUNTER: usize = 16;
+
+const POINTERS: usize = 17;
+
+const FACTS: usize = 20;
+
+const CUT_IN: usize = 25;
+
+// ---- one word
+// Word k, 0 outside.
+fn word(words: &[u32], k: usize) -> u32
+    ensures { λ r. ⌜ r ≡ wordAt (now (words .entry)) k ⌝ }
+{
+    if k < words.len() { words[k] } else { 0 }
+}
+
+fn number(words: &[u32], k: usize) -> i32
+    ensures { λ r. ⌜ r ≡ numberAt (now (words .entry)) k ⌝ }
+{
+    from_bits(word(words, k))
+}
+
+fn joined(low: u32, high: u32) -> u64
+    ensures { λ r. ⌜ r ≡ low + high * 2 ^ 32 ⌝ }
+{
+    low as u64 + high as u64 * 0x1_0000_0000
+}
+
+fn low_word(x: u64) -> u32
+    ensures { λ r. ⌜ r ≡ x % 2 ^ 32 ⌝ }
+{
+    (x % 0x1_0000_0000) as u32
+}
+
+fn high_word(x: u64) -> u32
+    ensures { λ r. ⌜ r ≡ x / 2 ^ 32 ⌝ }
+{
+    (x / 0x1_0000_0000) as u32
+}
+
+// A number above 7 is taken for the last mode; `is_state` refuses it.
+fn mode_of(n: u32) -> RoundMode
+    ensures { λ r. ⌜ r ≡ modeOf n ⌝ }
+{
+    match n {
+        0 => RoundMode::Grid,
+        1 => RoundMode::HalfGrid,
+        2 => RoundMode::DoubleGrid,
+        3 => RoundMode::DownToGrid,
+        4 => RoundMode::UpToGrid,
+        5 => RoundMode::Off,
+        6 => RoundMode::Super,
+        _ => RoundMode::Super45,
+    }
+}
+
+fn mode_word(mode: RoundMode) -> u32
+    ensures { λ r. ⌜ r ≡ modeWord mode ⌝ }
+{
+    match mode {
+        RoundMode::Grid => 0,
+        RoundMode::HalfGrid => 1,
+        RoundMode::DoubleGrid => 2,
+        RoundMode::DownToGrid => 3,
+        RoundMode::UpToGrid => 4,
+        RoundMode::Off => 5,
+        RoundMode::Super => 6,
+        RoundMode::Super45 => 7,
+    }
+}
+
+fn zone_of(n: u32) -> ZonePointer
+    ensures { λ r. ⌜ r ≡ zoneOf n ⌝ }
+{
+    match n {
+        0 => ZonePointer::Twilight,
+        _ => ZonePointer::Glyph,
+    }
+}
+
+fn zone_word(zone: ZonePointer) -> u32
+    ensures { λ r. ⌜ r ≡ zoneWord zone ⌝ }
+{
+    match zone {
+        ZonePointer::Twilight => 0,
+        ZonePointer::Glyph => 1,
+    }
+}
+
+fn fact_of(n: u32) -> bool
+    ensures { λ r. ⌜ r ≡ factOf n ⌝ }
+{
+    match n {
+        0 => false,
+        _ => true,
+    }
+}
+
+fn fact_word(yes: bool) -> u32
+    ensures { λ r. ⌜ r ≡ factWord yes ⌝ }
+{
+    if yes { 1 } else { 0 }
+}
+
+// ---- the state that words stand for
+fn vector(words: &[u32], x: usize, y: usize) -> Vector
+    ensures { λ r. ⌜ r ≡ vectorAt (now (words .entry)) x y ⌝ }
+{
+    let x = number(words, x);
+    let y = number(words, y);
+    Vector { x, y }
+}
+
+fn vectors_of(words: &[u32]) -> Vectors
+    ensures { λ r. ⌜ r ≡ vectorsOf (now (words .entry)) ⌝ }
+{
+    let projection = vector(words, 0, 1);
+    let dual = vector(words, 2, 3);
+    let freedom = vector(words, 4, 5);
+    Vectors {
+        projection,
+        dual,
+        freedom,
+    }
+}
+
+fn round_of(words: &[u32]) -> RoundState
+    ensures { λ r. ⌜ r ≡ roundOf (now (words .entry)) ⌝ }
+{
+    let mode = mode_of(word(words, ROUND));
+    let threshold = number(words, ROUND + 1);
+    let phase = number(words, ROUND + 2);
+    let period = number(words, ROUND + 3);
+    RoundState {
+        mode,
+        threshold,
+        phase,
+        period,
+    }
+}
+
+// A number of 64 bits, from its low and its high word.
+fn long(words: &[u32], low: usize, high: usize) -> u64
+    ensures { λ r. ⌜ r ≡ longAt (now (words .entry)) low high ⌝ }
+{
+    joined(word(words, low), word(words, high))
+}
+
+fn references_of(words: &[u32]) -> References
+    ensures { λ r. ⌜ r ≡ referencesOf (now (words .entry)) ⌝ }
+{
+    let rp0 = long(words, REFERENCES, REFERENCES + 1);
+    let rp1 = long(words, REFERENCES + 2, REFERENCES + 3);
+    let rp2 = long(words, REFERENCES + 4, REFERENCES + 5);
+    References { rp0, rp1, rp2 }
+}
+
+fn pointers_of(words: &[u32]) -> ZonePointers
+    ensures { λ r. ⌜ r ≡ pointersOf (now (words .entry)) ⌝ }
+{
+    let zp0 = zone_of(word(words, POINTERS));
+    let zp1 = zone_of(word(words, POINTERS + 1));
+    let zp2 = zone_of(word(words, POINTERS + 2));
+    ZonePointers { zp0, zp1, zp2 }
+}
+
+fn facts_of(words: &[u32]) -> Facts
+    ensures { λ r. ⌜ r ≡ factsOf (now (words .entry)) ⌝ }
+{
+    let backward_compatibility = fact_of(word(words, FACTS));
+    let pedantic = fact_of(word(words, FACTS + 1));
+    let native_clear_type_x = fact_of(word(words, FACTS + 2));
+    let did_iup_x = fact_of(word(words, FACTS + 3));
+    let did_iup_y = fact_of(word(words, FACTS + 4));
+    Facts {
+        backward_compatibility,
+        pedantic,
+        native_clear_type_x,
+        did_iup_x,
+        did_iup_y,
+    }
+}
+
+// The state that words stand for: a word that is missing counts as 0.
+pub fn read_state(words: &[u32]) -> GraphicsState
+    ensures { λ r. ⌜ r ≡ stateOf (now (words .entry)) ⌝ }
+{
+    let vectors = vectors_of(words);
+    let round = round_of(words);
+    let references = references_of(words);
+    let loop_counter = word(words, LOOP_COUNTER);
+    let pointers = pointers_of(words);
+    let cut_in = number(words, CUT_IN);
+    let facts = facts_of(words);
+    GraphicsState {
+        vectors,
+        round,
+        references,
+        loop_counter,
+        pointers,
+        cut_in,
+        facts,
+    }
+}
+
+// ---- which words are a state
+fn at_most(words: &[u32], k: usize, most: u32) -> bool
+    ensures { λ r. ⌜ r ≡ leb (wordAt (now (words .entry)) k) most ⌝ }
+{
+    word(words, k) <= most
+}
+
+fn pointers_in_range(words: &[u32]) -> bool
+    ensures { λ r. ⌜ r ≡ pointersInRange (now (words .entry)) ⌝ }
+{
+    at_most(words, POINTERS, 1) & at_most(words, POINTERS + 1, 1) & at_most(words, POINTERS + 2, 1)
+}
+
+fn facts_in_range(words: &[u32]) -> bool
+    ensures { λ r. ⌜ r ≡ factsInRange (now (words .entry)) ⌝ }
+{
+    at_most(words, FACTS, 1)
+        & at_most(words, FACTS + 1, 1)
+        & at_most(words, FACTS + 2, 1)
+        & at_most(words, FACTS + 3, 1)
+        & at_most(words, FACTS + 4, 1)
+}
+
+// Whether words are a state: as many as a state has, and each within its range. Vectors and period are left to the run's answer 3.
+pub fn is_state(words: &[u32]) -> bool
+    ensures { λ r. ⌜ r ≡ isState (now (words .entry)) ⌝ }
+{
+    (words.len() == STATE_WORDS)
+        & at_most(words, ROUND, 7)
+        & pointers_in_range(words)
+        & facts_in_range(words)
+}
+
+// ---- the words of a state
+fn vectors_word(v: Vectors, k: usize) -> u32
+    ensures { λ r. ⌜ r ≡ getD (vectorsWords v) k 0 ⌝ }
+{
+    match k {
+        0 => to_bits(v.projection.x),
+        1 => to_bits(v.projection.y),
+        2 => to_bits(v.dual.x),
+        3 => to_bits(v.dual.y),
+        4 => to_bits(v.freedom.x),
+        5 => to_bits(v.freedom.y),
+        _ => 0,
+    }
+}
+
+fn round_word(r: RoundState, k: usize) -> u32
+    ensures { λ w. ⌜ w ≡ getD (roundWords r) k 0 ⌝ }
+{
+    let mode = r.mode;
+    match k {
+        0 => mode_word(mode),
+        1 => to_bits(r.threshold),
+        2 => to_bits(r.phase),
+        3 => to_bits(r.period),
+        _ => 0,
+    }
+}
+
+fn references_word(p: References, k: usize) -> u32
+    ensures { λ r. ⌜ r ≡ getD (referencesWords p) k 0 ⌝ }
+{
+    match k {
+        0 => low_word(p.rp0),
+        1 => high_word(p.rp0),
+        2 => low_word(p.rp1),
+        3 => high_word(p.rp1),
+        4 => low_word(p.rp2),
+        5 => high_word(p.rp2),
+        _ => 0,
+    }
+}
+
+fn pointers_word(p: ZonePointers, k: usize) -> u32
+    ensures { λ r. ⌜ r ≡ getD (pointersWords p) k 0 ⌝ }
+{
+    let zp0 = p.zp0;
+    let zp1 = p.zp1;
+    let zp2 = p.zp2;
+    match k {
+        0 => zone_word(zp0),
+        1 => zone_word(zp1),
+        2 => zone_word(zp2),
+        _ => 0,
+    }
+}
+
+fn facts_word(f: Facts, k: usize) -> u32
+    ensures { λ r. ⌜ r ≡ getD (factsWords f) k 0 ⌝ }
+{
+    match k {
+        0 => fact_word(f.backward_compatibility),
+        1 => fact_word(f.pedantic),
+        2 => fact_word(f.native_clear_type_x),
+        3 => fact_word(f.did_iup_x),
+        4 => fact_word(f.did_iup_y),
+        _ => 0,
+    }
+}
+
+// Word k of a state, 0 outside.
+fn word_of(s: GraphicsState, k: usize) -> u32
+    ensures { λ r. ⌜ r ≡ wordOf s k ⌝ }
+{
+    if k < ROUND {
+        vectors_word(s.vectors, k)
+    } else if k < REFERENCES {
+        round_word(s.round, k - ROUND)
+    } else if k < LOOP_COUNTER {
+        references_word(s.references, k - REFERENCES)
+    } else if k < POINTERS {
+        s.loop_counter
+    } else if k < FACTS {
+        pointers_word(s.pointers, k - POINTERS)
+    } else if k < CUT_IN {
+        facts_word(s.facts, k - FACTS)
+    } else if k < STATE_WORDS {
+        to_bits(s.cut_in)
+    } else {
+        0
+    }
+}
+
+// The state's words, where there is room for exactly these; else nothing changes.
+pub fn write_state(s: GraphicsState, words: &mut [u32])
+    ensures { λ _. ⌜ now (words .exit) ≡ written s (now (words .entry)) ⌝ }
+{
+    if words.len() == STATE_WORDS {
+        let mut k = 0;
+        while k < words.len() {
+            words[k] = word_of(s, k);
+            k += 1;
+        }
+    }
+}

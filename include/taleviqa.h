@@ -1,0 +1,127 @@
+/* Taleviqa for C: one call that replays a sheet of TrueType hinting over a glyph and a twilight zone.
+ *
+ * Link with libexports.a, which `rt staticlib exports` writes to target/staticlib (x86-64 Linux):
+ *
+ *     gcc -Iinclude whole_run.c target/staticlib/libexports.a -o whole_run
+ *
+ * A list is two arguments, a pointer and how many elements it has, in the order below. A list without elements may have any pointer, NULL too.
+ * What is not const is changed in place. The lists that are changed must not overlap any other list. Nothing is kept after the call.
+ *
+ * Every input has one answer, and the call always returns: see docs/PROMISES.md for what is proved. examples/whole_run.c shows a call.
+ */
+#ifndef TALEVIQA_H
+#define TALEVIQA_H
+
+#include <stddef.h>
+#include <stdint.h>
+
+#ifdef __cplusplus
+extern "C" {
+#endif
+
+/* The state, as words of 32 bits. A signed number is its two's complement. */
+enum taleviqa_state_word {
+    TALEVIQA_PROJECTION_X = 0, /* vectors: 2.14 numbers from -0x4000 to 0x4000 */
+    TALEVIQA_PROJECTION_Y = 1,
+    TALEVIQA_DUAL_X = 2,
+    TALEVIQA_DUAL_Y = 3,
+    TALEVIQA_FREEDOM_X = 4,
+    TALEVIQA_FREEDOM_Y = 5,
+    TALEVIQA_ROUND_MODE = 6, /* see taleviqa_round_mode */
+    TALEVIQA_ROUND_THRESHOLD = 7,
+    TALEVIQA_ROUND_PHASE = 8,
+    TALEVIQA_ROUND_PERIOD = 9,
+    TALEVIQA_RP0_LOW = 10, /* reference points: 64 bits, the low word first */
+    TALEVIQA_RP0_HIGH = 11,
+    TALEVIQA_RP1_LOW = 12,
+    TALEVIQA_RP1_HIGH = 13,
+    TALEVIQA_RP2_LOW = 14,
+    TALEVIQA_RP2_HIGH = 15,
+    TALEVIQA_LOOP = 16,
+    TALEVIQA_ZP0 = 17, /* zone pointers: 0 twilight, 1 glyph */
+    TALEVIQA_ZP1 = 18,
+    TALEVIQA_ZP2 = 19,
+    TALEVIQA_BACKWARD_COMPATIBILITY = 20, /* facts: 0 no, 1 yes */
+    TALEVIQA_PEDANTIC = 21,
+    TALEVIQA_NATIVE_CLEAR_TYPE_X = 22,
+    TALEVIQA_DID_IUP_X = 23,
+    TALEVIQA_DID_IUP_Y = 24,
+    TALEVIQA_CUT_IN = 25, /* control value cut-in, in 64ths of a pixel */
+    TALEVIQA_STATE_WORDS = 26
+};
+
+enum taleviqa_round_mode {
+    TALEVIQA_GRID = 0,
+    TALEVIQA_HALF_GRID = 1,
+    TALEVIQA_DOUBLE_GRID = 2,
+    TALEVIQA_DOWN_TO_GRID = 3,
+    TALEVIQA_UP_TO_GRID = 4,
+    TALEVIQA_ROUND_OFF = 5,
+    TALEVIQA_SUPER = 6,
+    TALEVIQA_SUPER_45 = 7
+};
+
+/* The state that a glyph starts with: uint32_t state[TALEVIQA_STATE_WORDS] = TALEVIQA_FRESH_STATE; */
+#define TALEVIQA_FRESH_STATE \
+    { 0x4000, 0, 0x4000, 0, 0x4000, 0, TALEVIQA_GRID, 0, 0, 64, 0, 0, 0, 0, 0, 0, 1, 1, 1, 1, 0, 0, 0, 0, 0, 68 }
+
+/* What the call says: the places of the answer. */
+enum taleviqa_answer_word {
+    TALEVIQA_NUMBER = 0, /* see taleviqa_number; the call returns it too */
+    TALEVIQA_PLACE = 1,  /* the sheet's word where the refused or the next line starts */
+    TALEVIQA_LINES = 2,  /* lines finished in this call */
+    TALEVIQA_DETAIL = 3, /* what a refusal is about, 0 where nothing is said below; a negative operand is widened with its sign to 64 bits */
+    TALEVIQA_ANSWER_WORDS = 4
+};
+
+enum taleviqa_number {
+    TALEVIQA_FINISHED = 0,      /* the place is the sheet's end: all lines are done */
+    TALEVIQA_OUT_OF_BUDGET = 1, /* the budget is used and words remain: call again from the place */
+    TALEVIQA_SIZES = 2,         /* lists of a zone of unequal length, or a size above its limit; nothing has changed */
+    TALEVIQA_STATE = 3,         /* a vector out of range, or Super 45 with period 0; nothing has changed */
+    TALEVIQA_LINE = 4,          /* a start beyond the sheet, an unknown opcode, or a count word that is missing, negative or past the end */
+    TALEVIQA_SURPLUS = 5,       /* more operands than the line takes */
+    TALEVIQA_MISSING = 6,       /* an operand is wanted and there is none left */
+    TALEVIQA_POINT = 7,         /* a point outside its zone; detail: its number */
+    TALEVIQA_CONTROL_VALUE = 8, /* a control value outside the list; detail: its number */
+    TALEVIQA_ZONE_POINTER = 9,  /* a zone pointer that is neither 0 nor 1; detail: the operand */
+    TALEVIQA_LOOP_COUNT = 10,   /* a negative loop count; detail: the operand */
+    TALEVIQA_BAD_WORD = 16      /* the state is not TALEVIQA_STATE_WORDS words, each within its range, or the answer not TALEVIQA_ANSWER_WORDS */
+};
+
+/* Replays the lines of the sheet from word `start` on, at most `budget` of them.
+ *
+ * A line that is refused (4 to 10) leaves what the lines before it did, and for 6 and 7 what its own earlier steps did. After 16 only the
+ * answer is written: 16, start, 0, 0, where it has four places.
+ *
+ * sheet: opcode word, count word, operands, and so on. Coordinates are in 64ths of a pixel, unscaled ones in font units.
+ * glyph: unscaled, original and current x and y and the flags, all of one length; contours: the number of each contour's last point.
+ * twilight: original and current x and y and the flags, all of one length.
+ * A flag byte has bit 0 on curve, bit 1 touched in x, bit 2 touched in y; other bits are kept.
+ * At most 16,384 points in a zone, 4,096 contours, 16,384 control values and 65,536 words of sheet. */
+uint32_t taleviqa_run(
+    size_t start,
+    uint64_t budget,
+    uint32_t *state, size_t state_length,
+    const int32_t *sheet, size_t sheet_length,
+    const int32_t *control_values, size_t control_values_length,
+    const int32_t *glyph_unscaled_x, size_t glyph_unscaled_x_length,
+    const int32_t *glyph_unscaled_y, size_t glyph_unscaled_y_length,
+    const int32_t *glyph_original_x, size_t glyph_original_x_length,
+    const int32_t *glyph_original_y, size_t glyph_original_y_length,
+    int32_t *glyph_x, size_t glyph_x_length,
+    int32_t *glyph_y, size_t glyph_y_length,
+    uint8_t *glyph_flags, size_t glyph_flags_length,
+    const uint16_t *contours, size_t contours_length,
+    int32_t *twilight_original_x, size_t twilight_original_x_length,
+    int32_t *twilight_original_y, size_t twilight_original_y_length,
+    int32_t *twilight_x, size_t twilight_x_length,
+    int32_t *twilight_y, size_t twilight_y_length,
+    uint8_t *twilight_flags, size_t twilight_flags_length,
+    uint64_t *answer, size_t answer_length);
+
+#ifdef __cplusplus
+}
+#endif
+
+#endif
