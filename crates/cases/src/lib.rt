@@ -4,16 +4,9 @@
 // what it says, 23 the number of changed words, 24 to 38 the lengths of the fifteen lists (bit 31: one word stands for every element), 39 to 64
 // the state; then come the lists and the changes, each an index and the new word. What lies outside the case reads as 0, so a case
 // that is cut short is no reason to stop. Nothing is promised here but that every function is safe and ends.
-use graphics::Facts;
 use graphics::GraphicsState;
-use graphics::References;
-use graphics::Vector;
-use graphics::Vectors;
-use graphics::ZonePointer;
-use graphics::ZonePointers;
 use int::from_bits;
-use round::RoundMode;
-use round::RoundState;
+use state_words::read_state;
 use words::word_at;
 ghost use mathlib.Core.Path.{_≡_};
 ghost use Prim.Native.Nat.{_≤_};
@@ -70,107 +63,19 @@ fn joined(low: u32, high: u32) -> u64 {
     low as u64 + high as u64 * 0x1_0000_0000
 }
 
-pub fn yes(case: &[u8], k: u64) -> bool {
-    word(case, k) == 1
-}
-
 // ---- the state
-fn vector(case: &[u8], k: u64) -> Vector {
-    let x = number(case, k);
-    let y = number(case, after(k, 1));
-    Vector { x, y }
-}
-
-pub fn zone_of(n: u32) -> ZonePointer {
-    match n {
-        0 => ZonePointer::Twilight,
-        _ => ZonePointer::Glyph,
-    }
-}
-
-pub fn mode_of(n: u32) -> RoundMode {
-    match n {
-        0 => RoundMode::Grid,
-        1 => RoundMode::HalfGrid,
-        2 => RoundMode::DoubleGrid,
-        3 => RoundMode::DownToGrid,
-        4 => RoundMode::UpToGrid,
-        5 => RoundMode::Off,
-        6 => RoundMode::Super,
-        _ => RoundMode::Super45,
-    }
-}
-
-fn vectors_of(case: &[u8]) -> Vectors {
-    let projection = vector(case, STATE);
-    let dual = vector(case, STATE + 2);
-    let freedom = vector(case, STATE + 4);
-    Vectors {
-        projection,
-        dual,
-        freedom,
-    }
-}
-
-fn round_of(case: &[u8]) -> RoundState {
-    let mode = mode_of(word(case, STATE + 6));
-    let threshold = number(case, STATE + 7);
-    let phase = number(case, STATE + 8);
-    let period = number(case, STATE + 9);
-    RoundState {
-        mode,
-        threshold,
-        phase,
-        period,
-    }
-}
-
-fn references_of(case: &[u8]) -> References {
-    let rp0 = long(case, STATE + 10);
-    let rp1 = long(case, STATE + 12);
-    let rp2 = long(case, STATE + 14);
-    References { rp0, rp1, rp2 }
-}
-
-fn pointers_of(case: &[u8]) -> ZonePointers {
-    let zp0 = zone_of(word(case, STATE + 17));
-    let zp1 = zone_of(word(case, STATE + 18));
-    let zp2 = zone_of(word(case, STATE + 19));
-    ZonePointers { zp0, zp1, zp2 }
-}
-
-fn facts_of(case: &[u8]) -> Facts {
-    let backward_compatibility = yes(case, STATE + 20);
-    let pedantic = yes(case, STATE + 21);
-    let native_clear_type_x = yes(case, STATE + 22);
-    let did_iup_x = yes(case, STATE + 23);
-    let did_iup_y = yes(case, STATE + 24);
-    Facts {
-        backward_compatibility,
-        pedantic,
-        native_clear_type_x,
-        did_iup_x,
-        did_iup_y,
+fn fill_state(case: &[u8], out: &mut [u32]) {
+    let mut j = 0;
+    while j < out.len() {
+        out[j] = word(case, after(STATE, j as u64));
+        j += 1;
     }
 }
 
 pub fn state_of(case: &[u8]) -> GraphicsState {
-    let vectors = vectors_of(case);
-    let round = round_of(case);
-    let references = references_of(case);
-    let loop_counter = word(case, STATE + 16);
-    let pointers = pointers_of(case);
-    let cut_in = number(case, STATE + 25);
-    let facts = facts_of(case);
-    GraphicsState {
-        vectors,
-        round,
-        references,
-        loop_counter,
-        pointers,
-        cut_in,
-        facts,
-    }
+    let mut words = [0u32; 26];
+    fill_state(case, &mut words);
+    read_state(&words)
 }
 
 // ---- the lists

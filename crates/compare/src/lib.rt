@@ -18,16 +18,10 @@ use cases::number;
 use cases::place_of;
 use cases::wide;
 use cases::word;
-use graphics::Facts;
 use graphics::GraphicsState;
-use graphics::References;
-use graphics::Vectors;
-use graphics::ZonePointer;
-use graphics::ZonePointers;
 use int::equal;
 use int::to_bits;
-use round::RoundMode;
-use round::RoundState;
+use state_words::word_of;
 
 // ---- what a call says
 // Its answer and its two result words.
@@ -262,102 +256,8 @@ pub fn compare_placed(case: &[u8], first: u64, xs: &[i32], ys: &[i32], flags: &[
 }
 
 // ---- the state after the call
-fn vector_word(v: Vectors, k: u64) -> u32 {
-    match k {
-        0 => to_bits(v.projection.x),
-        1 => to_bits(v.projection.y),
-        2 => to_bits(v.dual.x),
-        3 => to_bits(v.dual.y),
-        4 => to_bits(v.freedom.x),
-        _ => to_bits(v.freedom.y),
-    }
-}
-
-fn mode_number(mode: RoundMode) -> u32 {
-    match mode {
-        RoundMode::Grid => 0,
-        RoundMode::HalfGrid => 1,
-        RoundMode::DoubleGrid => 2,
-        RoundMode::DownToGrid => 3,
-        RoundMode::UpToGrid => 4,
-        RoundMode::Off => 5,
-        RoundMode::Super => 6,
-        RoundMode::Super45 => 7,
-    }
-}
-
-fn round_word(r: RoundState, k: u64) -> u32 {
-    let mode = r.mode;
-    match k {
-        6 => mode_number(mode),
-        7 => to_bits(r.threshold),
-        8 => to_bits(r.phase),
-        _ => to_bits(r.period),
-    }
-}
-
-fn low_word(x: u64) -> u32 {
-    (x % 0x1_0000_0000) as u32
-}
-
-fn high_word(x: u64) -> u32 {
-    (x / 0x1_0000_0000) as u32
-}
-
-fn reference_word(r: References, k: u64) -> u32 {
-    match k {
-        10 => low_word(r.rp0),
-        11 => high_word(r.rp0),
-        12 => low_word(r.rp1),
-        13 => high_word(r.rp1),
-        14 => low_word(r.rp2),
-        _ => high_word(r.rp2),
-    }
-}
-
-fn zone_number(zone: ZonePointer) -> u32 {
-    match zone {
-        ZonePointer::Twilight => 0,
-        ZonePointer::Glyph => 1,
-    }
-}
-
-fn pointer_word(p: ZonePointers, k: u64) -> u32 {
-    let zp0 = p.zp0;
-    let zp1 = p.zp1;
-    let zp2 = p.zp2;
-    match k {
-        17 => zone_number(zp0),
-        18 => zone_number(zp1),
-        _ => zone_number(zp2),
-    }
-}
-
-fn truth(yes: bool) -> u32 {
-    if yes { 1 } else { 0 }
-}
-
-fn fact_word(f: Facts, k: u64) -> u32 {
-    match k {
-        20 => truth(f.backward_compatibility),
-        21 => truth(f.pedantic),
-        22 => truth(f.native_clear_type_x),
-        23 => truth(f.did_iup_x),
-        _ => truth(f.did_iup_y),
-    }
-}
-
-// Word k of a state, in the order of the words that `state_of` reads.
-pub fn state_word(s: GraphicsState, k: u64) -> u32 {
-    match k {
-        0..=5 => vector_word(s.vectors, k),
-        6..=9 => round_word(s.round, k),
-        10..=15 => reference_word(s.references, k),
-        16 => s.loop_counter,
-        17..=19 => pointer_word(s.pointers, k),
-        20..=24 => fact_word(s.facts, k),
-        _ => to_bits(s.cut_in),
-    }
+fn state_word(s: GraphicsState, k: u64) -> u32 {
+    word_of(s, k as usize)
 }
 
 fn state_differs(case: &[u8], s: GraphicsState) -> u64 {

@@ -16,12 +16,12 @@ use cases::state_of;
 use cases::twilight_fits;
 use cases::word;
 use cases::words_of;
-use cases::zone_of;
 use compare::Compared;
 use compare::Said;
 use compare::compare_pair;
 use compare::compare_placed;
 use moves::Displaced;
+use state_words::zone_of;
 
 // ---- move_original
 fn original_agrees_over(

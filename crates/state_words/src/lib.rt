@@ -69,7 +69,7 @@ fn high_word(x: u64) -> u32
 }
 
 // A number above 7 is taken for the last mode; `is_state` refuses it.
-fn mode_of(n: u32) -> RoundMode
+pub fn mode_of(n: u32) -> RoundMode
     ensures { λ r. ⌜ r ≡ modeOf n ⌝ }
 {
     match n {
@@ -99,7 +99,7 @@ fn mode_word(mode: RoundMode) -> u32
     }
 }
 
-fn zone_of(n: u32) -> ZonePointer
+pub fn zone_of(n: u32) -> ZonePointer
     ensures { λ r. ⌜ r ≡ zoneOf n ⌝ }
 {
     match n {
@@ -336,7 +336,7 @@ fn facts_word(f: Facts, k: usize) -> u32
 }
 
 // Word k of a state, 0 outside.
-fn word_of(s: GraphicsState, k: usize) -> u32
+pub fn word_of(s: GraphicsState, k: usize) -> u32
     ensures { λ r. ⌜ r ≡ wordOf s k ⌝ }
 {
     if k < ROUND {

@@ -2,12 +2,12 @@
 //
 // A row is eight little-endian words: the call, up to four arguments, 0, the answer's number and the result (docs/ORACLE.md). What
 // this prints is held to the file `stdout`; the rows stand in the file `stdin`.
-use cases::mode_of;
 use int::from_bits;
 use libc::STDIN_FILENO;
 use round::RoundMode;
 use round::RoundState;
 use round::Rounded;
+use state_words::mode_of;
 use tally::Tally;
 use tally::Turn;
 use words::word_at;
