@@ -18,9 +18,10 @@ use Rattle.lines.specs.World.{Fixed, World}
 use Rattle.replay.specs.Run.{Ran, Went, ends, entryOf, fits, onCall, onEntry as runOnEntry, onward, replayOf, runOf, stepOf, worldFits}
 use Rattle.apart.specs.Reached.{SameAlong, afterCall, afterLine, linesReached, none, onEntry as reachedOnEntry, opcodeAt, reachedFrom}
 use Rattle.axes.specs.Axes.{Straight, fixedSeen, mixes, worldSeen}
+use Rattle.axes.specs.declared.Axis.the-variants.{X, Y}
+use Rattle.graphics.specs.State.{allAlong, usableState, xAxis, yAxis}
 use Rattle.graphics.proofs.Laws.{and-left, and-right}
 use Rattle.zone.specs.Sizes.{glyphFits, pairFits, placedFits, twilightFits}
-use Rattle.graphics.specs.State.{usableState}
 use Rattle.axes.proofs.Seen.{x-length, y-length}
 use Rattle.apart.proofs.Steps.{step-straight, steps-alike}
 
@@ -122,3 +123,16 @@ runs-apart a f g sheet budget start w v r s er es ef ew e free =
       lines = ap (λ (x : Ran). x .lines) er ∙ both .lines ∙ sym (ap (λ (x : Ran). x .lines) es);
       worlds = ap (λ (x : Ran). worldSeen a (x .world)) er ∙ both .worlds ∙ sym (ap (λ (x : Ran). worldSeen a (x .world)) es);
     }
+
+-- ---- the two instances
+-- vectors straight up: what differs in x alone ends with the same y, flags, state, answer, place and count
+pub vertical-runs-apart : (f g : Fixed) (sheet : List ℤ) (budget start : ℕ) (w v : World) → fixedSeen Y f ≡ fixedSeen Y g → worldSeen Y w ≡ worldSeen Y v
+    → w .state .vectors ≡ allAlong yAxis → none (mixes Y) (linesReached f sheet budget start w) ≡ true
+    → SameAlong Y (runOf f sheet budget start w) (runOf g sheet budget start v)
+vertical-runs-apart = axes-apart Y
+
+-- vectors level: the same with the axes exchanged
+pub horizontal-runs-apart : (f g : Fixed) (sheet : List ℤ) (budget start : ℕ) (w v : World) → fixedSeen X f ≡ fixedSeen X g → worldSeen X w ≡ worldSeen X v
+    → w .state .vectors ≡ allAlong xAxis → none (mixes X) (linesReached f sheet budget start w) ≡ true
+    → SameAlong X (runOf f sheet budget start w) (runOf g sheet budget start v)
+horizontal-runs-apart = axes-apart X

@@ -1,9 +1,9 @@
 -- Demand 3, the second half: a run whose vectors lie along an axis, where no line reached mixes the axes or interpolates across, leaves every glyph point's
 -- coordinate and touch mark across the axis, refused or not. Line by line: each leaves them, and leaves the vectors along the axis. Assumes nothing.
 use mathlib.Core.Bool.{Bool, _&&_, _||_, cond, false, not, true}
-use mathlib.Core.List.{List, [], _∷_}
+use mathlib.Core.List.{List, [], _∷_, map}
 use Prim.Native.Nat.{_-_, suc, zero, ℕ}
-use mathlib.Core.Path.{_∙_, _≡_, ap, refl}
+use mathlib.Core.Path.{_∙_, _≡_, ap, refl, subst, sym}
 use lib.ListN.{drop, length, take}
 use lib.Dec.{leb, ltb}
 use borrow.Author.Tests.{not-true}
@@ -17,11 +17,13 @@ use Rattle.sheet.specs.declared.Decoded.the-variants.{Operands, Refused as Refu
 use Rattle.replay.specs.Run.{Ran, entryOf, onCall, onDecoded, onEntry as runOnEntry, onward, replayOf, runOf, stepOf, worldFits}
 use Rattle.axes.specs.Axes.{Straight, interpolatesAcross, mixes}
 use Rattle.axes.proofs.Still.{WorldStill, line-still, stays, then}
+use Rattle.axes.specs.declared.Axis.the-variants.{X, Y}
 use Rattle.apart.specs.Reached.{afterCall, afterLine, linesReached, none, onEntry as reachedOnEntry, opcodeAt, reachedFrom}
+use Rattle.graphics.specs.State.{allAlong, usableState, xAxis, yAxis}
 use Rattle.graphics.proofs.Laws.{and-left, and-right}
+use Rattle.point.specs.Flag.{bit}
 use Rattle.sheet.specs.Table.{decodeOf}
 use Rattle.axes.proofs.Lines.{or-left, or-right}
-use Rattle.graphics.specs.State.{usableState}
 use Rattle.apart.proofs.Steps.{Named, all-named, step-straight}
 
 -- a line that looks or works across the axis
@@ -96,3 +98,25 @@ pub across-still : (a : Axis) (f : Fixed) (sheet : List ℤ) (budget start : ℕ
 unfolding runOf linesReached
 across-still a f sheet budget start w e free =
     entry-still a f sheet budget start w e (entryOf (worldFits f sheet w) (usableState (w .state)) (leb start (length sheet))) free
+
+-- the same of the public call: whatever a call of `run` returns and leaves, by its contract
+pub run-still : (a : Axis) (f : Fixed) (sheet : List ℤ) (budget start : ℕ) (w : World) (r : Ran) → r ≡ runOf f sheet budget start w → Straight a (w .state)
+    → none (worksAcross a) (linesReached f sheet budget start w) ≡ true
+    → WorldStill a w (r .world)
+run-still a f sheet budget start w r e straight free = subst (λ (x : Ran). WorldStill a w (x .world)) (sym e) (across-still a f sheet budget start w straight free)
+
+-- vectors straight up, nothing interpolated in x: every glyph point's x and x-touch mark is what it was
+pub vertical-run-still : (f : Fixed) (sheet : List ℤ) (budget start : ℕ) (w : World) → w .state .vectors ≡ allAlong yAxis
+    → none (worksAcross Y) (linesReached f sheet budget start w) ≡ true
+    → (runOf f sheet budget start w .world .gx ≡ w .gx) × (map (bit 1) (runOf f sheet budget start w .world .gflags) ≡ map (bit 1) (w .gflags))
+vertical-run-still f sheet budget start w straight free =
+    let s = across-still Y f sheet budget start w straight free in
+    (s .coordinates, s .marks)
+
+-- vectors level, nothing interpolated in y: the same with the axes exchanged
+pub horizontal-run-still : (f : Fixed) (sheet : List ℤ) (budget start : ℕ) (w : World) → w .state .vectors ≡ allAlong xAxis
+    → none (worksAcross X) (linesReached f sheet budget start w) ≡ true
+    → (runOf f sheet budget start w .world .gy ≡ w .gy) × (map (bit 2) (runOf f sheet budget start w .world .gflags) ≡ map (bit 2) (w .gflags))
+horizontal-run-still f sheet budget start w straight free =
+    let s = across-still X f sheet budget start w straight free in
+    (s .coordinates, s .marks)
