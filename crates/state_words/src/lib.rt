@@ -1,8 +1,8 @@
 // The graphics state as words, in the order of document 02, K4: what a record keeps and what a caller from C hands over.
 //
-// The three public functions answer for every input, and each is an equation with a definition of specs/Words.antt: `is_state` tells words that
-// are a state from others, `read_state` gives the state that words stand for, and `write_state` the words of a state. That each undoes the
-// other is in proofs/Back.antt. A field that the state gains goes to the end, so that older words keep their places.
+// The public functions answer for every input, and each is an equation with a definition of specs/Words.antt: `is_state` tells words that are a
+// state from others, `read_state` gives the state that words stand for, and `write_state` the words of a state, `word_of` one of them. That
+// each undoes the other is in proofs/Back.antt. A field that the state gains goes to the end, so that older words keep their places.
 use graphics::Facts;
 use graphics::GraphicsState;
 use graphics::References;
