@@ -14,8 +14,10 @@ use Rattle.axes.specs.declared.Axis.{Axis}
 use Rattle.answer.specs.declared.Call.{Call}
 use Rattle.answer.specs.declared.Call.the-variants.{Done, Refused as RefusedCall}
 use Rattle.replay.specs.declared.Answer.the-variants.{Finished, OutOfBudget, Refused}
-use Rattle.lines.specs.World.{Fixed, World}
-use Rattle.replay.specs.Run.{Ran, Went, ends, entryOf, fits, onCall, onEntry as runOnEntry, onward, replayOf, runOf, stepOf, worldFits}
+use Rattle.world.specs.World.{Fixed, World}
+use Rattle.replay.specs.Run.{Ran, ends, entryOf, onCall, onEntry as runOnEntry, onward, replayOf, runOf}
+use Rattle.step.specs.Step.{Went, stepOf}
+use Rattle.world.specs.Sizes.{fits, worldFits}
 use Rattle.apart.specs.Reached.{SameAlong, afterCall, afterLine, linesReached, none, onEntry as reachedOnEntry, opcodeAt, reachedFrom}
 use Rattle.axes.specs.Axes.{Straight, fixedSeen, mixes, worldSeen}
 use Rattle.axes.specs.declared.Axis.the-variants.{X, Y}

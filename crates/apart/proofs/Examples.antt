@@ -4,9 +4,11 @@ use mathlib.Core.List.{List, [], _∷_}
 use mathlib.Core.Path.{_≡_, refl}
 use mathlib.Core.Bool.{false, true}
 use lib.IntN.{negsuc, pos, ℤ}
-use Rattle.lines.specs.World.{Fixed, World, fixed, world}
+use Rattle.world.specs.World.{Fixed, World, fixed, world}
 use Rattle.graphics.specs.declared.GraphicsState.{GraphicsState}
-use Rattle.replay.specs.Run.{Ran, entryOf, fits, onCall, onDecoded, onEntry as runOnEntry, replayOf, runOf, stepOf}
+use Rattle.replay.specs.Run.{Ran, entryOf, onCall, onEntry as runOnEntry, replayOf, runOf}
+use Rattle.world.specs.Sizes.{fits}
+use Rattle.step.specs.Step.{onDecoded, stepOf}
 use Rattle.apart.specs.Reached.{SameAlong, afterCall, linesReached, none, onEntry as reachedOnEntry, reachedFrom}
 use Rattle.axes.specs.declared.Axis.the-variants.{Y}
 use Rattle.int.specs.Word.{abs32, add32, maxZ, minZ, mul32, neg32, quot32, sub32, wrap32}

@@ -9,13 +9,13 @@ use lib.Dec.{eqb, ltb}
 use lib.IntN.{pos, ℤ}
 use Rattle.axes.specs.declared.Axis.{Axis}
 use Rattle.sheet.specs.declared.Decoded.{Decoded}
-use Rattle.lines.specs.World.{Fixed, World, world}
+use Rattle.world.specs.World.{Fixed, World, world}
 use Rattle.sheet.specs.declared.Decoded.the-variants.{Operands, Refused as RefusedLine}
 use Rattle.answer.specs.declared.Refusal.{Refusal}
 use Rattle.answer.specs.declared.Refusal.the-variants.{Line, Surplus}
 use Rattle.answer.specs.declared.Call.the-variants.{Refused as RefusedCall}
 use Rattle.axes.specs.Axes.{Straight, fixedSeen, mixes, worldSeen, xSeen, ySeen}
-use Rattle.replay.specs.Run.{Went, landedIn, onDecoded, stepOf}
+use Rattle.step.specs.Step.{Went, landedIn, onDecoded, stepOf}
 use Rattle.sheet.specs.Table.{decodeBy, decodeOf, needOf, takesBy, unknown}
 use Rattle.int.specs.Word.{indexOf}
 use Rattle.axes.proofs.Lines.{line-seen}

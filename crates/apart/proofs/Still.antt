@@ -12,9 +12,11 @@ use Rattle.axes.specs.declared.Axis.{Axis}
 use Rattle.answer.specs.declared.Call.{Call}
 use Rattle.sheet.specs.declared.Decoded.{Decoded}
 use Rattle.answer.specs.declared.Call.the-variants.{Done, Refused as RefusedCall}
-use Rattle.lines.specs.World.{Fixed, World}
+use Rattle.world.specs.World.{Fixed, World}
 use Rattle.sheet.specs.declared.Decoded.the-variants.{Operands, Refused as RefusedLine}
-use Rattle.replay.specs.Run.{Ran, entryOf, onCall, onDecoded, onEntry as runOnEntry, onward, replayOf, runOf, stepOf, worldFits}
+use Rattle.replay.specs.Run.{Ran, entryOf, onCall, onEntry as runOnEntry, onward, replayOf, runOf}
+use Rattle.step.specs.Step.{onDecoded, stepOf}
+use Rattle.world.specs.Sizes.{worldFits}
 use Rattle.axes.specs.Axes.{Straight, interpolatesAcross, mixes}
 use Rattle.axes.proofs.Still.{WorldStill, line-still, stays, then}
 use Rattle.axes.specs.declared.Axis.the-variants.{X, Y}

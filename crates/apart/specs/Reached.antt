@@ -10,10 +10,12 @@ use Rattle.int.specs.Word.{indexOf}
 use Rattle.answer.specs.declared.Call.{Call}
 use Rattle.answer.specs.declared.Call.the-variants.{Done, Refused}
 use Rattle.graphics.specs.State.{usableState}
-use Rattle.lines.specs.World.{Fixed, World}
+use Rattle.world.specs.World.{Fixed, World}
 use Rattle.axes.specs.Axes.{worldSeen}
 use Rattle.axes.specs.declared.Axis.{Axis}
-use Rattle.replay.specs.Run.{Ran, Went, stepOf, entryOf, worldFits}
+use Rattle.replay.specs.Run.{Ran, entryOf}
+use Rattle.step.specs.Step.{Went, stepOf}
+use Rattle.world.specs.Sizes.{worldFits}
 
 -- the opcode word of the line at a place
 abbrev pub opcodeAt : List ℤ → ℕ → ℕ

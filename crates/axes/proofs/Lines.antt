@@ -11,7 +11,7 @@ use lib.IntN.{ℤ}
 use Rattle.lines.specs.declared.Instruction.the-variants.{Alignrp, Flippt, Isect, Iup, Mdap, Miap, Msirp, Set, Shp}
 use Rattle.places.specs.Placed.{AllPlaced, BothPlaced}
 use Rattle.axes.specs.declared.Axis.{Axis}
-use Rattle.lines.specs.World.{Fixed, World, lined}
+use Rattle.world.specs.World.{Fixed, World, lined}
 use Rattle.lines.specs.declared.Instruction.{Instruction}
 use Rattle.interpolate.specs.Interpolated.{Interpolated}
 use Rattle.line.specs.declared.Stepped.{Stepped}

@@ -21,7 +21,7 @@ use Rattle.moves.specs.declared.Displaced.{Displaced}
 use Rattle.answer.specs.declared.Call.the-variants.{Done, Refused as RefusedCall}
 use Rattle.graphics.specs.declared.Facts.{Facts}
 use Rattle.zone.specs.declared.Fetched.{Fetched}
-use Rattle.lines.specs.World.{Fixed, World}
+use Rattle.world.specs.World.{Fixed, World}
 use Rattle.graphics.specs.declared.ZonePointer.the-variants.{Glyph, Twilight}
 use Rattle.graphics.specs.declared.GraphicsState.{GraphicsState}
 use Rattle.lines.specs.declared.Instruction.{Instruction}

@@ -10,7 +10,7 @@ use borrow.Author.Tests.{ltb-true}
 use lib.IntN.{ℤ}
 use Rattle.lines.specs.declared.Instruction.the-variants.{Alignrp, Flippt, Isect, Iup, Mdap, Miap, Msirp, Set, Shp}
 use Rattle.axes.specs.declared.Axis.{Axis}
-use Rattle.lines.specs.World.{Fixed, World}
+use Rattle.world.specs.World.{Fixed, World}
 use Rattle.graphics.specs.declared.GraphicsState.{GraphicsState}
 use Rattle.lines.specs.declared.Instruction.{Instruction}
 use Rattle.axes.specs.Axes.{Straight, mixes, turnsAcross}

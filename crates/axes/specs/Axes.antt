@@ -11,7 +11,7 @@ use Rattle.point.specs.Flag.{bit}
 use Rattle.graphics.specs.State.{xAxis, yAxis, allAlong}
 use Rattle.graphics.specs.declared.GraphicsState.{GraphicsState}
 use Rattle.graphics.specs.declared.Vector.{Vector}
-use Rattle.lines.specs.World.{Fixed, World, fixed, world, Lined}
+use Rattle.world.specs.World.{Fixed, World, fixed, world, Lined}
 use Rattle.axes.specs.declared.Axis.{Axis}
 use Rattle.axes.specs.declared.Axis.the-variants.{X, Y}
 

@@ -10,7 +10,7 @@ use lib.IntN.{ℤ}
 use lib.ListN.{length, set}
 use Rattle.graphics.proofs.Laws.{and-left, and-right}
 use Rattle.graphics.specs.declared.GraphicsState.{GraphicsState}
-use Rattle.lines.specs.World.{Fixed, world}
+use Rattle.world.specs.World.{Fixed, world}
 use Rattle.replay.specs.declared.Outcome.{Outcome}
 use Rattle.replay.specs.Run.{ran, runOf, numberOfAnswer, detailOfAnswer}
 use Rattle.state_words.specs.Words.{stateSize, stateWords, stateOf, isState, written}

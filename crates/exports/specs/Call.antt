@@ -6,7 +6,7 @@ use mathlib.Core.List.{List, [], _∷_}
 use lib.Dec.{eqb}
 use lib.IntN.{ℤ}
 use lib.ListN.{length}
-use Rattle.lines.specs.World.{Fixed, world}
+use Rattle.world.specs.World.{Fixed, world}
 use Rattle.replay.specs.Run.{Ran, runOf, numberOfAnswer, detailOfAnswer}
 use Rattle.state_words.specs.Words.{stateWords, stateOf, isState}
 

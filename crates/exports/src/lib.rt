@@ -8,7 +8,7 @@ use state_words::is_state;
 use state_words::read_state;
 use state_words::write_state;
 ghost use mathlib.Core.Path.{_≡_};
-ghost use Rattle.lines.specs.World.{fixed};
+ghost use Rattle.world.specs.World.{fixed};
 ghost use Rattle.replay.specs.Run.{numberOfAnswer, detailOfAnswer};
 ghost use Rattle.exports.specs.Call.{answered, badWord, isCall, left, callOf};
 

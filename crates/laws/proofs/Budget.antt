@@ -15,8 +15,10 @@ use Rattle.replay.specs.declared.Answer.{Answer}
 use Rattle.answer.specs.declared.Call.{Call}
 use Rattle.answer.specs.declared.Call.the-variants.{Done, Refused as RefusedCall}
 use Rattle.replay.specs.declared.Answer.the-variants.{Finished, OutOfBudget, Refused}
-use Rattle.lines.specs.World.{Fixed, World, world}
-use Rattle.replay.specs.Run.{Ran, ends, entryOf, onCall, onEntry, replayOf, runOf, stepOf, worldFits}
+use Rattle.world.specs.World.{Fixed, World, world}
+use Rattle.replay.specs.Run.{Ran, ends, entryOf, onCall, onEntry, replayOf, runOf}
+use Rattle.step.specs.Step.{stepOf}
+use Rattle.world.specs.Sizes.{worldFits}
 use Rattle.answer.specs.declared.Refusal.{Refusal}
 use Rattle.replay.proofs.Loop.{at-end, entered, not-entered}
 use Rattle.graphics.specs.State.{usableState}

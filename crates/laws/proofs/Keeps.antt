@@ -8,13 +8,15 @@ use lib.ListN.{drop, length, take}
 use lib.Dec.{eqb, leb, ltb}
 use lib.IntN.{ℤ}
 use Rattle.lines.specs.declared.Instruction.the-variants.{Alignrp, Flippt, Isect, Iup, Mdap, Miap, Msirp, Set, Shp}
-use Rattle.lines.specs.World.{Alike, Fixed, World}
+use Rattle.world.specs.World.{Alike, Fixed, World}
 use Rattle.answer.specs.declared.Call.{Call}
 use Rattle.sheet.specs.declared.Decoded.{Decoded}
 use Rattle.answer.specs.declared.Call.the-variants.{Done}
 use Rattle.lines.specs.declared.Instruction.{Instruction}
 use Rattle.sheet.specs.declared.Decoded.the-variants.{Operands}
-use Rattle.replay.specs.Run.{Ran, entryOf, fits, onCall, onDecoded, onEntry, placeAfter, replayOf, runOf, worldFits}
+use Rattle.replay.specs.Run.{Ran, entryOf, onCall, onEntry, replayOf, runOf}
+use Rattle.world.specs.Sizes.{fits, worldFits}
+use Rattle.step.specs.Step.{onDecoded, placeAfter}
 use Rattle.align.proofs.Keeps.{alignrp-lengths}
 use Rattle.sheet.specs.Table.{decodeOf}
 use Rattle.zone.proofs.Cases.{either}
@@ -28,11 +30,11 @@ use Rattle.outline.proofs.Keeps.{mdap-lengths}
 use Rattle.miap.proofs.Keeps.{miap-lengths}
 use Rattle.limits.specs.Limits.{mostContours, mostControlValues, mostPoints, mostWords}
 use Rattle.relative.proofs.Keeps.{msirp-lengths}
-use Rattle.replay.proofs.Steps.{operands-inside}
+use Rattle.step.proofs.Steps.{operands-inside}
 use Rattle.graphics.specs.State.{usableState}
 use Rattle.laws.proofs.Usable.{alignrp-usable, flippt-usable, isect-usable, iup-usable, mdap-usable, miap-usable, msirp-usable, set-usable, shp-usable}
 use Rattle.replay.proofs.Loop.{Sizes, sizes}
-use Rattle.replay.specs.Run.{stepOf}
+use Rattle.step.specs.Step.{stepOf}
 use Rattle.answer.specs.declared.Call.the-variants.{Refused as RefusedCall}
 use Rattle.sheet.specs.declared.Decoded.the-variants.{Refused as RefusedLine}
 

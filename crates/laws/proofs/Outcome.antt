@@ -5,7 +5,7 @@ use mathlib.Core.List.{List}
 use mathlib.Core.Path.{_∙_, _≡_, ap, sym}
 use Prim.Native.Nat.{ℕ}
 use lib.IntN.{ℤ}
-use Rattle.lines.specs.World.{Fixed, World}
+use Rattle.world.specs.World.{Fixed, World}
 use Rattle.replay.specs.Run.{Ran, ran, runOf}
 use Rattle.replay.specs.declared.Outcome.{Outcome}
 

@@ -4,7 +4,7 @@ use mathlib.Core.Path.{_∙_, _≡_, ap, sym}
 use Prim.Native.Nat.{ℕ}
 use lib.IntN.{ℤ}
 use Rattle.lines.specs.declared.Instruction.the-variants.{Alignrp, Flippt, Isect, Iup, Mdap, Miap, Msirp, Set, Shp}
-use Rattle.lines.specs.World.{Fixed, World, lined}
+use Rattle.world.specs.World.{Fixed, World, lined}
 use Rattle.line.specs.declared.Stepped.{Stepped}
 use Rattle.align.specs.Align.{alignrpOf}
 use Rattle.places.specs.Placed.{allPlaced, bothPlaced}

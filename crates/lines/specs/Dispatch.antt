@@ -17,7 +17,7 @@ use Rattle.intersect.specs.Intersection.{isectOf}
 use Rattle.interpolate.specs.Interpolated.{Interpolated, iupBy}
 use Rattle.lines.specs.declared.Instruction.{Instruction}
 use Rattle.lines.specs.declared.Instruction.the-variants.{Set, Isect, Mdap, Iup, Shp, Msirp, Alignrp, Miap, Flippt}
-use Rattle.lines.specs.World.{Fixed, World, Lined, lined}
+use Rattle.world.specs.World.{Fixed, World, Lined, lined}
 
 -- ---- the table
 -- from this opcode to that; a line that isn't here sets the state alone

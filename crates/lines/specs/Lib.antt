@@ -1,2 +1,1 @@
 pub mod Dispatch
-pub mod World

@@ -15,7 +15,7 @@ use outline::mdap;
 use relative::msirp;
 use sheet::set_state;
 ghost use mathlib.Core.Path.{_≡_};
-ghost use Rattle.lines.specs.World.{fixed, world, Alike, lined};
+ghost use Rattle.world.specs.World.{fixed, world, Alike, lined};
 ghost use Rattle.lines.specs.Dispatch.{between, instructionOf, lineOf};
 
 pub enum Instruction {

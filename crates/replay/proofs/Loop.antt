@@ -10,12 +10,14 @@ use lib.Dec.{eqb, leb}
 use borrow.Author.Tests.{eqb-true, le-ltb, lt-ltb}
 use lib.ListN.{length}
 use lib.IntN.{ℤ}
-use Rattle.lines.specs.World.{Alike, Fixed, World}
+use Rattle.world.specs.World.{Alike, Fixed, World}
 use Rattle.answer.specs.declared.Call.{Call}
 use Rattle.answer.specs.declared.Call.the-variants.{Done, Refused as RefusedCall}
 use Rattle.replay.specs.declared.Answer.the-variants.{Finished, OutOfBudget, Refused}
 use Rattle.answer.specs.declared.Refusal.{Refusal}
-use Rattle.replay.specs.Run.{Went, ends, entryOf, fits, onCall, onEntry, onward, replayOf, runOf, stepOf, worldFits}
+use Rattle.step.specs.Step.{Went, stepOf}
+use Rattle.replay.specs.Run.{ends, entryOf, onCall, onEntry, onward, replayOf, runOf}
+use Rattle.world.specs.Sizes.{fits, worldFits}
 use Rattle.zone.specs.Sizes.{glyphFits, pairFits, placedFits, twilightFits}
 use Rattle.limits.specs.Limits.{mostContours, mostControlValues, mostWords}
 use Rattle.zone.proofs.Cases.{pair-length, placed-length, placed-pair}

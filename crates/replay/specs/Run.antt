@@ -1,10 +1,10 @@
--- What one line of a sheet does, and what a run of lines does: document 01, "A sheet and its lines" and "What the replayer says back". Assumes nothing.
-use Prim.Native.Nat.{ℕ, zero, suc, _-_}
-use mathlib.Core.Bool.{Bool, cond, _&&_}
+-- What a run of lines does: document 01, "A sheet and its lines" and "What the replayer says back". Assumes nothing.
+use Prim.Native.Nat.{ℕ, zero, suc}
+use mathlib.Core.Bool.{Bool, cond}
 use mathlib.Core.List.{List}
 use lib.Dec.{ltb, leb}
 use lib.IntN.{ℤ}
-use lib.ListN.{length, take, drop}
+use lib.ListN.{length}
 use Rattle.answer.specs.Answer.{numberOf, detailOf}
 use Rattle.answer.specs.declared.Call.{Call}
 use Rattle.answer.specs.declared.Call.the-variants.{Done}
@@ -13,19 +13,12 @@ use Rattle.answer.specs.declared.Refusal.{Refusal}
 use Rattle.answer.specs.declared.Refusal.the-variants.{Sizes, State, Line}
 use Rattle.graphics.specs.State.{usableState}
 use Rattle.graphics.specs.declared.GraphicsState.{GraphicsState}
-use Rattle.limits.specs.Limits.{mostControlValues, mostWords}
-use Rattle.line.specs.declared.Stepped.{Stepped}
-use Rattle.zone.specs.Sizes.{glyphFits, twilightFits}
-use Rattle.sheet.specs.Table.{decodeOf}
-use Rattle.sheet.specs.declared.Decoded.{Decoded}
-use Rattle.sheet.specs.declared.Decoded.the-variants.{Operands}
-use Rattle.sheet.specs.declared.Decoded.the-variants.{Refused as RefusedLine}
-use Rattle.lines.specs.Dispatch.{lineOf}
-use Rattle.lines.specs.World.{Fixed, World, world, Lined}
+use Rattle.step.specs.Step.{Went, stepOf}
+use Rattle.world.specs.Sizes.{worldFits}
+use Rattle.world.specs.World.{Fixed, World, world}
 use Rattle.replay.specs.declared.Answer.{Answer}
 use Rattle.replay.specs.declared.Answer.the-variants.{Finished, OutOfBudget, Refused}
 use Rattle.replay.specs.declared.Outcome.{Outcome}
-use Rattle.replay.specs.declared.Landing.{Landing}
 
 -- ---- the answer's number and detail
 abbrev pub numberOfAnswer : Answer → ℕ
@@ -37,35 +30,6 @@ abbrev pub detailOfAnswer : Answer → ℕ
 detailOfAnswer Finished = 0
 detailOfAnswer OutOfBudget = 0
 detailOfAnswer (Refused why) = detailOf why
-
--- ---- one line
--- what a line comes to, the place after it, and the world after it
-pub record Went : Type 0 where
-  pub call : Call
-  pub place : ℕ
-  pub world : World
-
-abbrev pub went : Landing → List ℤ → List ℤ → List ℕ → List ℤ → List ℤ → List ℤ → List ℤ → List ℕ → Went
-went r gx gy gflags tox toy tx ty tflags = record { call = r .call; place = r .place; world = world (r .state) gx gy gflags tox toy tx ty tflags }
-
--- a line that is done is followed by the next; one that is refused keeps its place
-abbrev pub placeAfter : ℕ → ℕ → Call → ℕ
-placeAfter at end Done = end
-placeAfter at end (RefusedCall why) = at
-
-abbrev pub landed : ℕ → ℕ → Stepped → Landing
-landed at end r = record { call = r .call; place = placeAfter at end (r .call); state = r .state }
-
-abbrev pub landedIn : ℕ → ℕ → Lined → Went
-landedIn at end l = record { call = l .call; place = placeAfter at end (l .call); world = l .world }
-
--- a line that can't be read changes nothing; else its operands are the words from first to end
-unfoldable pub onDecoded : Fixed → List ℤ → ℕ → World → Decoded → Went
-onDecoded f sheet at w (Operands op first end) = landedIn at end (lineOf f op (take (end - first) (drop first sheet)) w)
-onDecoded f sheet at w (RefusedLine why) = record { call = RefusedCall why; place = at; world = w }
-
-unfoldable pub stepOf : Fixed → List ℤ → ℕ → World → Went
-stepOf f sheet at w = onDecoded f sheet at w (decodeOf sheet (w .state .«loop_counter») at)
 
 -- ---- a run
 -- the answer, the place, the lines finished, and the world
@@ -97,17 +61,6 @@ replayOf f sheet (suc budget) lines at w =
     cond (ltb at (length sheet)) (onward (replayOf f sheet budget (suc lines)) lines (stepOf f sheet at w)) (ends Finished lines at w)
 
 -- ---- the entry
--- every list of a zone of one length, and no size above its limit
-unfoldable pub fits : Fixed → List ℤ → List ℤ → List ℤ → List ℕ → List ℤ → List ℤ → List ℤ → List ℤ → List ℕ → Bool
-fits f sheet gx gy gflags tox toy tx ty tflags =
-    glyphFits (f .gux) (f .guy) (f .gox) (f .goy) gx gy gflags (f .contours)
-    && twilightFits tox toy tx ty tflags
-    && leb (length (f .controls)) mostControlValues
-    && leb (length sheet) mostWords
-
-abbrev pub worldFits : Fixed → List ℤ → World → Bool
-worldFits f sheet w = fits f sheet (w .gx) (w .gy) (w .gflags) (w .tox) (w .toy) (w .tx) (w .ty) (w .tflags)
-
 abbrev pub entryRefused : Refusal → ℕ → GraphicsState → Outcome
 entryRefused why start s = record { answer = Refused why; place = start; lines = 0; state = s }
 

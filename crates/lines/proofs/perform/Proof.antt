@@ -2,7 +2,7 @@
 use mathlib.Core.Path.{_∙_, sym}
 use borrow.Author.Needs.{needs}
 use denote.Ref.{now}
-use Rattle.lines.specs.World.{Fixed, World, fixed, world}
+use Rattle.world.specs.World.{Fixed, World, fixed, world}
 use Rattle.lines.proofs.Cases.{alignrp-line, flippt-line, isect-line, iup-line, mdap-line, miap-line, msirp-line, set-line, shp-line}
 use Rattle.lines.proofs.perform.Tie as tie
 use Rattle.lines.proofs.perform.Statement.{statement}

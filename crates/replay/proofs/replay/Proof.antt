@@ -7,7 +7,7 @@ use native.Mathlib.Omega.{arith}
 use borrow.Author.Needs.{needs}
 use denote.Ref.{now}
 use lib.IntN.{ℤ}
-use Rattle.lines.specs.World.{Fixed, World, fixed, world}
+use Rattle.world.specs.World.{Fixed, World, fixed, world}
 use Rattle.replay.specs.Run.{replayOf}
 use Rattle.replay.proofs.Loop.{Sizes, at-end, goes-on, same-sizes, sizes, still-alike, stops, used}
 use Rattle.replay.proofs.replay.Tie as tie

@@ -4,7 +4,7 @@ use lib.Dec.{leb}
 use lib.ListN.{length}
 use borrow.Author.Needs.{needs}
 use denote.Ref.{now}
-use Rattle.lines.specs.World.{Fixed, World, fixed, world}
+use Rattle.world.specs.World.{Fixed, World, fixed, world}
 use Rattle.replay.specs.declared.Outcome.{Outcome}
 use Rattle.replay.specs.Run.{ran}
 use Rattle.round.specs.Round.{usable}

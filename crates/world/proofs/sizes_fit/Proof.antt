@@ -1,8 +1,8 @@
--- `replay::sizes_fit` meets its contract: it is the four tests. Assumes nothing.
+-- `world::sizes_fit` meets its contract: it is the four tests. Assumes nothing.
 use borrow.Author.Needs.{needs}
-use Rattle.replay.specs.Run.{fits}
-use Rattle.replay.proofs.sizes_fit.Tie as tie
-use Rattle.replay.proofs.sizes_fit.Statement.{statement}
+use Rattle.world.specs.Sizes.{fits}
+use Rattle.world.proofs.sizes_fit.Tie as tie
+use Rattle.world.proofs.sizes_fit.Statement.{statement}
 
 glyph-fits-requires : tie.Need-glyph-fits-requires
 glyph-fits-requires c κs = search needs

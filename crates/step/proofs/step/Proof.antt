@@ -1,12 +1,12 @@
--- `replay::step` meets its contract: by what was read off the sheet; the operands that were read lie in it. Assumes nothing.
+-- `step::step` meets its contract: by what was read off the sheet; the operands that were read lie in it. Assumes nothing.
 use mathlib.Core.Path.{_∙_, sym}
 use native.Mathlib.Omega.{arith}
 use borrow.Author.Needs.{needs}
 use denote.Ref.{now}
-use Rattle.lines.specs.World.{Fixed, World, fixed, world}
-use Rattle.replay.proofs.Steps.{not-read, operands-inside, was-done}
-use Rattle.replay.proofs.step.Tie as tie
-use Rattle.replay.proofs.step.Statement.{statement}
+use Rattle.world.specs.World.{Fixed, World, fixed, world}
+use Rattle.step.proofs.Steps.{not-read, operands-inside, was-done}
+use Rattle.step.proofs.step.Tie as tie
+use Rattle.step.proofs.step.Statement.{statement}
 
 abbrev entry : tie.Start → World
 entry s =

@@ -9,8 +9,8 @@ use lib.Dec.{eqb, ltb}
 use borrow.Author.Tests.{ltb-false}
 use lib.IntN.{pos, ℤ}
 use Rattle.sheet.specs.declared.Decoded.{Decoded}
-use Rattle.lines.specs.World.{Fixed, World, lined, world}
-use Rattle.replay.specs.declared.Landing.{Landing}
+use Rattle.world.specs.World.{Fixed, World, lined, world}
+use Rattle.step.specs.declared.Landing.{Landing}
 use Rattle.sheet.specs.declared.Decoded.the-variants.{Operands, Refused as RefusedLine}
 use Rattle.answer.specs.declared.Refusal.{Refusal}
 use Rattle.answer.specs.declared.Refusal.the-variants.{Line, Surplus}
@@ -18,7 +18,7 @@ use Rattle.answer.specs.declared.Call.the-variants.{Refused as RefusedCall}
 use Rattle.line.specs.declared.Stepped.{Stepped}
 use Rattle.sheet.specs.Table.{decodeBy, decodeOf, needOf, takesBy, unknown}
 use Rattle.int.specs.Word.{indexOf}
-use Rattle.replay.specs.Run.{landed, landedIn, onDecoded, placeAfter, stepOf, went}
+use Rattle.step.specs.Step.{landed, landedIn, onDecoded, placeAfter, stepOf, went}
 use Rattle.lines.specs.Dispatch.{lineOf}
 
 pub landing : (at end : ℕ) (r : Stepped) {place : ℕ} → place ≡ placeAfter at end (r .call)

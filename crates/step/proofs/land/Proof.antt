@@ -1,8 +1,8 @@
--- `replay::land` meets its contract: its place is what the line came to. Assumes nothing.
+-- `step::land` meets its contract: its place is what the line came to. Assumes nothing.
 use borrow.Author.Needs.{needs}
-use Rattle.replay.proofs.Steps.{landing}
-use Rattle.replay.proofs.land.Tie as tie
-use Rattle.replay.proofs.land.Statement.{statement}
+use Rattle.step.proofs.Steps.{landing}
+use Rattle.step.proofs.land.Tie as tie
+use Rattle.step.proofs.land.Statement.{statement}
 
 place-after-requires : tie.Need-place-after-requires
 place-after-requires c κs = search needs
