@@ -1,0 +1,29 @@
+-- `record::state_fits` meets its contract. Assumes nothing.
+use borrow.Author.Needs.{needs}
+use Rattle.record.proofs.state_fits.Statement.{statement}
+use Rattle.record.proofs.state_fits.Tie as tie
+
+slice-aggregate-load-words : tie.Need-slice-aggregate-load-words
+slice-aggregate-load-words c = search needs
+
+load-words-requires : tie.Need-load-words-requires
+load-words-requires c κs = search needs
+
+slice-aggregate-is-state : tie.Need-slice-aggregate-is-state
+slice-aggregate-is-state c = search needs
+
+is-state-requires : tie.Need-is-state-requires
+is-state-requires c κs = search needs
+
+returns : tie.Need-returns
+returns c = cc
+
+pub state-fits-spec : {M : Type 1} → statement M
+state-fits-spec =
+    tie.close
+    (tie.spec
+    slice-aggregate-load-words
+    load-words-requires
+    slice-aggregate-is-state
+    is-state-requires
+    returns)

@@ -1,0 +1,5 @@
+mod Values
+pub mod Lies
+pub mod Kept
+pub mod Written
+pub mod Round

@@ -1,0 +1,56 @@
+-- A record stored part by part over bytes, each part at its place of the layout: document 02, K4. Assumes nothing.
+use Prim.Native.Nat.{ℕ}
+use mathlib.Core.List.{List, [], _∷_}
+use lib.IntN.{ℤ}
+use Rattle.graphics.specs.declared.GraphicsState.{GraphicsState}
+use Rattle.state_words.specs.Words.{stateWords}
+use Rattle.word_lists.specs.Lists.{part, wrappingSum, placed, wordsOfNumbers}
+use Rattle.layout.specs.declared.Layout.{Layout}
+use Rattle.layout.specs.Order.{sumPlace, atUnscaledX, atUnscaledY, atOriginalX, atOriginalY, atCurrentX, atCurrentY, atFlags, atEnds, atTwilightOriginalX, atTwilightOriginalY, atTwilightX, atTwilightY, atTwilightFlags, atControls, atSheet, atTrailer}
+use Rattle.record.specs.Format.{Held, trailerWords}
+
+-- the state's words over the first words of a byte string
+abbrev pub withState : GraphicsState → List ℕ → List ℕ
+withState s bytes = placed 0 (stateWords s) bytes
+
+-- the trailer's words over a byte string, the sum last, of what then stands before it
+abbrev pub withCounts : Layout → List ℕ → List ℕ
+withCounts l bytes = placed (atTrailer l) (trailerWords l) bytes
+
+abbrev pub withSum : Layout → List ℕ → List ℕ
+withSum l bytes = placed (sumPlace l) (wrappingSum (part bytes 0 (sumPlace l)) ∷ []) bytes
+
+abbrev pub withTrailer : Layout → List ℕ → List ℕ
+withTrailer l bytes = withSum l (withCounts l bytes)
+
+-- control values, then the sheet
+unfoldable pub withSources : Layout → List ℤ → List ℤ → List ℕ → List ℕ
+withSources l controls sheet bytes = placed (atSheet l) (wordsOfNumbers sheet) (placed (atControls l) (wordsOfNumbers controls) bytes)
+
+-- twilight original x and y, current x and y, flags
+unfoldable pub withTwilight : Layout → List ℤ → List ℤ → List ℤ → List ℤ → List ℕ → List ℕ → List ℕ
+withTwilight l ox oy x y flags bytes =
+    placed (atTwilightFlags l) flags
+    (placed (atTwilightY l) (wordsOfNumbers y)
+    (placed (atTwilightX l) (wordsOfNumbers x)
+    (placed (atTwilightOriginalY l) (wordsOfNumbers oy) (placed (atTwilightOriginalX l) (wordsOfNumbers ox) bytes))))
+
+-- glyph unscaled and original x and y
+unfoldable pub withOriginals : Layout → List ℤ → List ℤ → List ℤ → List ℤ → List ℕ → List ℕ
+withOriginals l ux uy ox oy bytes =
+    placed (atOriginalY l) (wordsOfNumbers oy)
+    (placed (atOriginalX l) (wordsOfNumbers ox) (placed (atUnscaledY l) (wordsOfNumbers uy) (placed (atUnscaledX l) (wordsOfNumbers ux) bytes)))
+
+-- glyph current x and y, flags, contours
+unfoldable pub withCurrents : Layout → List ℤ → List ℤ → List ℕ → List ℕ → List ℕ → List ℕ
+withCurrents l x y flags ends bytes =
+    placed (atEnds l) ends (placed (atFlags l) flags (placed (atCurrentY l) (wordsOfNumbers y) (placed (atCurrentX l) (wordsOfNumbers x) bytes)))
+
+-- the whole record, its trailer last
+unfoldable pub withRecord : Layout → Held → List ℕ → List ℕ
+withRecord l h bytes =
+    withTrailer l
+    (withSources l (h .fixed .controls) (h .sheet)
+    (withTwilight l (h .world .tox) (h .world .toy) (h .world .tx) (h .world .ty) (h .world .tflags)
+    (withCurrents l (h .world .gx) (h .world .gy) (h .world .gflags) (h .fixed .contours)
+    (withOriginals l (h .fixed .gux) (h .fixed .guy) (h .fixed .gox) (h .fixed .goy) (withState (h .world .state) bytes)))))

@@ -1,0 +1,31 @@
+-- What a writer leaves: document 02, K4. Assumes nothing.
+use Prim.Native.Nat.{ℕ}
+use mathlib.Core.Bool.{Bool, cond, _&&_}
+use mathlib.Core.List.{List, _++_}
+use lib.Dec.{leb}
+use lib.ListN.{drop, length}
+use Rattle.world.specs.Sizes.{worldFits}
+use Rattle.layout.specs.Order.{mostBytes, recordSize}
+use Rattle.record.specs.Format.{Held, layoutFor, recordOf}
+
+abbrev pub sizeFor : Held → ℕ
+sizeFor h = recordSize (layoutFor h)
+
+-- the lists make zones within document 01's sizes, and the record is within its own limit
+abbrev pub hasRecord : Held → Bool
+hasRecord h = worldFits (h .fixed) (h .sheet) (h .world) && leb (sizeFor h) mostBytes
+
+unfoldable pub canWrite : Held → ℕ → Bool
+canWrite h room = hasRecord h && leb (sizeFor h) room
+
+-- how many bytes were written, and what the bytes then are
+pub record Wrote : Type 0 where
+  pub size : ℕ
+  pub bytes : List ℕ
+
+abbrev pub wrote : ℕ → List ℕ → Wrote
+wrote size bytes = record { size = size; bytes = bytes }
+
+-- the record at the front of the bytes, or nothing
+unfoldable pub writeOf : Held → List ℕ → Wrote
+writeOf h bytes = cond (canWrite h (length bytes)) (wrote (sizeFor h) (recordOf h ++ drop (sizeFor h) bytes)) (wrote 0 bytes)

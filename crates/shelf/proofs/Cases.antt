@@ -1,0 +1,92 @@
+-- A replay of a record by its parts: what is said, what is written, the lists that were loaded, and the verdict on the bytes. Assumes nothing.
+use mathlib.Core.List.{List}
+use mathlib.Core.Path.{_∙_, _≡_, ap, ap₂, refl, subst, sym}
+use Prim.Native.Nat.{_≤_, ℕ}
+use native.Mathlib.Omega.{arith}
+use lib.IntN.{ℤ}
+use lib.ListN.{length}
+use Rattle.int.specs.Word.{ofBits}
+use Rattle.graphics.specs.declared.GraphicsState.{GraphicsState}
+use Rattle.world.specs.World.{Fixed, World, fixed, world}
+use Rattle.replay.specs.Run.{detailOfAnswer, numberOfAnswer, ran, runOf}
+use Rattle.replay.specs.declared.Outcome.{Outcome}
+use Rattle.word_lists.proofs.Parts.{mapped-length}
+use Rattle.word_lists.specs.Lists.{endOf}
+use Rattle.layout.specs.Order.{atControls, atCurrentX, atEnds, atSheet, atTwilightX}
+use Rattle.layout.specs.declared.Layout.{Layout}
+use Rattle.record.proofs.Whole.{layout-is, sound}
+use Rattle.record.specs.Format.{Held, held, layoutFor}
+use Rattle.record.specs.Read.{fixedIn, heldIn, layoutOf, numberOf, openOf, readAs}
+use Rattle.record.specs.declared.Damage.{Damage}
+use Rattle.record.specs.declared.Opened.the-variants.{Damaged, Whole}
+use Rattle.record_write.specs.Written.{Wrote, writeOf, wrote}
+use Rattle.shelf.specs.Shelf.{after, onRead, ranFrom, refusedAs, shelfOf, shelved, shelvedAs, shelvedFor, told}
+use Rattle.shelf.specs.declared.Replayed.{Replayed}
+
+-- ---- what is said
+abbrev replayed : ℕ → ℕ → ℕ → ℕ → ℕ → Layout → Replayed
+replayed number place lines detail size l = record { number = number; place = place; lines = lines; detail = detail; size = size; layout = l }
+
+pub said : (l : Layout) (o : Outcome) (size : ℕ) {n d : ℕ} → n ≡ numberOfAnswer (o .answer) → d ≡ detailOfAnswer (o .answer)
+    → replayed n (o .place) (o .lines) d size l ≡ told l o size
+said l o size e f = ap₂ (λ (n d : ℕ). replayed n (o .place) (o .lines) d size l) e f
+
+-- ---- what is written
+pub ran-and-written : (l : Layout) (f : Fixed) (sheet : List ℤ) (w : World) (out : List ℕ)
+    (o : Outcome) (gx gy : List ℤ) (gflags : List ℕ) (tox toy tx ty : List ℤ) (tflags : List ℕ) {size : ℕ} {left : List ℕ} {r : Replayed}
+    → ran o gx gy gflags tox toy tx ty tflags ≡ runOf f sheet (length sheet) 0 w
+    → wrote size left ≡ writeOf (held f sheet (world (o .state) gx gy gflags tox toy tx ty tflags)) out
+    → r ≡ told l o size
+    → shelved r left ≡ shelvedFor l (held f sheet w) out
+ran-and-written l f sheet w out o gx gy gflags tox toy tx ty tflags {size} {left} e g t =
+    ap (λ r. shelved r left) t
+    ∙ ap (shelvedAs l (ran o gx gy gflags tox toy tx ty tflags)) g
+    ∙ ap (λ r. shelvedAs l r (writeOf (held f sheet (r .world)) out)) e
+
+-- ---- the lists that were loaded
+pub same-world : {s s′ : GraphicsState} {gx gx′ gy gy′ : List ℤ} {gflags gflags′ : List ℕ} {tox tox′ toy toy′ tx tx′ ty ty′ : List ℤ} {tflags tflags′ : List ℕ}
+    → s ≡ s′ → gx ≡ gx′ → gy ≡ gy′ → gflags ≡ gflags′ → tox ≡ tox′ → toy ≡ toy′ → tx ≡ tx′ → ty ≡ ty′ → tflags ≡ tflags′
+    → world s gx gy gflags tox toy tx ty tflags ≡ world s′ gx′ gy′ gflags′ tox′ toy′ tx′ ty′ tflags′
+same-world a b c d e f g h i = cc
+
+pub same-fixed : {k k′ ux ux′ uy uy′ ox ox′ oy oy′ : List ℤ} {c c′ : List ℕ}
+    → k ≡ k′ → ux ≡ ux′ → uy ≡ uy′ → ox ≡ ox′ → oy ≡ oy′ → c ≡ c′ → fixed k ux uy ox oy c ≡ fixed k′ ux′ uy′ ox′ oy′ c′
+same-fixed a b c d e f = cc
+
+pub whole-held : (l : Layout) (bytes : List ℕ) (w : World) (out : List ℕ) {f : Fixed} {sheet : List ℤ} → f ≡ fixedIn bytes l → sheet ≡ heldIn bytes l .sheet → w ≡ heldIn bytes l .world
+    → shelvedFor l (held f sheet w) out ≡ shelvedFor l (heldIn bytes l) out
+whole-held l bytes w out e g h = ap (λ k. shelvedFor l k out) (ap₂ (λ f s. held f s w) e g ∙ ap (held (fixedIn bytes l) (heldIn bytes l .sheet)) h)
+
+-- ---- the verdict
+module _ (bytes out : List ℕ) where
+  pub damaged : (why : Damage) → openOf bytes ≡ Damaged why → shelved (refusedAs (numberOf why)) out ≡ shelfOf bytes out
+  unfolding shelfOf onRead
+  damaged why e = sym (ap (λ o. onRead out (readAs bytes o)) e)
+
+  same-layout : {p p′ c c′ t t′ k k′ w w′ : ℕ} → p ≡ p′ → c ≡ c′ → t ≡ t′ → k ≡ k′ → w ≡ w′
+      → _≡_ {A = Layout} (record { points = p; contours = c; twilight = t; controls = k; words = w }) (record { points = p′; contours = c′; twilight = t′; controls = k′; words = w′ })
+  same-layout a b c d e = cc
+
+  layout-kept : (l : Layout) → layoutFor (heldIn bytes l) ≡ l
+  layout-kept l =
+      same-layout (mapped-length ofBits bytes (atCurrentX l) (l .points)) (mapped-length endOf bytes (atEnds l) (l .contours))
+      (mapped-length ofBits bytes (atTwilightX l) (l .twilight)) (mapped-length ofBits bytes (atControls l) (l .controls)) (mapped-length ofBits bytes (atSheet l) (l .words))
+
+  pub opened : (l : Layout) → openOf bytes ≡ Whole l → shelvedFor l (heldIn bytes l) out ≡ shelfOf bytes out
+  unfolding shelfOf onRead
+  opened l e = sym (ap (λ o. onRead out (readAs bytes o)) e ∙ ap (λ m. shelvedFor m (heldIn bytes l) out) (layout-kept l))
+
+-- a record's lists have no more words than are between its state and its trailer
+pub within : (bytes : List ℕ) (l : Layout) → openOf bytes ≡ Whole l → (l .points ≤ 6110) × ((l .contours ≤ 6110) × ((l .twilight ≤ 6110) × ((l .controls ≤ 6110) × (l .words ≤ 6110))))
+within bytes l e =
+    let s = sound bytes l e in
+    let u = s .adds-up in
+    let z = s .size-is in
+    let m = layoutOf bytes in
+    let g = layout-is bytes l e in
+    let p : m .points ≤ 6110 = omega (arith, u, z) in
+    let c : m .contours ≤ 6110 = omega (arith, u, z) in
+    let t : m .twilight ≤ 6110 = omega (arith, u, z) in
+    let k : m .controls ≤ 6110 = omega (arith, u, z) in
+    let w : m .words ≤ 6110 = omega (arith, u, z) in
+    subst (λ (n : Layout). (n .points ≤ 6110) × ((n .contours ≤ 6110) × ((n .twilight ≤ 6110) × ((n .controls ≤ 6110) × (n .words ≤ 6110))))) g (p, (c, (t, (k, w))))

@@ -1,0 +1,240 @@
+// A record replayed: document 02, K4. Both programs of the shelf are this one call.
+//
+// `replay` answers for every byte string: what it says, and the record that it leaves at the front of `out`, are one equation with `shelfOf` of
+// specs/Shelf.antt. A byte string that is no record is refused by its number, and `out` stays as it was.
+use graphics::GraphicsState;
+use layout::Layout;
+use layout::at_controls;
+use layout::at_current_x;
+use layout::at_current_y;
+use layout::at_ends;
+use layout::at_flags;
+use layout::at_original_x;
+use layout::at_original_y;
+use layout::at_sheet;
+use layout::at_twilight_flags;
+use layout::at_twilight_original_x;
+use layout::at_twilight_original_y;
+use layout::at_twilight_x;
+use layout::at_twilight_y;
+use layout::at_unscaled_x;
+use layout::at_unscaled_y;
+use layout::wide;
+use loaded::ends_at;
+use loaded::flags_at;
+use loaded::numbers_at;
+use record::Opened;
+use record::load_state;
+use record::open;
+use record_write::write;
+use replay::Outcome;
+use replay::run;
+ghost use mathlib.Core.Path.{_≡_};
+ghost use Prim.Native.Nat.{_≤_};
+ghost use Rattle.world.specs.World.{fixed, world};
+ghost use Rattle.record.specs.Format.{held};
+ghost use Rattle.record.specs.Read.{worldIn, heldIn};
+ghost use Rattle.shelf.specs.Shelf.{shelved, shelvedFor, told, refusedAs, shelfOf};
+
+// What a replay says: the answer, how many bytes of the record were left, and how its lists lie.
+pub struct Replayed {
+    pub number: u32,
+    pub place: usize,
+    pub lines: u64,
+    pub detail: u64,
+    pub size: usize,
+    pub layout: Layout,
+}
+
+fn say(l: Layout, outcome: Outcome, size: usize) -> Replayed
+    ensures { λ r. ⌜ r ≡ told l outcome size ⌝ }
+{
+    let answer = outcome.answer;
+    Replayed {
+        number: answer.number(),
+        place: outcome.place,
+        lines: outcome.lines,
+        detail: answer.detail(),
+        size,
+        layout: l,
+    }
+}
+
+fn run_and_write(
+    l: Layout,
+    s: GraphicsState,
+    sheet: &[i32],
+    controls: &[i32],
+    gux: &[i32],
+    guy: &[i32],
+    gox: &[i32],
+    goy: &[i32],
+    contours: &[u16],
+    gx: &mut [i32],
+    gy: &mut [i32],
+    gflags: &mut [u8],
+    tox: &mut [i32],
+    toy: &mut [i32],
+    tx: &mut [i32],
+    ty: &mut [i32],
+    tflags: &mut [u8],
+    out: &mut [u8],
+) -> Replayed
+    ensures { λ r. ⌜ shelved r (now (out .exit)) ≡ shelvedFor l (held (fixed (now (controls .entry)) (now (gux .entry)) (now (guy .entry)) (now (gox .entry)) (now (goy .entry)) (now (contours .entry))) (now (sheet .entry)) (world s (now (gx .entry)) (now (gy .entry)) (now (gflags .entry)) (now (tox .entry)) (now (toy .entry)) (now (tx .entry)) (now (ty .entry)) (now (tflags .entry)))) (now (out .entry)) ⌝ }
+{
+    let outcome = run(
+        0,
+        sheet.len() as u64,
+        s,
+        sheet,
+        controls,
+        gux,
+        guy,
+        gox,
+        goy,
+        gx,
+        gy,
+        gflags,
+        contours,
+        tox,
+        toy,
+        tx,
+        ty,
+        tflags,
+    );
+    let size = write(
+        outcome.state,
+        sheet,
+        controls,
+        gux,
+        guy,
+        gox,
+        goy,
+        gx,
+        gy,
+        gflags,
+        contours,
+        tox,
+        toy,
+        tx,
+        ty,
+        tflags,
+        out,
+    );
+    say(l, outcome, size)
+}
+
+// What lines change, from the record.
+fn replay_over(
+    bytes: &[u8],
+    l: Layout,
+    sheet: &[i32],
+    controls: &[i32],
+    gux: &[i32],
+    guy: &[i32],
+    gox: &[i32],
+    goy: &[i32],
+    contours: &[u16],
+    out: &mut [u8],
+) -> Replayed
+    requires { ⌜ l .points ≤ 6110 ⌝ }
+    requires { ⌜ l .twilight ≤ 6110 ⌝ }
+    ensures { λ r. ⌜ shelved r (now (out .exit)) ≡ shelvedFor l (held (fixed (now (controls .entry)) (now (gux .entry)) (now (guy .entry)) (now (gox .entry)) (now (goy .entry)) (now (contours .entry))) (now (sheet .entry)) (worldIn (now (bytes .entry)) l)) (now (out .entry)) ⌝ }
+{
+    let n = wide(l.points);
+    let m = wide(l.twilight);
+    let mut gx = numbers_at(bytes, at_current_x(l), n);
+    let mut gy = numbers_at(bytes, at_current_y(l), n);
+    let mut gflags = flags_at(bytes, at_flags(l), n);
+    let mut tox = numbers_at(bytes, at_twilight_original_x(l), m);
+    let mut toy = numbers_at(bytes, at_twilight_original_y(l), m);
+    let mut tx = numbers_at(bytes, at_twilight_x(l), m);
+    let mut ty = numbers_at(bytes, at_twilight_y(l), m);
+    let mut tflags = flags_at(bytes, at_twilight_flags(l), m);
+    let s = load_state(bytes);
+    run_and_write(
+        l,
+        s,
+        sheet,
+        controls,
+        gux,
+        guy,
+        gox,
+        goy,
+        contours,
+        &mut gx[..n],
+        &mut gy[..n],
+        &mut gflags[..n],
+        &mut tox[..m],
+        &mut toy[..m],
+        &mut tx[..m],
+        &mut ty[..m],
+        &mut tflags[..m],
+        out,
+    )
+}
+
+// What lines only read, from the record.
+fn replay_whole(bytes: &[u8], l: Layout, out: &mut [u8]) -> Replayed
+    requires { ⌜ l .points ≤ 6110 ⌝ }
+    requires { ⌜ l .contours ≤ 6110 ⌝ }
+    requires { ⌜ l .twilight ≤ 6110 ⌝ }
+    requires { ⌜ l .controls ≤ 6110 ⌝ }
+    requires { ⌜ l .words ≤ 6110 ⌝ }
+    ensures { λ r. ⌜ shelved r (now (out .exit)) ≡ shelvedFor l (heldIn (now (bytes .entry)) l) (now (out .entry)) ⌝ }
+{
+    let words = wide(l.words);
+    let values = wide(l.controls);
+    let n = wide(l.points);
+    let ends = wide(l.contours);
+    let sheet = numbers_at(bytes, at_sheet(l), words);
+    let controls = numbers_at(bytes, at_controls(l), values);
+    let gux = numbers_at(bytes, at_unscaled_x(l), n);
+    let guy = numbers_at(bytes, at_unscaled_y(l), n);
+    let gox = numbers_at(bytes, at_original_x(l), n);
+    let goy = numbers_at(bytes, at_original_y(l), n);
+    let contours = ends_at(bytes, at_ends(l), ends);
+    replay_over(
+        bytes,
+        l,
+        &sheet[..words],
+        &controls[..values],
+        &gux[..n],
+        &guy[..n],
+        &gox[..n],
+        &goy[..n],
+        &contours[..ends],
+        out,
+    )
+}
+
+fn refuse(number: u32) -> Replayed
+    ensures { λ r. ⌜ r ≡ refusedAs number ⌝ }
+{
+    let layout = Layout {
+        points: 0,
+        contours: 0,
+        twilight: 0,
+        controls: 0,
+        words: 0,
+    };
+    Replayed {
+        number,
+        place: 0,
+        lines: 0,
+        detail: 0,
+        size: 0,
+        layout,
+    }
+}
+
+// A record replayed: the answer, and the record as it then stands at the front of `out`, where there is room for it.
+pub fn replay(bytes: &[u8], out: &mut [u8]) -> Replayed
+    ensures { λ r. ⌜ shelved r (now (out .exit)) ≡ shelfOf (now (bytes .entry)) (now (out .entry)) ⌝ }
+{
+    let opened = open(bytes);
+    match opened {
+        Opened::Damaged(why) => refuse(why.number()),
+        Opened::Whole(l) => replay_whole(bytes, l, out),
+    }
+}

@@ -1,0 +1,5 @@
+pub mod Parts
+pub mod Filling
+pub mod Storing
+pub mod Back
+pub mod Sums

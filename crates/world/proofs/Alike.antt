@@ -1,0 +1,108 @@
+-- What the sizes test tells: a zone's lists are alike, and nothing is above its limit. Assumes nothing.
+use mathlib.Core.Bool.{Bool, _&&_, false, true}
+use mathlib.Core.List.{List}
+use mathlib.Core.Path.{_∙_, _≡_, refl}
+use Prim.Native.Nat.{_≤_, ℕ}
+use borrow.Author.Tests.{eqb-true, leb-true}
+use lib.Dec.{eqb, leb}
+use lib.IntN.{ℤ}
+use lib.ListN.{length}
+use Rattle.limits.specs.Limits.{mostContours, mostControlValues, mostPoints, mostWords}
+use Rattle.zone.proofs.Cases.{pair-length, placed-length, placed-pair}
+use Rattle.zone.specs.Sizes.{glyphFits, pairFits, placedFits, twilightFits}
+use Rattle.world.specs.Sizes.{fits, worldFits}
+use Rattle.world.specs.World.{Alike, Fixed, World}
+
+both-first : (a b : Bool) → a && b ≡ true → a ≡ true
+both-first true b e = refl
+both-first false b e = cc e
+
+both-second : (a b : Bool) → a && b ≡ true → b ≡ true
+both-second true b e = e
+both-second false b e = cc e
+
+twilight-alike : (ox oy cx cy : List ℤ) (flags : List ℕ) → twilightFits ox oy cx cy flags ≡ true
+    → (length ox ≡ length cx) × (length oy ≡ length ox) × (length cy ≡ length cx) × (length flags ≡ length cx)
+unfolding twilightFits
+twilight-alike ox oy cx cy flags e =
+    let two : eqb (length ox) (length cx) && pairFits ox oy ≡ true = both-first _ (placedFits cx cy flags) e in
+    let p : placedFits cx cy flags ≡ true = both-second (eqb (length ox) (length cx) && pairFits ox oy) _ e in
+    (eqb-true (length ox) (length cx) (both-first _ (pairFits ox oy) two), pair-length ox oy (both-second (eqb (length ox) (length cx)) _ two), pair-length cx cy (placed-pair cx cy flags p), placed-length cx cy flags p)
+
+glyph-alike : (ux uy ox oy cx cy : List ℤ) (flags contours : List ℕ) → glyphFits ux uy ox oy cx cy flags contours ≡ true
+    → (length ux ≡ length cx) × (length uy ≡ length ux) × (twilightFits ox oy cx cy flags ≡ true)
+unfolding glyphFits
+glyph-alike ux uy ox oy cx cy flags contours e =
+    let three : eqb (length ux) (length cx) && pairFits ux uy && twilightFits ox oy cx cy flags ≡ true = both-first _ (leb (length contours) mostContours) e in
+    let two : eqb (length ux) (length cx) && pairFits ux uy ≡ true = both-first _ (twilightFits ox oy cx cy flags) three in
+    (eqb-true (length ux) (length cx) (both-first _ (pairFits ux uy) two), pair-length ux uy (both-second (eqb (length ux) (length cx)) _ two), both-second (eqb (length ux) (length cx) && pairFits ux uy) _ three)
+
+alike-by : (f : Fixed) (w : World) → glyphFits (f .gux) (f .guy) (f .gox) (f .goy) (w .gx) (w .gy) (w .gflags) (f .contours) ≡ true
+    → twilightFits (w .tox) (w .toy) (w .tx) (w .ty) (w .tflags) ≡ true
+    → Alike f w
+alike-by f w g t =
+    let a = glyph-alike (f .gux) (f .guy) (f .gox) (f .goy) (w .gx) (w .gy) (w .gflags) (f .contours) g in
+    let o = twilight-alike (f .gox) (f .goy) (w .gx) (w .gy) (w .gflags) (a .2) in
+    let m = twilight-alike (w .tox) (w .toy) (w .tx) (w .ty) (w .tflags) t in
+    (a .0, a .1 ∙ a .0, o .0, o .1 ∙ o .0, o .2, o .3, m .1, m .2, m .3)
+
+pub fits-alike : (f : Fixed) (sheet : List ℤ) (w : World) → worldFits f sheet w ≡ true → Alike f w
+unfolding fits
+fits-alike f sheet w e =
+    let g = glyphFits (f .gux) (f .guy) (f .gox) (f .goy) (w .gx) (w .gy) (w .gflags) (f .contours) in
+    let t = twilightFits (w .tox) (w .toy) (w .tx) (w .ty) (w .tflags) in
+    let three : g && t && leb (length (f .controls)) mostControlValues ≡ true = both-first _ (leb (length sheet) mostWords) e in
+    let two : g && t ≡ true = both-first _ (leb (length (f .controls)) mostControlValues) three in
+    alike-by f w (both-first g t two) (both-second g t two)
+
+-- the twilight zone's originals are as many as its points
+pub fits-twilight : (f : Fixed) (sheet : List ℤ) (w : World) → worldFits f sheet w ≡ true → length (w .tox) ≡ length (w .tx)
+unfolding fits
+fits-twilight f sheet w e =
+    let g = glyphFits (f .gux) (f .guy) (f .gox) (f .goy) (w .gx) (w .gy) (w .gflags) (f .contours) in
+    let t = twilightFits (w .tox) (w .toy) (w .tx) (w .ty) (w .tflags) in
+    let three : g && t && leb (length (f .controls)) mostControlValues ≡ true = both-first _ (leb (length sheet) mostWords) e in
+    let two : g && t ≡ true = both-first _ (leb (length (f .controls)) mostControlValues) three in
+    twilight-alike (w .tox) (w .toy) (w .tx) (w .ty) (w .tflags) (both-second g t two) .0
+
+pair-most : (xs ys : List ℤ) → pairFits xs ys ≡ true → length xs ≤ mostPoints
+unfolding pairFits
+pair-most xs ys e = leb-true (length xs) mostPoints (both-second (eqb (length ys) (length xs)) _ e)
+
+twilight-most : (ox oy cx cy : List ℤ) (flags : List ℕ) → twilightFits ox oy cx cy flags ≡ true → length cx ≤ mostPoints
+unfolding twilightFits
+twilight-most ox oy cx cy flags e =
+    pair-most cx cy (placed-pair cx cy flags (both-second (eqb (length ox) (length cx) && pairFits ox oy) _ e))
+
+glyph-most : (ux uy ox oy cx cy : List ℤ) (flags contours : List ℕ) → glyphFits ux uy ox oy cx cy flags contours ≡ true
+    → (length cx ≤ mostPoints) × (length contours ≤ mostContours)
+unfolding glyphFits
+glyph-most ux uy ox oy cx cy flags contours e =
+    let front = eqb (length ux) (length cx) && pairFits ux uy in
+    let three : front && twilightFits ox oy cx cy flags ≡ true = both-first _ (leb (length contours) mostContours) e in
+    (twilight-most ox oy cx cy flags (both-second front _ three), leb-true (length contours) mostContours (both-second (front && twilightFits ox oy cx cy flags) _ e))
+
+-- and nothing is above its limit
+pub record Most (f : Fixed) (sheet : List ℤ) (w : World) : Type 0 where
+  pub points : length (w .gx) ≤ mostPoints
+  pub contours : length (f .contours) ≤ mostContours
+  pub twilight : length (w .tx) ≤ mostPoints
+  pub controls : length (f .controls) ≤ mostControlValues
+  pub words : length sheet ≤ mostWords
+
+pub fits-most : (f : Fixed) (sheet : List ℤ) (w : World) → worldFits f sheet w ≡ true → Most f sheet w
+unfolding fits
+fits-most f sheet w e =
+    let g = glyphFits (f .gux) (f .guy) (f .gox) (f .goy) (w .gx) (w .gy) (w .gflags) (f .contours) in
+    let t = twilightFits (w .tox) (w .toy) (w .tx) (w .ty) (w .tflags) in
+    let k = leb (length (f .controls)) mostControlValues in
+    let three : g && t && k ≡ true = both-first _ (leb (length sheet) mostWords) e in
+    let two : g && t ≡ true = both-first _ k three in
+    let glyph = glyph-most (f .gux) (f .guy) (f .gox) (f .goy) (w .gx) (w .gy) (w .gflags) (f .contours) (both-first g t two) in
+    record {
+      points = glyph .0;
+      contours = glyph .1;
+      twilight = twilight-most (w .tox) (w .toy) (w .tx) (w .ty) (w .tflags) (both-second g t two);
+      controls = leb-true (length (f .controls)) mostControlValues (both-second (g && t) k three);
+      words = leb-true (length sheet) mostWords (both-second (g && t && k) (leb (length sheet) mostWords) e);
+    }
