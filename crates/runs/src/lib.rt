@@ -15,7 +15,7 @@ use compare::compare_pair;
 use compare::compare_placed;
 use compare::compare_state;
 use graphics::GraphicsState;
-use replay::Outcome;
+use onward::Outcome;
 
 fn of_outcome(outcome: Outcome) -> Said {
     let answer = outcome.answer;

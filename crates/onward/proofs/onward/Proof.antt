@@ -1,4 +1,4 @@
--- `replay::replay` meets its contract. The invariant: the rest of the run, from here with the lines so far, is the whole run; no list has changed
+-- `onward::onward` meets its contract. The invariant: the rest of the run, from here with the lines so far, is the whole run; no list has changed
 -- its length; and the lines so far and the budget left make the budget. The measure is the budget left. Assumes nothing.
 use mathlib.Core.List.{List}
 use Prim.Native.Nat.{_+_, ℕ}
@@ -8,10 +8,10 @@ use borrow.Author.Needs.{needs}
 use denote.Ref.{now}
 use lib.IntN.{ℤ}
 use Rattle.world.specs.World.{Fixed, World, fixed, world}
-use Rattle.replay.specs.Run.{replayOf}
-use Rattle.replay.proofs.Loop.{Sizes, at-end, goes-on, same-sizes, sizes, still-alike, stops, used}
-use Rattle.replay.proofs.replay.Tie as tie
-use Rattle.replay.proofs.replay.Statement.{statement}
+use Rattle.onward.specs.Onward.{replayOf}
+use Rattle.onward.proofs.Loop.{Sizes, at-end, goes-on, same-sizes, sizes, still-alike, stops, used}
+use Rattle.onward.proofs.onward.Tie as tie
+use Rattle.onward.proofs.onward.Statement.{statement}
 
 pub record Inv (f : Fixed) (sheet : List ℤ) (budget start : ℕ) (w₀ : World) (left lines at : ℕ) (w : World) : Type 0 where
   pub run : replayOf f sheet left lines at w ≡ replayOf f sheet budget 0 start w₀
@@ -149,8 +149,8 @@ returns-3 : tie.Need-returns-3 Inv-loop μ-loop
 returns-3 c = let l = c .before in let s = l .before .before .before .before in
     at-end (held s) (now (s .args .sheet)) _ _ _ (head l) (c .loop-test .left) ∙ l .loop .inv .run
 
-pub replay-spec : {M : Type 1} → statement M
-replay-spec =
+pub onward-spec : {M : Type 1} → statement M
+onward-spec =
     tie.close
     (tie.spec
     Inv-loop
