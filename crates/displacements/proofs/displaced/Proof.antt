@@ -1,10 +1,10 @@
--- `state_calls::displaced` is safe: each list is the part of its array that its length says. Assumes nothing.
+-- `displacements::displaced` is safe: each list is the part of its array that its length says. Assumes nothing.
 use mathlib.Core.Path.{sym}
 use native.Mathlib.Omega.{arith}
 use lib.Seq.{length-take-le}
 use borrow.Author.Needs.{needs}
-use Rattle.state_calls.proofs.displaced.Statement.{statement}
-use Rattle.state_calls.proofs.displaced.Tie as tie
+use Rattle.displacements.proofs.displaced.Statement.{statement}
+use Rattle.displacements.proofs.displaced.Tie as tie
 
 words-of-requires : tie.Need-words-of-requires
 words-of-requires c κs = search needs

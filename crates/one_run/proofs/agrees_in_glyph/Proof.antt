@@ -1,10 +1,10 @@
--- `runs::agrees_in_glyph` is safe: each list is the part of its array that its length says. Assumes nothing.
+-- `one_run::agrees_in_glyph` is safe: each list is the part of its array that its length says. Assumes nothing.
 use mathlib.Core.Path.{sym}
 use native.Mathlib.Omega.{arith}
 use lib.Seq.{length-take-le}
 use borrow.Author.Needs.{needs}
-use Rattle.runs.proofs.agrees_in_glyph.Statement.{statement}
-use Rattle.runs.proofs.agrees_in_glyph.Tie as tie
+use Rattle.one_run.proofs.agrees_in_glyph.Statement.{statement}
+use Rattle.one_run.proofs.agrees_in_glyph.Tie as tie
 
 words-of-requires : tie.Need-words-of-requires
 words-of-requires c κs = search needs
