@@ -9,13 +9,14 @@ use lib.ListN.{length}
 use borrow.Author.Tests.{not-true}
 use Prim.Native.Nat.{suc, zero, ℕ}
 use lib.IntN.{ℤ}
-use Rattle.replay.specs.declared.Answer.{Answer}
+use Rattle.onward.specs.declared.Answer.{Answer}
 use Rattle.axes.specs.declared.Axis.{Axis}
 use Rattle.answer.specs.declared.Call.{Call}
 use Rattle.answer.specs.declared.Call.the-variants.{Done, Refused as RefusedCall}
-use Rattle.replay.specs.declared.Answer.the-variants.{Finished, OutOfBudget, Refused}
+use Rattle.onward.specs.declared.Answer.the-variants.{Finished, OutOfBudget, Refused}
 use Rattle.world.specs.World.{Fixed, World}
-use Rattle.replay.specs.Run.{Ran, ends, entryOf, onCall, onEntry as runOnEntry, onward, replayOf, runOf}
+use Rattle.onward.specs.Onward.{Ran, ends, onCall, onWent, replayOf}
+use Rattle.replay.specs.Run.{entryOf, onEntry as runOnEntry, runOf}
 use Rattle.step.specs.Step.{Went, stepOf}
 use Rattle.world.specs.Sizes.{fits, worldFits}
 use Rattle.apart.specs.Reached.{SameAlong, afterCall, afterLine, linesReached, none, onEntry as reachedOnEntry, opcodeAt, reachedFrom}
@@ -52,14 +53,14 @@ module _ (a : Axis) (f g : Fixed) (sheet : List ℤ) (ef : fixedSeen a f ≡ fix
       → SameAlong a (replayOf f sheet b (suc n) p x) (replayOf g sheet b (suc n) p y))
       → worldSeen a w ≡ worldSeen a v → Straight a (w .state)
       → not (mixes a (opcodeAt sheet at)) && none (mixes a) (afterLine (reachedFrom f sheet b) (stepOf f sheet at w)) ≡ true
-      → SameAlong a (onward (replayOf f sheet b (suc n)) n (stepOf f sheet at w)) (onward (replayOf g sheet b (suc n)) n (stepOf g sheet at v))
+      → SameAlong a (onWent (replayOf f sheet b (suc n)) n (stepOf f sheet at w)) (onWent (replayOf g sheet b (suc n)) n (stepOf g sheet at v))
   turn b n at w v ih ew e free =
       let first = stepOf f sheet at w in
       let second = stepOf g sheet at v in
       let m = not-true (mixes a (opcodeAt sheet at)) (and-left (not (mixes a (opcodeAt sheet at))) _ free) in
       let alike = steps-alike a f g sheet at w v ef ew e m in
       subst
-      (λ (c : Call). SameAlong a (onward (replayOf f sheet b (suc n)) n first) (onCall (replayOf g sheet b (suc n)) n (second .place) (second .world) c))
+      (λ (c : Call). SameAlong a (onWent (replayOf f sheet b (suc n)) n first) (onCall (replayOf g sheet b (suc n)) n (second .place) (second .world) c))
       (ap (λ (x : Went). x .call) alike)
       (after b n ih (first .call) (first .place) (second .place) (first .world) (second .world) (ap (λ (x : Went). x .place) alike) (ap (λ (x : Went). x .world) alike)
       (step-straight a f sheet at w e m)

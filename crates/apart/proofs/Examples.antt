@@ -6,7 +6,8 @@ use mathlib.Core.Bool.{false, true}
 use lib.IntN.{negsuc, pos, ℤ}
 use Rattle.world.specs.World.{Fixed, World, fixed, world}
 use Rattle.graphics.specs.declared.GraphicsState.{GraphicsState}
-use Rattle.replay.specs.Run.{Ran, entryOf, onCall, onEntry as runOnEntry, replayOf, runOf}
+use Rattle.onward.specs.Onward.{Ran, onCall, replayOf}
+use Rattle.replay.specs.Run.{entryOf, onEntry as runOnEntry, runOf}
 use Rattle.world.specs.Sizes.{fits}
 use Rattle.step.specs.Step.{onDecoded, stepOf}
 use Rattle.apart.specs.Reached.{SameAlong, afterCall, linesReached, none, onEntry as reachedOnEntry, reachedFrom}

@@ -14,7 +14,8 @@ use Rattle.sheet.specs.declared.Decoded.{Decoded}
 use Rattle.answer.specs.declared.Call.the-variants.{Done, Refused as RefusedCall}
 use Rattle.world.specs.World.{Fixed, World}
 use Rattle.sheet.specs.declared.Decoded.the-variants.{Operands, Refused as RefusedLine}
-use Rattle.replay.specs.Run.{Ran, entryOf, onCall, onEntry as runOnEntry, onward, replayOf, runOf}
+use Rattle.onward.specs.Onward.{Ran, onCall, onWent, replayOf}
+use Rattle.replay.specs.Run.{entryOf, onEntry as runOnEntry, runOf}
 use Rattle.step.specs.Step.{onDecoded, stepOf}
 use Rattle.world.specs.Sizes.{worldFits}
 use Rattle.axes.specs.Axes.{Straight, interpolatesAcross, mixes}
@@ -64,7 +65,7 @@ module _ (a : Axis) (f : Fixed) (sheet : List ℤ) where
       → WorldStill a x (replayOf f sheet b (suc n) p x .world))
       → Straight a (w .state)
       → not (worksAcross a (opcodeAt sheet at)) && none (worksAcross a) (afterLine (reachedFrom f sheet b) (stepOf f sheet at w)) ≡ true
-      → WorldStill a w (onward (replayOf f sheet b (suc n)) n (stepOf f sheet at w) .world)
+      → WorldStill a w (onWent (replayOf f sheet b (suc n)) n (stepOf f sheet at w) .world)
   turn b n at w ih e free =
       let g = stepOf f sheet at w in
       let m = not-true (worksAcross a (opcodeAt sheet at)) (and-left (not (worksAcross a (opcodeAt sheet at))) _ free) in

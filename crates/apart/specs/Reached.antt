@@ -13,7 +13,8 @@ use Rattle.graphics.specs.State.{usableState}
 use Rattle.world.specs.World.{Fixed, World}
 use Rattle.axes.specs.Axes.{worldSeen}
 use Rattle.axes.specs.declared.Axis.{Axis}
-use Rattle.replay.specs.Run.{Ran, entryOf}
+use Rattle.onward.specs.Onward.{Ran}
+use Rattle.replay.specs.Run.{entryOf}
 use Rattle.step.specs.Step.{Went, stepOf}
 use Rattle.world.specs.Sizes.{worldFits}
 

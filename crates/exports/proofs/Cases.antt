@@ -11,8 +11,9 @@ use lib.ListN.{length, set}
 use Rattle.graphics.proofs.Laws.{and-left, and-right}
 use Rattle.graphics.specs.declared.GraphicsState.{GraphicsState}
 use Rattle.world.specs.World.{Fixed, world}
-use Rattle.replay.specs.declared.Outcome.{Outcome}
-use Rattle.replay.specs.Run.{ran, runOf, numberOfAnswer, detailOfAnswer}
+use Rattle.onward.specs.declared.Outcome.{Outcome}
+use Rattle.onward.specs.Onward.{ran, numberOfAnswer, detailOfAnswer}
+use Rattle.replay.specs.Run.{runOf}
 use Rattle.state_words.specs.Words.{stateSize, stateWords, stateOf, isState, written}
 use Rattle.state_words.proofs.Back.{size-is}
 use Rattle.exports.specs.Call.{answered, answerSize, badWord, isCall, left, handedBack, callOf}

@@ -7,7 +7,8 @@ use lib.Dec.{eqb}
 use lib.IntN.{ℤ}
 use lib.ListN.{length}
 use Rattle.world.specs.World.{Fixed, world}
-use Rattle.replay.specs.Run.{Ran, runOf, numberOfAnswer, detailOfAnswer}
+use Rattle.onward.specs.Onward.{Ran, numberOfAnswer, detailOfAnswer}
+use Rattle.replay.specs.Run.{runOf}
 use Rattle.state_words.specs.Words.{stateWords, stateOf, isState}
 
 -- the number that is returned, and what every list that can change holds afterwards

@@ -11,16 +11,18 @@ use borrow.Author.Tests.{le-leb, leb-true, ltb-false}
 use lib.Dec.{leb, ltb}
 use lib.ListN.{length}
 use lib.IntN.{ℤ}
-use Rattle.replay.specs.declared.Answer.{Answer}
+use Rattle.onward.specs.declared.Answer.{Answer}
 use Rattle.answer.specs.declared.Call.{Call}
 use Rattle.answer.specs.declared.Call.the-variants.{Done, Refused as RefusedCall}
-use Rattle.replay.specs.declared.Answer.the-variants.{Finished, OutOfBudget, Refused}
+use Rattle.onward.specs.declared.Answer.the-variants.{Finished, OutOfBudget, Refused}
 use Rattle.world.specs.World.{Fixed, World, world}
-use Rattle.replay.specs.Run.{Ran, ends, entryOf, onCall, onEntry, replayOf, runOf}
+use Rattle.onward.specs.Onward.{Ran, ends, onCall, replayOf}
+use Rattle.replay.specs.Run.{entryOf, onEntry, runOf}
 use Rattle.step.specs.Step.{stepOf}
 use Rattle.world.specs.Sizes.{worldFits}
 use Rattle.answer.specs.declared.Refusal.{Refusal}
-use Rattle.replay.proofs.Loop.{at-end, entered, not-entered}
+use Rattle.onward.proofs.Loop.{at-end}
+use Rattle.replay.proofs.Entry.{entered, not-entered}
 use Rattle.graphics.specs.State.{usableState}
 use Rattle.laws.proofs.Keeps.{run-keeps, run-place, still-fits}
 

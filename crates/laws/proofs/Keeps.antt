@@ -14,13 +14,15 @@ use Rattle.sheet.specs.declared.Decoded.{Decoded}
 use Rattle.answer.specs.declared.Call.the-variants.{Done}
 use Rattle.lines.specs.declared.Instruction.{Instruction}
 use Rattle.sheet.specs.declared.Decoded.the-variants.{Operands}
-use Rattle.replay.specs.Run.{Ran, entryOf, onCall, onEntry, replayOf, runOf}
+use Rattle.onward.specs.Onward.{Ran, onCall, replayOf}
+use Rattle.replay.specs.Run.{entryOf, onEntry, runOf}
 use Rattle.world.specs.Sizes.{fits, worldFits}
 use Rattle.step.specs.Step.{onDecoded, placeAfter}
 use Rattle.align.proofs.Keeps.{alignrp-lengths}
 use Rattle.sheet.specs.Table.{decodeOf}
 use Rattle.zone.proofs.Cases.{either}
-use Rattle.replay.proofs.Loop.{entered-alike, same-sizes, still-alike}
+use Rattle.onward.proofs.Loop.{same-sizes, still-alike}
+use Rattle.replay.proofs.Entry.{entered-alike}
 use Rattle.looped.proofs.Keeps.{flippt-length, shp-lengths}
 use Rattle.zone.specs.Sizes.{glyphFits, pairFits, placedFits, twilightFits}
 use Rattle.lines.specs.Dispatch.{instructionOf, lineBy, lineOf, zonesOf}
@@ -33,7 +35,7 @@ use Rattle.relative.proofs.Keeps.{msirp-lengths}
 use Rattle.step.proofs.Steps.{operands-inside}
 use Rattle.graphics.specs.State.{usableState}
 use Rattle.laws.proofs.Usable.{alignrp-usable, flippt-usable, isect-usable, iup-usable, mdap-usable, miap-usable, msirp-usable, set-usable, shp-usable}
-use Rattle.replay.proofs.Loop.{Sizes, sizes}
+use Rattle.onward.proofs.Loop.{Sizes, sizes}
 use Rattle.step.specs.Step.{stepOf}
 use Rattle.answer.specs.declared.Call.the-variants.{Refused as RefusedCall}
 use Rattle.sheet.specs.declared.Decoded.the-variants.{Refused as RefusedLine}

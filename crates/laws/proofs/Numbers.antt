@@ -7,12 +7,13 @@ use lib.IntN.{_-ℤ_, natAbs, negℤ, pos, ℤ}
 use mathlib.Core.Path.{_≡_, refl}
 use Rattle.answer.specs.declared.Call.the-variants.{Done}
 use Rattle.round.specs.declared.RoundMode.the-variants.{DoubleGrid, DownToGrid, Grid, HalfGrid, Super, UpToGrid}
-use Rattle.replay.specs.declared.Answer.the-variants.{Finished, OutOfBudget, Refused}
+use Rattle.onward.specs.declared.Answer.the-variants.{Finished, OutOfBudget, Refused}
 use Rattle.world.specs.World.{Fixed, World, fixed, world}
 use Rattle.graphics.specs.declared.ZonePointer.the-variants.{Glyph}
 use Rattle.graphics.specs.declared.GraphicsState.{GraphicsState}
 use Rattle.answer.specs.declared.Refusal.the-variants.{Point}
-use Rattle.replay.specs.Run.{Ran, detailOfAnswer, ends, entryOf, numberOfAnswer, onCall, onEntry, replayOf, runOf}
+use Rattle.onward.specs.Onward.{Ran, detailOfAnswer, ends, numberOfAnswer, onCall, replayOf}
+use Rattle.replay.specs.Run.{entryOf, onEntry, runOf}
 use Rattle.world.specs.Sizes.{fits}
 use Rattle.step.specs.Step.{onDecoded, stepOf}
 use Rattle.round.specs.declared.RoundMode.{RoundMode}

@@ -6,8 +6,9 @@ use mathlib.Core.Path.{_∙_, _≡_, ap, sym}
 use Prim.Native.Nat.{ℕ}
 use lib.IntN.{ℤ}
 use Rattle.world.specs.World.{Fixed, World}
-use Rattle.replay.specs.Run.{Ran, ran, runOf}
-use Rattle.replay.specs.declared.Outcome.{Outcome}
+use Rattle.onward.specs.Onward.{Ran, ran}
+use Rattle.replay.specs.Run.{runOf}
+use Rattle.onward.specs.declared.Outcome.{Outcome}
 
 -- ---- the law
 pub one-outcome : {A : Type 0} {x y said : A} → x ≡ said → y ≡ said → x ≡ y

@@ -1,63 +1,60 @@
--- Each instruction's own equation, laid back into the world, is the line's: by the instruction that the opcode names. Assumes nothing.
+-- A line over the world is that of the lists it is lent, laid back: by the instruction, and by which lists these are. Assumes nothing.
 use mathlib.Core.List.{List}
-use mathlib.Core.Path.{_∙_, _≡_, ap, sym}
+use mathlib.Core.Path.{_∙_, _≡_, ap, refl, sym}
 use Prim.Native.Nat.{ℕ}
 use lib.IntN.{ℤ}
+use Rattle.lines.specs.declared.InAll.{InAll}
+use Rattle.lines.specs.declared.InGlyph.{InGlyph}
+use Rattle.lines.specs.declared.InPoints.{InPoints}
+use Rattle.lines.specs.declared.Instruction.{Instruction}
 use Rattle.lines.specs.declared.Instruction.the-variants.{Alignrp, Flippt, Isect, Iup, Mdap, Miap, Msirp, Set, Shp}
+use Rattle.lines.specs.declared.Lent.{Lent}
+use Rattle.lines.specs.declared.Lent.the-variants.{All, Glyph, Nothing, Points}
 use Rattle.world.specs.World.{Fixed, World, lined}
 use Rattle.line.specs.declared.Stepped.{Stepped}
-use Rattle.align.specs.Align.{alignrpOf}
-use Rattle.places.specs.Placed.{allPlaced, bothPlaced}
-use Rattle.looped.specs.Looped.{flipptOf, shpOf, went, zones}
-use Rattle.lines.specs.Dispatch.{instructionOf, intoAll, intoAxes, intoFlags, intoPlaces, intoState, intoZones, lineBy, lineOf, zonesOf}
-use Rattle.interpolate.specs.Interpolated.{interpolated, iupBy}
-use Rattle.intersect.specs.Intersection.{isectOf}
-use Rattle.outline.specs.Absolute.{mdapOf}
-use Rattle.miap.specs.Miap.{miapOf}
-use Rattle.relative.specs.Msirp.{msirpOf}
+use Rattle.places.specs.Placed.{allPlaced, bothPlaced, placed}
+use Rattle.lines.specs.Dispatch.{instructionOf, intoAll, intoPlaces, intoState, lineBy, lineOf}
+use Rattle.lines.specs.Lent.{allBy, glyphBy, lentTo, lineIn, ontoGlyph, pointsBy}
 use Rattle.sheet.specs.Setters.{setBy}
 
-pub set-line : (f : Fixed) (op : ℕ) (operands : List ℤ) (w : World) {r : Stepped} → instructionOf op ≡ Set → r ≡ setBy (w .state) op operands
-    → lined r (w .gx) (w .gy) (w .gflags) (w .tox) (w .toy) (w .tx) (w .ty) (w .tflags) ≡ lineOf f op operands w
-unfolding lineOf lineBy
-set-line f op operands w told e = ap (intoState w) e ∙ sym (ap (lineBy f op operands w) told)
+module _ (f : Fixed) (op : ℕ) (operands : List ℤ) (w : World) where
+  by-lists : (i : Instruction) → lineIn f op operands w (lentTo i) ≡ lineBy f op operands w i
+  unfolding lineIn lineBy glyphBy pointsBy allBy
+  by-lists Set = refl
+  by-lists Isect = refl
+  by-lists Mdap = refl
+  by-lists Iup = refl
+  by-lists Shp = refl
+  by-lists Msirp = refl
+  by-lists Alignrp = refl
+  by-lists Miap = refl
+  by-lists Flippt = refl
 
-pub isect-line : (f : Fixed) (op : ℕ) (operands : List ℤ) (w : World) {r : Stepped} {gx gy : List ℤ} {gflags : List ℕ} {tx ty : List ℤ} {tflags : List ℕ} → instructionOf op ≡ Isect → bothPlaced r gx gy gflags tx ty tflags ≡ isectOf (w .state) operands (w .gx) (w .gy) (w .gflags) (w .tx) (w .ty) (w .tflags)
-    → lined r gx gy gflags (w .tox) (w .toy) tx ty tflags ≡ lineOf f op operands w
-unfolding lineOf lineBy
-isect-line f op operands w told e = ap (intoPlaces w) e ∙ sym (ap (lineBy f op operands w) told)
+  module _ {i : Instruction} (named : i ≡ instructionOf op) where
+    lent-line : {lent : Lent} → lentTo i ≡ lent → lineIn f op operands w lent ≡ lineOf f op operands w
+    unfolding lineOf
+    lent-line told = sym (ap (lineIn f op operands w) told) ∙ by-lists i ∙ ap (lineBy f op operands w) named
 
-pub mdap-line : (f : Fixed) (op : ℕ) (operands : List ℤ) (w : World) {r : Stepped} {gx gy : List ℤ} {gflags : List ℕ} {tx ty : List ℤ} {tflags : List ℕ} → instructionOf op ≡ Mdap → bothPlaced r gx gy gflags tx ty tflags ≡ mdapOf (w .state) op operands (w .gx) (w .gy) (w .gflags) (w .tx) (w .ty) (w .tflags)
-    → lined r gx gy gflags (w .tox) (w .toy) tx ty tflags ≡ lineOf f op operands w
-unfolding lineOf lineBy
-mdap-line f op operands w told e = ap (intoPlaces w) e ∙ sym (ap (lineBy f op operands w) told)
+    pub set-line : {r : Stepped} → lentTo i ≡ Nothing → r ≡ setBy (w .state) op operands
+        → lined r (w .gx) (w .gy) (w .gflags) (w .tox) (w .toy) (w .tx) (w .ty) (w .tflags) ≡ lineOf f op operands w
+    unfolding lineIn
+    set-line told e = ap (intoState w) e ∙ lent-line told
 
-pub iup-line : (f : Fixed) (op : ℕ) (operands : List ℤ) (w : World) {r : Stepped} {gx gy : List ℤ} → instructionOf op ≡ Iup → interpolated r gx gy ≡ iupBy (w .state) op (f .gux) (f .guy) (f .gox) (f .goy) (w .gx) (w .gy) (w .gflags) (f .contours)
-    → lined r gx gy (w .gflags) (w .tox) (w .toy) (w .tx) (w .ty) (w .tflags) ≡ lineOf f op operands w
-unfolding lineOf lineBy
-iup-line f op operands w told e = ap (intoAxes w) e ∙ sym (ap (lineBy f op operands w) told)
+    pub glyph-line : {line : InGlyph} {r : Stepped} {gx gy : List ℤ} {gflags : List ℕ} → lentTo i ≡ Glyph line
+        → placed r gx gy gflags ≡ glyphBy (w .state) op operands (f .gux) (f .guy) (f .gox) (f .goy) (w .gx) (w .gy) (w .gflags) (f .contours) line
+        → lined r gx gy gflags (w .tox) (w .toy) (w .tx) (w .ty) (w .tflags) ≡ lineOf f op operands w
+    unfolding lineIn
+    glyph-line told e = ap (ontoGlyph w) e ∙ lent-line told
 
-pub shp-line : (f : Fixed) (op : ℕ) (operands : List ℤ) (w : World) {r : Stepped} {gx gy : List ℤ} {gflags : List ℕ} {tx ty : List ℤ} {tflags : List ℕ} → instructionOf op ≡ Shp → went r (zones gx gy gflags tx ty tflags) ≡ shpOf (w .state) op operands (f .gox) (f .goy) (w .tox) (w .toy) (zonesOf w)
-    → lined r gx gy gflags (w .tox) (w .toy) tx ty tflags ≡ lineOf f op operands w
-unfolding lineOf lineBy
-shp-line f op operands w told e = ap (intoZones w) e ∙ sym (ap (lineBy f op operands w) told)
+    pub points-line : {line : InPoints} {r : Stepped} {gx gy : List ℤ} {gflags : List ℕ} {tx ty : List ℤ} {tflags : List ℕ} → lentTo i ≡ Points line
+        → bothPlaced r gx gy gflags tx ty tflags ≡ pointsBy (w .state) op operands (w .gx) (w .gy) (w .gflags) (w .tx) (w .ty) (w .tflags) line
+        → lined r gx gy gflags (w .tox) (w .toy) tx ty tflags ≡ lineOf f op operands w
+    unfolding lineIn
+    points-line told e = ap (intoPlaces w) e ∙ lent-line told
 
-pub msirp-line : (f : Fixed) (op : ℕ) (operands : List ℤ) (w : World) {r : Stepped} {gx gy : List ℤ} {gflags : List ℕ} {tox toy tx ty : List ℤ} {tflags : List ℕ} → instructionOf op ≡ Msirp → allPlaced r gx gy gflags tox toy tx ty tflags ≡ msirpOf (w .state) op operands (w .gx) (w .gy) (w .gflags) (w .tox) (w .toy) (w .tx) (w .ty) (w .tflags)
-    → lined r gx gy gflags tox toy tx ty tflags ≡ lineOf f op operands w
-unfolding lineOf lineBy
-msirp-line f op operands w told e = ap (intoAll) e ∙ sym (ap (lineBy f op operands w) told)
-
-pub alignrp-line : (f : Fixed) (op : ℕ) (operands : List ℤ) (w : World) {r : Stepped} {gx gy : List ℤ} {gflags : List ℕ} {tx ty : List ℤ} {tflags : List ℕ} → instructionOf op ≡ Alignrp → went r (zones gx gy gflags tx ty tflags) ≡ alignrpOf (w .state) operands (zonesOf w)
-    → lined r gx gy gflags (w .tox) (w .toy) tx ty tflags ≡ lineOf f op operands w
-unfolding lineOf lineBy
-alignrp-line f op operands w told e = ap (intoZones w) e ∙ sym (ap (lineBy f op operands w) told)
-
-pub miap-line : (f : Fixed) (op : ℕ) (operands : List ℤ) (w : World) {r : Stepped} {gx gy : List ℤ} {gflags : List ℕ} {tox toy tx ty : List ℤ} {tflags : List ℕ} → instructionOf op ≡ Miap → allPlaced r gx gy gflags tox toy tx ty tflags ≡ miapOf (w .state) op operands (f .controls) (w .gx) (w .gy) (w .gflags) (w .tox) (w .toy) (w .tx) (w .ty) (w .tflags)
-    → lined r gx gy gflags tox toy tx ty tflags ≡ lineOf f op operands w
-unfolding lineOf lineBy
-miap-line f op operands w told e = ap (intoAll) e ∙ sym (ap (lineBy f op operands w) told)
-
-pub flippt-line : (f : Fixed) (op : ℕ) (operands : List ℤ) (w : World) {r : Stepped} {gflags : List ℕ} → instructionOf op ≡ Flippt → went r gflags ≡ flipptOf (w .state) operands (w .gflags)
-    → lined r (w .gx) (w .gy) gflags (w .tox) (w .toy) (w .tx) (w .ty) (w .tflags) ≡ lineOf f op operands w
-unfolding lineOf lineBy
-flippt-line f op operands w told e = ap (intoFlags w) e ∙ sym (ap (lineBy f op operands w) told)
+    pub all-line : {line : InAll} {r : Stepped} {gx gy : List ℤ} {gflags : List ℕ} {tox toy tx ty : List ℤ} {tflags : List ℕ} → lentTo i ≡ All line
+        → allPlaced r gx gy gflags tox toy tx ty tflags
+        ≡ allBy (w .state) op operands (f .controls) (f .gox) (f .goy) (w .gx) (w .gy) (w .gflags) (w .tox) (w .toy) (w .tx) (w .ty) (w .tflags) line
+        → lined r gx gy gflags tox toy tx ty tflags ≡ lineOf f op operands w
+    unfolding lineIn
+    all-line told e = ap intoAll e ∙ lent-line told

@@ -1,22 +1,11 @@
-// One line over the whole world: which instruction an opcode is, and the call of that instruction.
+// The lines: which instruction an opcode is, and which lists it is lent.
 //
-// `perform` is one equation with `lineOf` of specs/Dispatch.antt: what the line says, the state, and every list that it may change, refused or not.
-// It asks that the lists of each zone share one length, which the run tests once at its entry, and nothing else. That an opcode is known and the
-// operands aren't too many is tested by the crate sheet before.
-use align::alignrp;
-use graphics::GraphicsState;
-use interpolate::dispatch_iup;
-use intersect::isect;
-use line::Stepped;
-use looped::flippt;
-use looped::shp;
-use miap::miap;
-use outline::mdap;
-use relative::msirp;
-use sheet::set_state;
+// What a line does with the world is `lineOf` of specs/Dispatch.antt. `instruction_of` and `lent_to` are one equation each with their definitions;
+// proofs/Cases.antt says that a line is what specs/Lent.antt says of the lists it is lent, laid back into the world. The calls are made by the crates
+// movers and perform.
 ghost use mathlib.Core.Path.{_≡_};
-ghost use Rattle.world.specs.World.{fixed, world, Alike, lined};
-ghost use Rattle.lines.specs.Dispatch.{between, instructionOf, lineOf};
+ghost use Rattle.lines.specs.Dispatch.{between, instructionOf};
+ghost use Rattle.lines.specs.Lent.{lentTo};
 
 pub enum Instruction {
     // A line that sets the state and moves no point.
@@ -61,78 +50,47 @@ pub fn instruction_of(opcode: usize) -> Instruction
     }
 }
 
-// The line of an opcode, with its operands.
-pub fn perform(
-    s: GraphicsState,
-    opcode: usize,
-    operands: &[i32],
-    controls: &[i32],
-    gux: &[i32],
-    guy: &[i32],
-    gox: &[i32],
-    goy: &[i32],
-    gx: &mut [i32],
-    gy: &mut [i32],
-    gflags: &mut [u8],
-    contours: &[u16],
-    tox: &mut [i32],
-    toy: &mut [i32],
-    tx: &mut [i32],
-    ty: &mut [i32],
-    tflags: &mut [u8],
-) -> Stepped
-    requires { ⌜ Alike (fixed (now controls) (now gux) (now guy) (now gox) (now goy) (now contours)) (world s (now gx) (now gy) (now gflags) (now tox) (now toy) (now tx) (now ty) (now tflags)) ⌝ }
-    ensures { λ r. ⌜ lined r (now (gx .exit)) (now (gy .exit)) (now (gflags .exit)) (now (tox .exit)) (now (toy .exit)) (now (tx .exit)) (now (ty .exit)) (now (tflags .exit)) ≡ lineOf (fixed (now (controls .entry)) (now (gux .entry)) (now (guy .entry)) (now (gox .entry)) (now (goy .entry)) (now (contours .entry))) opcode (now (operands .entry)) (world s (now (gx .entry)) (now (gy .entry)) (now (gflags .entry)) (now (tox .entry)) (now (toy .entry)) (now (tx .entry)) (now (ty .entry)) (now (tflags .entry))) ⌝ }
+// ---- which lists a line is lent
+// The glyph's points, with its unscaled and original ones and its contours.
+pub enum InGlyph {
+    Iup,
+    Flippt,
+}
+
+// Both zones' points.
+pub enum InPoints {
+    Isect,
+    Mdap,
+    Alignrp,
+}
+
+// Both zones' points, their originals and the control values.
+pub enum InAll {
+    Shp,
+    Msirp,
+    Miap,
+}
+
+pub enum Lent {
+    // No list: the line sets the state.
+    Nothing,
+    Glyph(InGlyph),
+    Points(InPoints),
+    All(InAll),
+}
+
+pub fn lent_to(instruction: Instruction) -> Lent
+    ensures { λ r. ⌜ r ≡ lentTo instruction ⌝ }
 {
-    let instruction = instruction_of(opcode);
     match instruction {
-        Instruction::Set => set_state(s, opcode, operands),
-        Instruction::Isect => isect(s, operands, gx, gy, gflags, tx, ty, tflags),
-        Instruction::Mdap => mdap(s, opcode, operands, gx, gy, gflags, tx, ty, tflags),
-        Instruction::Iup => dispatch_iup(s, opcode, gux, guy, gox, goy, gx, gy, gflags, contours),
-        Instruction::Shp => shp(
-            s,
-            opcode,
-            operands,
-            gox,
-            goy,
-            tox,
-            toy,
-            gx,
-            gy,
-            gflags,
-            tx,
-            ty,
-            tflags,
-        ),
-        Instruction::Msirp => msirp(
-            s,
-            opcode,
-            operands,
-            gx,
-            gy,
-            gflags,
-            tox,
-            toy,
-            tx,
-            ty,
-            tflags,
-        ),
-        Instruction::Alignrp => alignrp(s, operands, gx, gy, gflags, tx, ty, tflags),
-        Instruction::Miap => miap(
-            s,
-            opcode,
-            operands,
-            controls,
-            gx,
-            gy,
-            gflags,
-            tox,
-            toy,
-            tx,
-            ty,
-            tflags,
-        ),
-        Instruction::Flippt => flippt(s, operands, gflags),
+        Instruction::Set => Lent::Nothing,
+        Instruction::Isect => Lent::Points(InPoints::Isect),
+        Instruction::Mdap => Lent::Points(InPoints::Mdap),
+        Instruction::Iup => Lent::Glyph(InGlyph::Iup),
+        Instruction::Shp => Lent::All(InAll::Shp),
+        Instruction::Msirp => Lent::All(InAll::Msirp),
+        Instruction::Alignrp => Lent::Points(InPoints::Alignrp),
+        Instruction::Miap => Lent::All(InAll::Miap),
+        Instruction::Flippt => Lent::Glyph(InGlyph::Flippt),
     }
 }

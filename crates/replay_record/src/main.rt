@@ -2,6 +2,7 @@
 // point, a line each. A refused record prints its number and three zeros alone.
 //
 // All that is said and left is `shelf::replay`, one equation with its definition; what this prints of it is held to the file `stdout`.
+use after::Replayed;
 use layout::Layout;
 use layout::at_current_x;
 use layout::at_current_y;
@@ -9,7 +10,6 @@ use layout::at_flags;
 use layout::wide;
 use libc::STDIN_FILENO;
 use libc::STDOUT_FILENO;
-use shelf::Replayed;
 use shelf::replay;
 use word_lists::word;
 

@@ -1,4 +1,4 @@
--- A replay of a record by its parts: what is said, what is written, the lists that were loaded, and the verdict on the bytes. Assumes nothing.
+-- A replay of a record by its parts: the lists that were loaded, and the verdict on the bytes. Assumes nothing.
 use mathlib.Core.List.{List}
 use mathlib.Core.Path.{_∙_, _≡_, ap, ap₂, refl, subst, sym}
 use Prim.Native.Nat.{_≤_, ℕ}
@@ -8,40 +8,17 @@ use lib.ListN.{length}
 use Rattle.int.specs.Word.{ofBits}
 use Rattle.graphics.specs.declared.GraphicsState.{GraphicsState}
 use Rattle.world.specs.World.{Fixed, World, fixed, world}
-use Rattle.replay.specs.Run.{detailOfAnswer, numberOfAnswer, ran, runOf}
-use Rattle.replay.specs.declared.Outcome.{Outcome}
 use Rattle.word_lists.proofs.Parts.{mapped-length}
 use Rattle.word_lists.specs.Lists.{endOf}
 use Rattle.layout.specs.Order.{atControls, atCurrentX, atEnds, atSheet, atTwilightX}
 use Rattle.layout.specs.declared.Layout.{Layout}
 use Rattle.record.proofs.Whole.{layout-is, sound}
-use Rattle.record.specs.Format.{Held, held, layoutFor}
+use Rattle.record.specs.Format.{held, layoutFor}
 use Rattle.record.specs.Read.{fixedIn, heldIn, layoutOf, numberOf, openOf, readAs}
 use Rattle.record.specs.declared.Damage.{Damage}
 use Rattle.record.specs.declared.Opened.the-variants.{Damaged, Whole}
-use Rattle.record_write.specs.Written.{Wrote, writeOf, wrote}
-use Rattle.shelf.specs.Shelf.{after, onRead, ranFrom, refusedAs, shelfOf, shelved, shelvedAs, shelvedFor, told}
-use Rattle.shelf.specs.declared.Replayed.{Replayed}
-
--- ---- what is said
-abbrev replayed : ℕ → ℕ → ℕ → ℕ → ℕ → Layout → Replayed
-replayed number place lines detail size l = record { number = number; place = place; lines = lines; detail = detail; size = size; layout = l }
-
-pub said : (l : Layout) (o : Outcome) (size : ℕ) {n d : ℕ} → n ≡ numberOfAnswer (o .answer) → d ≡ detailOfAnswer (o .answer)
-    → replayed n (o .place) (o .lines) d size l ≡ told l o size
-said l o size e f = ap₂ (λ (n d : ℕ). replayed n (o .place) (o .lines) d size l) e f
-
--- ---- what is written
-pub ran-and-written : (l : Layout) (f : Fixed) (sheet : List ℤ) (w : World) (out : List ℕ)
-    (o : Outcome) (gx gy : List ℤ) (gflags : List ℕ) (tox toy tx ty : List ℤ) (tflags : List ℕ) {size : ℕ} {left : List ℕ} {r : Replayed}
-    → ran o gx gy gflags tox toy tx ty tflags ≡ runOf f sheet (length sheet) 0 w
-    → wrote size left ≡ writeOf (held f sheet (world (o .state) gx gy gflags tox toy tx ty tflags)) out
-    → r ≡ told l o size
-    → shelved r left ≡ shelvedFor l (held f sheet w) out
-ran-and-written l f sheet w out o gx gy gflags tox toy tx ty tflags {size} {left} e g t =
-    ap (λ r. shelved r left) t
-    ∙ ap (shelvedAs l (ran o gx gy gflags tox toy tx ty tflags)) g
-    ∙ ap (λ r. shelvedAs l r (writeOf (held f sheet (r .world)) out)) e
+use Rattle.after.specs.After.{shelved, shelvedFor}
+use Rattle.shelf.specs.Shelf.{onRead, refusedAs, shelfOf}
 
 -- ---- the lists that were loaded
 pub same-world : {s s′ : GraphicsState} {gx gx′ gy gy′ : List ℤ} {gflags gflags′ : List ℕ} {tox tox′ toy toy′ tx tx′ ty ty′ : List ℤ} {tflags tflags′ : List ℕ}

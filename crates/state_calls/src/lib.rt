@@ -1,5 +1,5 @@
-// The oracle's calls over a state and both zones, move_original to point_displacement: each made on a case's lists, and judged by the case
-// (docs/ORACLE.md).
+// The oracle's calls over a state and both zones, move_original to move_zp2_point, and point_displacement by the crate displacements: each made on a case's
+// lists, and judged by the case (docs/ORACLE.md).
 //
 // Word 2 of a case says which zone, words 3 and 4 which point, word 7 a choice, words 8 and 9 distances. A call tests the sizes of the lists
 // that it is given; the other lists of the zones are tested here, by the lengths in the case. Nothing is promised here but
@@ -20,7 +20,6 @@ use compare::Compared;
 use compare::Said;
 use compare::compare_pair;
 use compare::compare_placed;
-use moves::Displaced;
 use state_words::zone_of;
 
 // ---- move_original
@@ -148,68 +147,6 @@ fn move_agrees(case: &[u8]) -> bool {
     )
 }
 
-// ---- point_displacement
-fn displaced_from(
-    case: &[u8],
-    ox: &[i32],
-    oy: &[i32],
-    cx: &[i32],
-    cy: &[i32],
-    tox: &[i32],
-    toy: &[i32],
-    tcx: &[i32],
-    tcy: &[i32],
-) -> Displaced {
-    let opcode = word(case, 7) as usize;
-    direct::try_point_displacement(state_of(case), opcode, ox, oy, cx, cy, tox, toy, tcx, tcy)
-}
-
-// With the glyph's lists, the twilight zone's are read.
-fn displaced_with(case: &[u8], ox: &[i32], oy: &[i32], cx: &[i32], cy: &[i32]) -> Displaced {
-    let tox = words_of(case, 8);
-    let toy = words_of(case, 9);
-    let tcx = words_of(case, 10);
-    let tcy = words_of(case, 11);
-    let n8 = length_of(case, 8, 16385);
-    let n9 = length_of(case, 9, 16385);
-    let n10 = length_of(case, 10, 16385);
-    let n11 = length_of(case, 11, 16385);
-    displaced_from(
-        case,
-        ox,
-        oy,
-        cx,
-        cy,
-        &tox[..n8],
-        &toy[..n9],
-        &tcx[..n10],
-        &tcy[..n11],
-    )
-}
-
-fn displaced(case: &[u8]) -> Displaced {
-    let ox = words_of(case, 2);
-    let oy = words_of(case, 3);
-    let cx = words_of(case, 4);
-    let cy = words_of(case, 5);
-    let n2 = length_of(case, 2, 16385);
-    let n3 = length_of(case, 3, 16385);
-    let n4 = length_of(case, 4, 16385);
-    let n5 = length_of(case, 5, 16385);
-    displaced_with(case, &ox[..n2], &oy[..n3], &cx[..n4], &cy[..n5])
-}
-
-fn of_displaced(displaced: Displaced) -> Said {
-    match displaced {
-        Displaced::Refused(why) => Said::refused(why),
-        Displaced::By(d) => Said::done(d.dx, d.dy),
-    }
-}
-
-fn displacement_agrees(case: &[u8]) -> bool {
-    of_displaced(displaced(case)).agrees(Compared::nothing(), case)
-}
-
 // ---- every call
 pub fn agrees(case: &[u8]) -> bool {
     if !glyph_fits(case) || !twilight_fits(case) {
@@ -218,6 +155,6 @@ pub fn agrees(case: &[u8]) -> bool {
     match word(case, KIND) {
         10 => original_agrees(case),
         11 | 12 => move_agrees(case),
-        _ => displacement_agrees(case),
+        _ => displacements::agrees(case),
     }
 }

@@ -5,7 +5,7 @@
 use answer::Call;
 use graphics::GraphicsState;
 use line::Stepped;
-use lines::perform;
+use perform::perform;
 use sheet::Decoded;
 use sheet::decode;
 ghost use mathlib.Core.Path.{_≡_};

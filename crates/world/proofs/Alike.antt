@@ -1,15 +1,15 @@
--- What the sizes test tells: a zone's lists are alike, and nothing is above its limit. Assumes nothing.
+-- What the sizes tell: where they fit, the lists of each zone share one length, and nothing is above its limit. Assumes nothing.
 use mathlib.Core.Bool.{Bool, _&&_, false, true}
 use mathlib.Core.List.{List}
-use mathlib.Core.Path.{_∙_, _≡_, refl}
 use Prim.Native.Nat.{_≤_, ℕ}
-use borrow.Author.Tests.{eqb-true, leb-true}
+use mathlib.Core.Path.{_∙_, _≡_, refl}
 use lib.Dec.{eqb, leb}
-use lib.IntN.{ℤ}
+use borrow.Author.Tests.{eqb-true, leb-true}
 use lib.ListN.{length}
+use lib.IntN.{ℤ}
 use Rattle.limits.specs.Limits.{mostContours, mostControlValues, mostPoints, mostWords}
-use Rattle.zone.proofs.Cases.{pair-length, placed-length, placed-pair}
 use Rattle.zone.specs.Sizes.{glyphFits, pairFits, placedFits, twilightFits}
+use Rattle.zone.proofs.Cases.{pair-length, placed-length, placed-pair}
 use Rattle.world.specs.Sizes.{fits, worldFits}
 use Rattle.world.specs.World.{Alike, Fixed, World}
 
@@ -46,25 +46,26 @@ alike-by f w g t =
     let m = twilight-alike (w .tox) (w .toy) (w .tx) (w .ty) (w .tflags) t in
     (a .0, a .1 ∙ a .0, o .0, o .1 ∙ o .0, o .2, o .3, m .1, m .2, m .3)
 
-pub fits-alike : (f : Fixed) (sheet : List ℤ) (w : World) → worldFits f sheet w ≡ true → Alike f w
+-- the tests of both zones, out of all four
+zones-fit : (f : Fixed) (sheet : List ℤ) (w : World) → worldFits f sheet w ≡ true
+    → (glyphFits (f .gux) (f .guy) (f .gox) (f .goy) (w .gx) (w .gy) (w .gflags) (f .contours) ≡ true)
+    × (twilightFits (w .tox) (w .toy) (w .tx) (w .ty) (w .tflags) ≡ true)
 unfolding fits
-fits-alike f sheet w e =
+zones-fit f sheet w e =
     let g = glyphFits (f .gux) (f .guy) (f .gox) (f .goy) (w .gx) (w .gy) (w .gflags) (f .contours) in
     let t = twilightFits (w .tox) (w .toy) (w .tx) (w .ty) (w .tflags) in
     let three : g && t && leb (length (f .controls)) mostControlValues ≡ true = both-first _ (leb (length sheet) mostWords) e in
     let two : g && t ≡ true = both-first _ (leb (length (f .controls)) mostControlValues) three in
-    alike-by f w (both-first g t two) (both-second g t two)
+    (both-first g t two, both-second g t two)
+
+pub fits-alike : (f : Fixed) (sheet : List ℤ) (w : World) → worldFits f sheet w ≡ true → Alike f w
+fits-alike f sheet w e = let z = zones-fit f sheet w e in alike-by f w (z .0) (z .1)
 
 -- the twilight zone's originals are as many as its points
 pub fits-twilight : (f : Fixed) (sheet : List ℤ) (w : World) → worldFits f sheet w ≡ true → length (w .tox) ≡ length (w .tx)
-unfolding fits
-fits-twilight f sheet w e =
-    let g = glyphFits (f .gux) (f .guy) (f .gox) (f .goy) (w .gx) (w .gy) (w .gflags) (f .contours) in
-    let t = twilightFits (w .tox) (w .toy) (w .tx) (w .ty) (w .tflags) in
-    let three : g && t && leb (length (f .controls)) mostControlValues ≡ true = both-first _ (leb (length sheet) mostWords) e in
-    let two : g && t ≡ true = both-first _ (leb (length (f .controls)) mostControlValues) three in
-    twilight-alike (w .tox) (w .toy) (w .tx) (w .ty) (w .tflags) (both-second g t two) .0
+fits-twilight f sheet w e = twilight-alike (w .tox) (w .toy) (w .tx) (w .ty) (w .tflags) (zones-fit f sheet w e .1) .0
 
+-- ---- the limits
 pair-most : (xs ys : List ℤ) → pairFits xs ys ≡ true → length xs ≤ mostPoints
 unfolding pairFits
 pair-most xs ys e = leb-true (length xs) mostPoints (both-second (eqb (length ys) (length xs)) _ e)
@@ -93,16 +94,16 @@ pub record Most (f : Fixed) (sheet : List ℤ) (w : World) : Type 0 where
 pub fits-most : (f : Fixed) (sheet : List ℤ) (w : World) → worldFits f sheet w ≡ true → Most f sheet w
 unfolding fits
 fits-most f sheet w e =
+    let z = zones-fit f sheet w e in
     let g = glyphFits (f .gux) (f .guy) (f .gox) (f .goy) (w .gx) (w .gy) (w .gflags) (f .contours) in
     let t = twilightFits (w .tox) (w .toy) (w .tx) (w .ty) (w .tflags) in
     let k = leb (length (f .controls)) mostControlValues in
     let three : g && t && k ≡ true = both-first _ (leb (length sheet) mostWords) e in
-    let two : g && t ≡ true = both-first _ k three in
-    let glyph = glyph-most (f .gux) (f .guy) (f .gox) (f .goy) (w .gx) (w .gy) (w .gflags) (f .contours) (both-first g t two) in
+    let glyph = glyph-most (f .gux) (f .guy) (f .gox) (f .goy) (w .gx) (w .gy) (w .gflags) (f .contours) (z .0) in
     record {
       points = glyph .0;
       contours = glyph .1;
-      twilight = twilight-most (w .tox) (w .toy) (w .tx) (w .ty) (w .tflags) (both-second g t two);
+      twilight = twilight-most (w .tox) (w .toy) (w .tx) (w .ty) (w .tflags) (z .1);
       controls = leb-true (length (f .controls)) mostControlValues (both-second (g && t) k three);
       words = leb-true (length sheet) mostWords (both-second (g && t && k) (leb (length sheet) mostWords) e);
     }

@@ -1,7 +1,7 @@
 // What a run holds, and the sizes that answer 2 is about.
 //
 // The lists are lent, so this crate has them as definitions: specs/World.antt says what lines change and what they only read. `sizes_fit` is the
-// test of every entry that takes both zones, and of whoever puts them into a record.
+// test of every entry that takes both zones, and of whoever puts them into a record; proofs/Alike.antt says what it tells of the lists' lengths.
 use limits::control_values_fit;
 use limits::words_fit;
 use zone::glyph_fits;

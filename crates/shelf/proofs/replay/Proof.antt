@@ -2,7 +2,8 @@
 use mathlib.Core.Path.{_∙_, ap, sym}
 use borrow.Author.Needs.{needs}
 use denote.Ref.{now}
-use Rattle.shelf.specs.Shelf.{refusedAs, shelved}
+use Rattle.after.specs.After.{shelved}
+use Rattle.shelf.specs.Shelf.{refusedAs}
 use Rattle.shelf.proofs.Cases.{damaged, opened, within}
 use Rattle.shelf.proofs.replay.Statement.{statement}
 use Rattle.shelf.proofs.replay.Tie as tie

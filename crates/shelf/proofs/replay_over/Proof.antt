@@ -6,7 +6,7 @@ use lib.Seq.{length-take-le}
 use Rattle.world.specs.World.{fixed}
 use Rattle.word_lists.specs.Lists.{flagsOf, numbersOf, part}
 use Rattle.record.specs.Format.{held}
-use Rattle.shelf.specs.Shelf.{shelvedFor}
+use Rattle.after.specs.After.{shelvedFor}
 use Rattle.shelf.proofs.Cases.{same-world}
 use Rattle.shelf.proofs.replay_over.Statement.{statement}
 use Rattle.shelf.proofs.replay_over.Tie as tie
