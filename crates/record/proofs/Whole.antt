@@ -8,11 +8,14 @@ use borrow.Author.Tests.{eqb-true, leb-true}
 use lib.Dec.{eqb, leb}
 use lib.ListN.{length}
 use Rattle.graphics.proofs.Laws.{and-left, and-right}
+use Rattle.int.specs.Word.{ofBits}
 use Rattle.state_words.specs.Words.{isState, stateSize}
-use Rattle.word_lists.specs.Lists.{allAtMost, part, wrappingSum}
-use Rattle.layout.specs.Order.{atEnds, atFlags, atTrailer, atTwilightFlags, edition, mostBytes, trailerSize}
-use Rattle.record.specs.Read.{countsFit, framed, layoutOf, lengthFits, openOf, sumFits, trailerFits, trailerWord, wordCount, wordsFit}
+use Rattle.word_lists.proofs.Parts.{mapped-length}
+use Rattle.word_lists.specs.Lists.{allAtMost, endOf, part, wrappingSum}
+use Rattle.layout.specs.Order.{atControls, atCurrentX, atEnds, atFlags, atSheet, atTrailer, atTwilightFlags, atTwilightX, edition, mostBytes, trailerSize}
+use Rattle.record.specs.Read.{countsFit, framed, heldIn, layoutOf, lengthFits, openOf, sumFits, trailerFits, trailerWord, wordCount, wordsFit}
 use Rattle.layout.specs.declared.Layout.{Layout}
+use Rattle.record.specs.Format.{layoutFor}
 use Rattle.record.specs.declared.Damage.the-variants.{TooLong, Form, Sum}
 use Rattle.record.specs.declared.Opened.{Opened}
 use Rattle.record.specs.declared.Opened.the-variants.{Whole, Damaged}
@@ -36,6 +39,7 @@ passed found l false frame sum e = record { short-enough = cc e; fits = cc e; su
 pub record Sound (bytes : List ℕ) (l : Layout) : Type 0 where
   pub size-is : length bytes ≤ mostBytes
   pub length-is : length bytes % 4 ≡ 0
+  pub counts-fit : countsFit l ≡ true
   pub adds-up : atTrailer l + trailerSize ≡ wordCount bytes
   pub edition-is : trailerWord bytes 5 ≡ edition
   pub back-is : trailerWord bytes 6 ≡ atTrailer l * 4
@@ -81,6 +85,7 @@ module _ (bytes : List ℕ) (l : Layout) (e : openOf bytes ≡ Whole l) where
       record {
         size-is = leb-true (length bytes) mostBytes (all-passed .short-enough);
         length-is = eqb-true (length bytes % 4) 0 (and-left (eqb (length bytes % 4) 0) (leb (stateSize + trailerSize) (wordCount bytes)) (f .0));
+        counts-fit = f .1;
         adds-up = eqb-true (atTrailer m + trailerSize) (wordCount bytes) (t .0);
         edition-is = eqb-true (trailerWord bytes 5) edition (t .1);
         back-is = eqb-true (trailerWord bytes 6) (atTrailer m * 4) (t .2);
@@ -90,3 +95,14 @@ module _ (bytes : List ℕ) (l : Layout) (e : openOf bytes ≡ Whole l) where
         twilight-are = w .3;
         sum-is = eqb-true (wrappingSum (part bytes 0 (wordCount bytes - 1))) (trailerWord bytes 7) (all-passed .sums);
       }
+
+-- ---- the counts of what is read
+same-layout : {p p′ c c′ t t′ k k′ w w′ : ℕ} → p ≡ p′ → c ≡ c′ → t ≡ t′ → k ≡ k′ → w ≡ w′
+    → _≡_ {A = Layout} (record { points = p; contours = c; twilight = t; controls = k; words = w }) (record { points = p′; contours = c′; twilight = t′; controls = k′; words = w′ })
+same-layout a b c d e = cc
+
+-- are those of its layout
+pub layout-kept : (bytes : List ℕ) (l : Layout) → layoutFor (heldIn bytes l) ≡ l
+layout-kept bytes l =
+    same-layout (mapped-length ofBits bytes (atCurrentX l) (l .points)) (mapped-length endOf bytes (atEnds l) (l .contours))
+    (mapped-length ofBits bytes (atTwilightX l) (l .twilight)) (mapped-length ofBits bytes (atControls l) (l .controls)) (mapped-length ofBits bytes (atSheet l) (l .words))

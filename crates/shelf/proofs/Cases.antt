@@ -5,14 +5,10 @@ use Prim.Native.Nat.{_≤_, ℕ}
 use native.Mathlib.Omega.{arith}
 use lib.IntN.{ℤ}
 use lib.ListN.{length}
-use Rattle.int.specs.Word.{ofBits}
 use Rattle.graphics.specs.declared.GraphicsState.{GraphicsState}
 use Rattle.world.specs.World.{Fixed, World, fixed, world}
-use Rattle.word_lists.proofs.Parts.{mapped-length}
-use Rattle.word_lists.specs.Lists.{endOf}
-use Rattle.layout.specs.Order.{atControls, atCurrentX, atEnds, atSheet, atTwilightX}
 use Rattle.layout.specs.declared.Layout.{Layout}
-use Rattle.record.proofs.Whole.{layout-is, sound}
+use Rattle.record.proofs.Whole.{layout-is, layout-kept, sound}
 use Rattle.record.specs.Format.{held, layoutFor}
 use Rattle.record.specs.Read.{fixedIn, heldIn, layoutOf, numberOf, openOf, readAs}
 use Rattle.record.specs.declared.Damage.{Damage}
@@ -40,18 +36,9 @@ module _ (bytes out : List ℕ) where
   unfolding shelfOf onRead
   damaged why e = sym (ap (λ o. onRead out (readAs bytes o)) e)
 
-  same-layout : {p p′ c c′ t t′ k k′ w w′ : ℕ} → p ≡ p′ → c ≡ c′ → t ≡ t′ → k ≡ k′ → w ≡ w′
-      → _≡_ {A = Layout} (record { points = p; contours = c; twilight = t; controls = k; words = w }) (record { points = p′; contours = c′; twilight = t′; controls = k′; words = w′ })
-  same-layout a b c d e = cc
-
-  layout-kept : (l : Layout) → layoutFor (heldIn bytes l) ≡ l
-  layout-kept l =
-      same-layout (mapped-length ofBits bytes (atCurrentX l) (l .points)) (mapped-length endOf bytes (atEnds l) (l .contours))
-      (mapped-length ofBits bytes (atTwilightX l) (l .twilight)) (mapped-length ofBits bytes (atControls l) (l .controls)) (mapped-length ofBits bytes (atSheet l) (l .words))
-
   pub opened : (l : Layout) → openOf bytes ≡ Whole l → shelvedFor l (heldIn bytes l) out ≡ shelfOf bytes out
   unfolding shelfOf onRead
-  opened l e = sym (ap (λ o. onRead out (readAs bytes o)) e ∙ ap (λ m. shelvedFor m (heldIn bytes l) out) (layout-kept l))
+  opened l e = sym (ap (λ o. onRead out (readAs bytes o)) e ∙ ap (λ m. shelvedFor m (heldIn bytes l) out) (layout-kept bytes l))
 
 -- a record's lists have no more words than are between its state and its trailer
 pub within : (bytes : List ℕ) (l : Layout) → openOf bytes ≡ Whole l → (l .points ≤ 6110) × ((l .contours ≤ 6110) × ((l .twilight ≤ 6110) × ((l .controls ≤ 6110) × (l .words ≤ 6110))))
