@@ -31,6 +31,7 @@ abbrev pub saidOf : Layout → Ran → ℕ → Replayed
 saidOf l r size =
     record { number = numberOfAnswer (r .answer); place = r .place; lines = r .lines; detail = detailOfAnswer (r .answer); size = size; layout = l }
 
+-- the same of what `run` hands back
 abbrev pub told : Layout → Outcome → ℕ → Replayed
 told l r size =
     record { number = numberOfAnswer (r .answer); place = r .place; lines = r .lines; detail = detailOfAnswer (r .answer); size = size; layout = l }

@@ -15,6 +15,10 @@ mostBytes = 24576
 abbrev pub trailerSize : ℕ
 trailerSize = 8
 
+-- words between the state and the trailer of the longest record: no list has more
+abbrev pub listRoom : ℕ
+listRoom = 6110
+
 abbrev pub mostFlag : ℕ
 mostFlag = 255
 

@@ -7,20 +7,21 @@ use word_lists::load_numbers;
 ghost use mathlib.Core.Path.{_≡_};
 ghost use Prim.Native.Nat.{ℕ, _≤_};
 ghost use lib.ListN.{length, take};
+ghost use Rattle.layout.specs.Order.{listRoom};
 ghost use Rattle.word_lists.specs.Lists.{part, numbersOf, flagsOf, endsOf};
 
-// The words of a record between its state and its trailer, at most: 24 KiB less these.
+// `listRoom` of the crate layout.
 const ROOM: usize = 6110;
 
 fn blank_numbers() -> [i32; ROOM]
-    ensures { λ r. ⌜ 6110 ≡ length r ⌝ }
+    ensures { λ r. ⌜ listRoom ≡ length r ⌝ }
 {
     [0; ROOM]
 }
 
 pub fn numbers_at(bytes: &[u8], first: usize, count: usize) -> [i32; ROOM]
-    requires { ⌜ count ≤ 6110 ⌝ }
-    ensures { λ r. ⌜ 6110 ≡ length r ⌝ }
+    requires { ⌜ count ≤ listRoom ⌝ }
+    ensures { λ r. ⌜ listRoom ≡ length r ⌝ }
     ensures { λ r. ⌜ take count r ≡ numbersOf (part (now (bytes .entry)) first count) ⌝ }
 {
     let mut list = blank_numbers();
@@ -29,14 +30,14 @@ pub fn numbers_at(bytes: &[u8], first: usize, count: usize) -> [i32; ROOM]
 }
 
 fn blank_flags() -> [u8; ROOM]
-    ensures { λ r. ⌜ 6110 ≡ length r ⌝ }
+    ensures { λ r. ⌜ listRoom ≡ length r ⌝ }
 {
     [0; ROOM]
 }
 
 pub fn flags_at(bytes: &[u8], first: usize, count: usize) -> [u8; ROOM]
-    requires { ⌜ count ≤ 6110 ⌝ }
-    ensures { λ r. ⌜ 6110 ≡ length r ⌝ }
+    requires { ⌜ count ≤ listRoom ⌝ }
+    ensures { λ r. ⌜ listRoom ≡ length r ⌝ }
     ensures { λ r. ⌜ take count r ≡ flagsOf (part (now (bytes .entry)) first count) ⌝ }
 {
     let mut list = blank_flags();
@@ -45,14 +46,14 @@ pub fn flags_at(bytes: &[u8], first: usize, count: usize) -> [u8; ROOM]
 }
 
 fn blank_ends() -> [u16; ROOM]
-    ensures { λ r. ⌜ 6110 ≡ length r ⌝ }
+    ensures { λ r. ⌜ listRoom ≡ length r ⌝ }
 {
     [0; ROOM]
 }
 
 pub fn ends_at(bytes: &[u8], first: usize, count: usize) -> [u16; ROOM]
-    requires { ⌜ count ≤ 6110 ⌝ }
-    ensures { λ r. ⌜ 6110 ≡ length r ⌝ }
+    requires { ⌜ count ≤ listRoom ⌝ }
+    ensures { λ r. ⌜ listRoom ≡ length r ⌝ }
     ensures { λ r. ⌜ take count r ≡ endsOf (part (now (bytes .entry)) first count) ⌝ }
 {
     let mut list = blank_ends();

@@ -7,6 +7,7 @@ use lib.IntN.{ℤ}
 use lib.ListN.{length}
 use Rattle.graphics.specs.declared.GraphicsState.{GraphicsState}
 use Rattle.world.specs.World.{Fixed, World, fixed, world}
+use Rattle.layout.specs.Order.{listRoom}
 use Rattle.layout.specs.declared.Layout.{Layout}
 use Rattle.record.proofs.Whole.{layout-is, layout-kept, sound}
 use Rattle.record.specs.Format.{held, layoutFor}
@@ -41,16 +42,16 @@ module _ (bytes out : List ℕ) where
   opened l e = sym (ap (λ o. onRead out (readAs bytes o)) e ∙ ap (λ m. shelvedFor m (heldIn bytes l) out) (layout-kept bytes l))
 
 -- a record's lists have no more words than are between its state and its trailer
-pub within : (bytes : List ℕ) (l : Layout) → openOf bytes ≡ Whole l → (l .points ≤ 6110) × ((l .contours ≤ 6110) × ((l .twilight ≤ 6110) × ((l .controls ≤ 6110) × (l .words ≤ 6110))))
+pub within : (bytes : List ℕ) (l : Layout) → openOf bytes ≡ Whole l → (l .points ≤ listRoom) × ((l .contours ≤ listRoom) × ((l .twilight ≤ listRoom) × ((l .controls ≤ listRoom) × (l .words ≤ listRoom))))
 within bytes l e =
     let s = sound bytes l e in
     let u = s .adds-up in
     let z = s .size-is in
     let m = layoutOf bytes in
     let g = layout-is bytes l e in
-    let p : m .points ≤ 6110 = omega (arith, u, z) in
-    let c : m .contours ≤ 6110 = omega (arith, u, z) in
-    let t : m .twilight ≤ 6110 = omega (arith, u, z) in
-    let k : m .controls ≤ 6110 = omega (arith, u, z) in
-    let w : m .words ≤ 6110 = omega (arith, u, z) in
-    subst (λ (n : Layout). (n .points ≤ 6110) × ((n .contours ≤ 6110) × ((n .twilight ≤ 6110) × ((n .controls ≤ 6110) × (n .words ≤ 6110))))) g (p, (c, (t, (k, w))))
+    let p : m .points ≤ listRoom = omega (arith, u, z) in
+    let c : m .contours ≤ listRoom = omega (arith, u, z) in
+    let t : m .twilight ≤ listRoom = omega (arith, u, z) in
+    let k : m .controls ≤ listRoom = omega (arith, u, z) in
+    let w : m .words ≤ listRoom = omega (arith, u, z) in
+    subst (λ (n : Layout). (n .points ≤ listRoom) × ((n .contours ≤ listRoom) × ((n .twilight ≤ listRoom) × ((n .controls ≤ listRoom) × (n .words ≤ listRoom))))) g (p, (c, (t, (k, w))))

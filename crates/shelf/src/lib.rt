@@ -30,12 +30,13 @@ use record::open;
 ghost use mathlib.Core.Path.{_≡_};
 ghost use Prim.Native.Nat.{_≤_};
 ghost use Rattle.world.specs.World.{fixed};
+ghost use Rattle.layout.specs.Order.{listRoom};
 ghost use Rattle.record.specs.Format.{held};
 ghost use Rattle.record.specs.Read.{worldIn, heldIn};
 ghost use Rattle.after.specs.After.{shelved, shelvedFor};
 ghost use Rattle.shelf.specs.Shelf.{refusedAs, shelfOf};
 
-// What lines change, from the record.
+// A replay over what lines only read; what they change is loaded here.
 fn replay_over(
     bytes: &[u8],
     l: Layout,
@@ -48,8 +49,8 @@ fn replay_over(
     contours: &[u16],
     out: &mut [u8],
 ) -> Replayed
-    requires { ⌜ l .points ≤ 6110 ⌝ }
-    requires { ⌜ l .twilight ≤ 6110 ⌝ }
+    requires { ⌜ l .points ≤ listRoom ⌝ }
+    requires { ⌜ l .twilight ≤ listRoom ⌝ }
     ensures { λ r. ⌜ shelved r (now (out .exit)) ≡ shelvedFor l (held (fixed (now (controls .entry)) (now (gux .entry)) (now (guy .entry)) (now (gox .entry)) (now (goy .entry)) (now (contours .entry))) (now (sheet .entry)) (worldIn (now (bytes .entry)) l)) (now (out .entry)) ⌝ }
 {
     let n = wide(l.points);
@@ -85,13 +86,13 @@ fn replay_over(
     )
 }
 
-// What lines only read, from the record.
+// A replay of a whole record; what lines only read is loaded here.
 fn replay_whole(bytes: &[u8], l: Layout, out: &mut [u8]) -> Replayed
-    requires { ⌜ l .points ≤ 6110 ⌝ }
-    requires { ⌜ l .contours ≤ 6110 ⌝ }
-    requires { ⌜ l .twilight ≤ 6110 ⌝ }
-    requires { ⌜ l .controls ≤ 6110 ⌝ }
-    requires { ⌜ l .words ≤ 6110 ⌝ }
+    requires { ⌜ l .points ≤ listRoom ⌝ }
+    requires { ⌜ l .contours ≤ listRoom ⌝ }
+    requires { ⌜ l .twilight ≤ listRoom ⌝ }
+    requires { ⌜ l .controls ≤ listRoom ⌝ }
+    requires { ⌜ l .words ≤ listRoom ⌝ }
     ensures { λ r. ⌜ shelved r (now (out .exit)) ≡ shelvedFor l (heldIn (now (bytes .entry)) l) (now (out .entry)) ⌝ }
 {
     let words = wide(l.words);
