@@ -48,10 +48,19 @@ how_to_run() { # NAME
   fi
 }
 
-# Proves and links a program where there is none yet. Standard input is the record, so the build gets none of it.
+# Whether a program is there and no source is newer: what an older text was proved of says nothing of this one.
+is_built() { # NAME
+  local program=$root/target/bin/$1
+  [ -x "$program" ] || return 1
+  # without the kit the program is what there is
+  type -P rt >/dev/null || return 0
+  [ -z "$(find "$root/crates" "$root/crates.txt" -newer "$program" -print -quit 2>/dev/null)" ]
+}
+
+# Proves and links a program where that isn't done yet. Standard input is the record, so the build gets none of it.
 build() { # NAME
   local log=$root/target/$1.log
-  if [ -x "$root/target/bin/$1" ]; then return; fi
+  if is_built "$1"; then return; fi
   type -P rt >/dev/null || fail "no program target/bin/$1 yet, and no 'rt' to build it: install the Rattle kit and put its 'rt' on the path"
   echo "$me: proving and building $1; this is done once and takes some minutes" >&2
   mkdir -p "$root/target" || fail "can't write to $root/target"
@@ -61,6 +70,7 @@ build() { # NAME
     fail "rt check $1 failed; all that it said is in $log"
   fi
   [ -x "$root/target/bin/$1" ] || fail "rt check $1 left no program; what it said is in $log"
+  touch "$root/target/bin/$1" # rt leaves a program alone that it need not link again
 }
 
 # Runs a program with a file as its standard input.
