@@ -1,6 +1,7 @@
 // Lists of a record, each loaded to the front of an array of its own.
 //
-// A record has no more than ROOM words between its state and its trailer, so no list of it has more.
+// A record has no more than ROOM words between its state and its trailer, so no list of it has more. The contracts speak of the front of an
+// array, which is what is lent on; what stands behind it is left open. This serves the crate shelf and is no call for users.
 use word_lists::load_ends;
 use word_lists::load_flags;
 use word_lists::load_numbers;

@@ -1,4 +1,5 @@
--- A record stored part by part over bytes, each part at its place of the layout: document 02, K4. Assumes nothing.
+-- A record stored part by part over bytes, each part at its place of the layout: document 02, K4. These are the writer's steps; what a
+-- reader must believe is `recordOf` of the crate record, and proofs/Joined.antt proves that they come to it. Assumes nothing.
 use Prim.Native.Nat.{ℕ}
 use mathlib.Core.List.{List, [], _∷_}
 use lib.IntN.{ℤ}
