@@ -1,7 +1,7 @@
--- The number and the detail of each refusal: document 01, "What the replayer says back". Assumes nothing.
+-- The number and the detail of each refusal: document 01, "What the replayer says back"; 12 and 13 are document 02's, K1. Assumes nothing.
 use Prim.Native.Nat.{ℕ}
 use Rattle.answer.specs.declared.Refusal.{Refusal}
-use Rattle.answer.specs.declared.Refusal.the-variants.{Sizes, State, Line, Surplus, Missing, Point, ControlValue, ZonePointer, LoopCount, Range}
+use Rattle.answer.specs.declared.Refusal.the-variants.{Sizes, State, Line, Surplus, Missing, Point, ControlValue, ZonePointer, LoopCount, Range, Contour, Compatibility}
 use Rattle.answer.specs.declared.Call.{Call}
 use Rattle.answer.specs.declared.Call.the-variants.{Done, Refused}
 
@@ -16,6 +16,8 @@ numberOf (ControlValue at) = 8
 numberOf (ZonePointer operand) = 9
 numberOf (LoopCount operand) = 10
 numberOf (Range start) = 11
+numberOf (Contour at) = 12
+numberOf Compatibility = 13
 
 -- an index or an operand, widened with its sign to 64 bits; 0 where the paper names none
 abbrev pub detailOf : Refusal → ℕ
@@ -29,6 +31,8 @@ detailOf (ControlValue at) = at
 detailOf (ZonePointer operand) = operand
 detailOf (LoopCount operand) = operand
 detailOf (Range start) = start
+detailOf (Contour at) = at
+detailOf Compatibility = 0
 
 -- a direct call that returns nothing: 0 where it is done
 abbrev pub numberOfCall : Call → ℕ

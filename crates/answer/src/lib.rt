@@ -1,4 +1,4 @@
-// What the replayer says back: why a call was refused, with document 01's number and detail for each reason.
+// What the replayer says back: why a call was refused, with the number and detail of document 01 (and 02's K1) for each reason.
 //
 // Each reason is a case of `Refusal`; specs/Answer.antt gives its number and its detail, and every promise on refusals goes
 // through these two definitions. What a refusal leaves in coordinates, flags and state is said where it is given.
@@ -26,6 +26,10 @@ pub enum Refusal {
     LoopCount(u64),
     // A range of points with its start above its end, or its end above the zone's length.
     Range(u64),
+    // A contour that its zone hasn't, where the state is pedantic.
+    Contour(u64),
+    // SHPIX under backward compatibility.
+    Compatibility,
 }
 
 impl Refusal {
@@ -43,6 +47,8 @@ impl Refusal {
             Refusal::ZonePointer(_) => 9,
             Refusal::LoopCount(_) => 10,
             Refusal::Range(_) => 11,
+            Refusal::Contour(_) => 12,
+            Refusal::Compatibility => 13,
         }
     }
 
@@ -60,6 +66,8 @@ impl Refusal {
             Refusal::ZonePointer(operand) => operand,
             Refusal::LoopCount(operand) => operand,
             Refusal::Range(start) => start,
+            Refusal::Contour(at) => at,
+            Refusal::Compatibility => 0,
         }
     }
 }

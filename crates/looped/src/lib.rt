@@ -126,8 +126,8 @@ fn shift_points(
     }
 }
 
-// In the zone that a pointer names.
-fn shift_in(
+// In the zone that a pointer names. SHPIX shifts by it too.
+pub fn shift_in(
     zone: ZonePointer,
     m: Move,
     count: u32,

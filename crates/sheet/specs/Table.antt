@@ -1,4 +1,5 @@
--- What each opcode's line takes, and how a line is read off a sheet: document 01, "A sheet and its lines". Assumes nothing.
+-- What each opcode's line takes, and how a line is read off a sheet: document 01, "A sheet and its lines", and
+-- document 02, K1 (0x34 to 0x38, 0x81, 0x82). Assumes nothing.
 use Prim.Native.Nat.{ℕ, zero, suc, _+_, _-_}
 use mathlib.Core.List.{List, [], _∷_}
 use mathlib.Core.Bool.{Bool, true, false, cond, _&&_}
@@ -11,14 +12,17 @@ use Rattle.sheet.specs.declared.Decoded.{Decoded}
 use Rattle.sheet.specs.declared.Decoded.the-variants.{Operands, Refused}
 
 -- ---- the table
--- how an entry says "as many as the loop counter", and "unknown"
+-- how an entry says "as many as the loop counter", "one more than that", and "unknown"
 abbrev pub looped : ℕ
 looped = 254
+
+abbrev pub amountAndLooped : ℕ
+amountAndLooped = 253
 
 abbrev pub unknown : ℕ
 unknown = 255
 
--- the paper's rows: from this opcode to that, a line takes so many operands
+-- the papers' rows: from this opcode to that, a line takes so many operands
 abbrev pub rows : List (ℕ × ℕ × ℕ)
 rows =
     (0x00, 0x05, 0)
@@ -28,6 +32,8 @@ rows =
     ∷ (0x2E, 0x2F, 1)
     ∷ (0x30, 0x31, 0)
     ∷ (0x32, 0x33, looped)
+    ∷ (0x34, 0x37, 1)
+    ∷ (0x38, 0x38, amountAndLooped)
     ∷ (0x3A, 0x3B, 2)
     ∷ (0x3C, 0x3C, looped)
     ∷ (0x3D, 0x3D, 0)
@@ -35,6 +41,7 @@ rows =
     ∷ (0x7A, 0x7A, 0)
     ∷ (0x7C, 0x7D, 0)
     ∷ (0x80, 0x80, looped)
+    ∷ (0x81, 0x82, 2)
     ∷ []
 
 -- the first row that has the opcode
@@ -47,7 +54,7 @@ needOf op = needIn op rows
 
 -- how many operands an entry means, with this loop counter
 abbrev pub takesBy : ℕ → ℕ → ℕ
-takesBy need counter = cond (eqb need looped) counter need
+takesBy need counter = cond (eqb need looped) counter (cond (eqb need amountAndLooped) (suc counter) need)
 
 -- ---- a line
 -- with the opcode word and the count word read as indices, so that one below zero is beyond every end: unknown opcode, no count word, a count that

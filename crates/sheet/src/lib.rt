@@ -22,6 +22,9 @@ ghost use Rattle.sheet.specs.Setters.{axisBy, vectorsBy, referenceBy, po
 // As many operands as the loop counter says.
 pub const LOOPED: u8 = 254;
 
+// One more than the loop counter says: an amount, then points.
+pub const AMOUNT_AND_LOOPED: u8 = 253;
+
 pub const UNKNOWN: u8 = 255;
 
 // How many operands the line of each opcode takes.
@@ -78,11 +81,11 @@ const NEEDS: [u8; 256] = [
     0,
     254,
     254,
-    255,
-    255,
-    255,
-    255,
-    255,
+    1,
+    1,
+    1,
+    1,
+    253,
     255,
     2,
     2,
@@ -155,8 +158,8 @@ const NEEDS: [u8; 256] = [
     255,
     255,
     254,
-    255,
-    255,
+    2,
+    2,
     255,
     255,
     255,
@@ -307,6 +310,8 @@ fn takes_operands(need: u8, loop_counter: u32) -> usize
 {
     if need == LOOPED {
         loop_counter as usize
+    } else if need == AMOUNT_AND_LOOPED {
+        loop_counter as usize + 1
     } else {
         need as usize
     }

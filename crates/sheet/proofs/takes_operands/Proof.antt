@@ -1,6 +1,7 @@
--- `sheet::takes_operands` meets its contract: by whether the entry is `looped`. Assumes nothing.
+-- `sheet::takes_operands` meets its contract: by whether the entry is `looped` or `amountAndLooped`. Assumes nothing.
+use borrow.Author.Needs.{needs}
 use borrow.Author.Tests.{eq-eqb, ne-eqb}
-use Rattle.sheet.specs.Table.{looped}
+use Rattle.sheet.specs.Table.{amountAndLooped, looped}
 use Rattle.sheet.proofs.takes_operands.Statement.{statement}
 use Rattle.sheet.proofs.takes_operands.Tie as tie
 
@@ -8,7 +9,10 @@ returns : tie.Need-returns
 returns c = rw (eq-eqb (c .before .args .need) looped (c .if1 .taken))
 
 returns-2 : tie.Need-returns-2
-returns-2 c = rw (ne-eqb (c .before .args .need) looped (c .if1 .left))
+returns-2 c = rw (ne-eqb (c .before .args .need) looped (c .before .if1 .left))
+
+returns-3 : tie.Need-returns-3
+returns-3 c = rw (ne-eqb (c .before .args .need) looped (c .if1 .left))
 
 pub takes-operands-spec : {M : Type 1} → statement M
 takes-operands-spec = tie.close (tie.spec returns returns-2)
