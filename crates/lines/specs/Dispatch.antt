@@ -1,4 +1,4 @@
--- Which line an opcode is, and what it does with the world: the table of document 01, "A sheet and its lines". What each line does is the definition
+-- Which line an opcode is, and what it does with the world: the table of document 01, "A sheet and its lines", with the lines of document 02, K1. What each line does is the definition
 -- of its own crate; here it is laid back into the world. Assumes nothing.
 use Prim.Native.Nat.{ℕ}
 use mathlib.Core.Bool.{Bool, cond, _&&_}
@@ -8,6 +8,9 @@ use lib.IntN.{ℤ}
 use Rattle.line.specs.declared.Stepped.{Stepped}
 use Rattle.sheet.specs.Setters.{setBy}
 use Rattle.looped.specs.Looped.{Went, Zones, zones, flipptOf, shpOf}
+use Rattle.ranges.specs.Ranges.{fliprgOf}
+use Rattle.pixels.specs.Pixels.{shpixOf}
+use Rattle.shifts.specs.Shifts.{shcOf, shzOf}
 use Rattle.align.specs.Align.{alignrpOf}
 use Rattle.places.specs.Placed.{BothPlaced, AllPlaced}
 use Rattle.outline.specs.Absolute.{mdapOf}
@@ -16,7 +19,7 @@ use Rattle.relative.specs.Msirp.{msirpOf}
 use Rattle.intersect.specs.Intersection.{isectOf}
 use Rattle.interpolate.specs.Interpolated.{Interpolated, iupBy}
 use Rattle.lines.specs.declared.Instruction.{Instruction}
-use Rattle.lines.specs.declared.Instruction.the-variants.{Set, Isect, Mdap, Iup, Shp, Msirp, Alignrp, Miap, Flippt}
+use Rattle.lines.specs.declared.Instruction.the-variants.{Set, Isect, Mdap, Iup, Shp, Shc, Shz, Shpix, Msirp, Alignrp, Miap, Flippt, Fliprg}
 use Rattle.world.specs.World.{Fixed, World, Lined, lined}
 
 -- ---- the table
@@ -27,10 +30,14 @@ movers =
     ∷ (0x2E, 0x2F, Mdap)
     ∷ (0x30, 0x31, Iup)
     ∷ (0x32, 0x33, Shp)
+    ∷ (0x34, 0x35, Shc)
+    ∷ (0x36, 0x37, Shz)
+    ∷ (0x38, 0x38, Shpix)
     ∷ (0x3A, 0x3B, Msirp)
     ∷ (0x3C, 0x3C, Alignrp)
     ∷ (0x3E, 0x3F, Miap)
     ∷ (0x80, 0x80, Flippt)
+    ∷ (0x81, 0x82, Fliprg)
     ∷ []
 
 -- whether an opcode is from this one to that
@@ -78,12 +85,16 @@ lineBy f op operands w Mdap = intoPlaces w (mdapOf (w .state) op operands (w .gx
 lineBy f op operands w Iup =
     intoAxes w (iupBy (w .state) op (f .gux) (f .guy) (f .gox) (f .goy) (w .gx) (w .gy) (w .gflags) (f .contours))
 lineBy f op operands w Shp = intoZones w (shpOf (w .state) op operands (f .gox) (f .goy) (w .tox) (w .toy) (zonesOf w))
+lineBy f op operands w Shc = intoZones w (shcOf (w .state) op operands (f .contours) (f .gox) (f .goy) (w .tox) (w .toy) (zonesOf w))
+lineBy f op operands w Shz = intoZones w (shzOf (w .state) op operands (f .contours) (f .gox) (f .goy) (w .tox) (w .toy) (zonesOf w))
+lineBy f op operands w Shpix = intoZones w (shpixOf (w .state) operands (zonesOf w))
 lineBy f op operands w Msirp =
     intoAll (msirpOf (w .state) op operands (w .gx) (w .gy) (w .gflags) (w .tox) (w .toy) (w .tx) (w .ty) (w .tflags))
 lineBy f op operands w Alignrp = intoZones w (alignrpOf (w .state) operands (zonesOf w))
 lineBy f op operands w Miap =
     intoAll (miapOf (w .state) op operands (f .controls) (w .gx) (w .gy) (w .gflags) (w .tox) (w .toy) (w .tx) (w .ty) (w .tflags))
 lineBy f op operands w Flippt = intoFlags w (flipptOf (w .state) operands (w .gflags))
+lineBy f op operands w Fliprg = intoFlags w (fliprgOf (w .state) op operands (w .gflags))
 
 -- the line of an opcode, with its operands
 unfoldable pub lineOf : Fixed → ℕ → List ℤ → World → Lined

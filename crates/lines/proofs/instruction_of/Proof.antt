@@ -29,6 +29,18 @@ is-between-requires-7 c κs = search needs
 is-between-requires-8 : tie.Need-is-between-requires-8
 is-between-requires-8 c κs = search needs
 
+is-between-requires-9 : tie.Need-is-between-requires-9
+is-between-requires-9 c κs = search needs
+
+is-between-requires-10 : tie.Need-is-between-requires-10
+is-between-requires-10 c κs = search needs
+
+is-between-requires-11 : tie.Need-is-between-requires-11
+is-between-requires-11 c κs = search needs
+
+is-between-requires-12 : tie.Need-is-between-requires-12
+is-between-requires-12 c κs = search needs
+
 returns : tie.Need-returns
 unfolding instructionOf
 returns c = rw (sym (c .before .is-between .ensures) ∙ c .if1 .taken)
@@ -63,7 +75,23 @@ returns-8 c = rw (sym (c .before .before .before .before .before .before .before
 
 returns-9 : tie.Need-returns-9
 unfolding instructionOf
-returns-9 c = rw (sym (c .before .before .before .before .before .before .before .before .before .before .before .before .before .before .before .is-between .ensures) ∙ c .before .before .before .before .before .before .before .before .before .before .before .before .before .before .if1 .left, sym (c .before .before .before .before .before .before .before .before .before .before .before .before .before .is-between2 .ensures) ∙ c .before .before .before .before .before .before .before .before .before .before .before .before .if2 .left, sym (c .before .before .before .before .before .before .before .before .before .before .before .is-between3 .ensures) ∙ c .before .before .before .before .before .before .before .before .before .before .if3 .left, sym (c .before .before .before .before .before .before .before .before .before .is-between4 .ensures) ∙ c .before .before .before .before .before .before .before .before .if4 .left, sym (c .before .before .before .before .before .before .before .is-between5 .ensures) ∙ c .before .before .before .before .before .before .if5 .left, sym (c .before .before .before .before .before .is-between6 .ensures) ∙ c .before .before .before .before .if6 .left, sym (c .before .before .before .is-between7 .ensures) ∙ c .before .before .if7 .left, sym (c .before .is-between8 .ensures) ∙ c .if8 .left)
+returns-9 c = rw (sym (c .before .before .before .before .before .before .before .before .before .before .before .before .before .before .before .before .before .is-between .ensures) ∙ c .before .before .before .before .before .before .before .before .before .before .before .before .before .before .before .before .if1 .left, sym (c .before .before .before .before .before .before .before .before .before .before .before .before .before .before .before .is-between2 .ensures) ∙ c .before .before .before .before .before .before .before .before .before .before .before .before .before .before .if2 .left, sym (c .before .before .before .before .before .before .before .before .before .before .before .before .before .is-between3 .ensures) ∙ c .before .before .before .before .before .before .before .before .before .before .before .before .if3 .left, sym (c .before .before .before .before .before .before .before .before .before .before .before .is-between4 .ensures) ∙ c .before .before .before .before .before .before .before .before .before .before .if4 .left, sym (c .before .before .before .before .before .before .before .before .before .is-between5 .ensures) ∙ c .before .before .before .before .before .before .before .before .if5 .left, sym (c .before .before .before .before .before .before .before .is-between6 .ensures) ∙ c .before .before .before .before .before .before .if6 .left, sym (c .before .before .before .before .before .is-between7 .ensures) ∙ c .before .before .before .before .if7 .left, sym (c .before .before .before .is-between8 .ensures) ∙ c .before .before .if8 .left, sym (c .before .is-between9 .ensures) ∙ c .if9 .taken)
+
+returns-10 : tie.Need-returns-10
+unfolding instructionOf
+returns-10 c = rw (sym (c .before .before .before .before .before .before .before .before .before .before .before .before .before .before .before .before .before .before .before .is-between .ensures) ∙ c .before .before .before .before .before .before .before .before .before .before .before .before .before .before .before .before .before .before .if1 .left, sym (c .before .before .before .before .before .before .before .before .before .before .before .before .before .before .before .before .before .is-between2 .ensures) ∙ c .before .before .before .before .before .before .before .before .before .before .before .before .before .before .before .before .if2 .left, sym (c .before .before .before .before .before .before .before .before .before .before .before .before .before .before .before .is-between3 .ensures) ∙ c .before .before .before .before .before .before .before .before .before .before .before .before .before .before .if3 .left, sym (c .before .before .before .before .before .before .before .before .before .before .before .before .before .is-between4 .ensures) ∙ c .before .before .before .before .before .before .before .before .before .before .before .before .if4 .left, sym (c .before .before .before .before .before .before .before .before .before .before .before .is-between5 .ensures) ∙ c .before .before .before .before .before .before .before .before .before .before .if5 .left, sym (c .before .before .before .before .before .before .before .before .before .is-between6 .ensures) ∙ c .before .before .before .before .before .before .before .before .if6 .left, sym (c .before .before .before .before .before .before .before .is-between7 .ensures) ∙ c .before .before .before .before .before .before .if7 .left, sym (c .before .before .before .before .before .is-between8 .ensures) ∙ c .before .before .before .before .if8 .left, sym (c .before .before .before .is-between9 .ensures) ∙ c .before .before .if9 .left, sym (c .before .is-between10 .ensures) ∙ c .if10 .taken)
+
+returns-11 : tie.Need-returns-11
+unfolding instructionOf
+returns-11 c = rw (sym (c .before .before .before .before .before .before .before .before .before .before .before .before .before .before .before .before .before .before .before .before .before .is-between .ensures) ∙ c .before .before .before .before .before .before .before .before .before .before .before .before .before .before .before .before .before .before .before .before .if1 .left, sym (c .before .before .before .before .before .before .before .before .before .before .before .before .before .before .before .before .before .before .before .is-between2 .ensures) ∙ c .before .before .before .before .before .before .before .before .before .before .before .before .before .before .before .before .before .before .if2 .left, sym (c .before .before .before .before .before .before .before .before .before .before .before .before .before .before .before .before .before .is-between3 .ensures) ∙ c .before .before .before .before .before .before .before .before .before .before .before .before .before .before .before .before .if3 .left, sym (c .before .before .before .before .before .before .before .before .before .before .before .before .before .before .before .is-between4 .ensures) ∙ c .before .before .before .before .before .before .before .before .before .before .before .before .before .before .if4 .left, sym (c .before .before .before .before .before .before .before .before .before .before .before .before .before .is-between5 .ensures) ∙ c .before .before .before .before .before .before .before .before .before .before .before .before .if5 .left, sym (c .before .before .before .before .before .before .before .before .before .before .before .is-between6 .ensures) ∙ c .before .before .before .before .before .before .before .before .before .before .if6 .left, sym (c .before .before .before .before .before .before .before .before .before .is-between7 .ensures) ∙ c .before .before .before .before .before .before .before .before .if7 .left, sym (c .before .before .before .before .before .before .before .is-between8 .ensures) ∙ c .before .before .before .before .before .before .if8 .left, sym (c .before .before .before .before .before .is-between9 .ensures) ∙ c .before .before .before .before .if9 .left, sym (c .before .before .before .is-between10 .ensures) ∙ c .before .before .if10 .left, sym (c .before .is-between11 .ensures) ∙ c .if11 .taken)
+
+returns-12 : tie.Need-returns-12
+unfolding instructionOf
+returns-12 c = rw (sym (c .before .before .before .before .before .before .before .before .before .before .before .before .before .before .before .before .before .before .before .before .before .before .before .is-between .ensures) ∙ c .before .before .before .before .before .before .before .before .before .before .before .before .before .before .before .before .before .before .before .before .before .before .if1 .left, sym (c .before .before .before .before .before .before .before .before .before .before .before .before .before .before .before .before .before .before .before .before .before .is-between2 .ensures) ∙ c .before .before .before .before .before .before .before .before .before .before .before .before .before .before .before .before .before .before .before .before .if2 .left, sym (c .before .before .before .before .before .before .before .before .before .before .before .before .before .before .before .before .before .before .before .is-between3 .ensures) ∙ c .before .before .before .before .before .before .before .before .before .before .before .before .before .before .before .before .before .before .if3 .left, sym (c .before .before .before .before .before .before .before .before .before .before .before .before .before .before .before .before .before .is-between4 .ensures) ∙ c .before .before .before .before .before .before .before .before .before .before .before .before .before .before .before .before .if4 .left, sym (c .before .before .before .before .before .before .before .before .before .before .before .before .before .before .before .is-between5 .ensures) ∙ c .before .before .before .before .before .before .before .before .before .before .before .before .before .before .if5 .left, sym (c .before .before .before .before .before .before .before .before .before .before .before .before .before .is-between6 .ensures) ∙ c .before .before .before .before .before .before .before .before .before .before .before .before .if6 .left, sym (c .before .before .before .before .before .before .before .before .before .before .before .is-between7 .ensures) ∙ c .before .before .before .before .before .before .before .before .before .before .if7 .left, sym (c .before .before .before .before .before .before .before .before .before .is-between8 .ensures) ∙ c .before .before .before .before .before .before .before .before .if8 .left, sym (c .before .before .before .before .before .before .before .is-between9 .ensures) ∙ c .before .before .before .before .before .before .if9 .left, sym (c .before .before .before .before .before .is-between10 .ensures) ∙ c .before .before .before .before .if10 .left, sym (c .before .before .before .is-between11 .ensures) ∙ c .before .before .if11 .left, sym (c .before .is-between12 .ensures) ∙ c .if12 .taken)
+
+returns-13 : tie.Need-returns-13
+unfolding instructionOf
+returns-13 c = rw (sym (c .before .before .before .before .before .before .before .before .before .before .before .before .before .before .before .before .before .before .before .before .before .before .before .is-between .ensures) ∙ c .before .before .before .before .before .before .before .before .before .before .before .before .before .before .before .before .before .before .before .before .before .before .if1 .left, sym (c .before .before .before .before .before .before .before .before .before .before .before .before .before .before .before .before .before .before .before .before .before .is-between2 .ensures) ∙ c .before .before .before .before .before .before .before .before .before .before .before .before .before .before .before .before .before .before .before .before .if2 .left, sym (c .before .before .before .before .before .before .before .before .before .before .before .before .before .before .before .before .before .before .before .is-between3 .ensures) ∙ c .before .before .before .before .before .before .before .before .before .before .before .before .before .before .before .before .before .before .if3 .left, sym (c .before .before .before .before .before .before .before .before .before .before .before .before .before .before .before .before .before .is-between4 .ensures) ∙ c .before .before .before .before .before .before .before .before .before .before .before .before .before .before .before .before .if4 .left, sym (c .before .before .before .before .before .before .before .before .before .before .before .before .before .before .before .is-between5 .ensures) ∙ c .before .before .before .before .before .before .before .before .before .before .before .before .before .before .if5 .left, sym (c .before .before .before .before .before .before .before .before .before .before .before .before .before .is-between6 .ensures) ∙ c .before .before .before .before .before .before .before .before .before .before .before .before .if6 .left, sym (c .before .before .before .before .before .before .before .before .before .before .before .is-between7 .ensures) ∙ c .before .before .before .before .before .before .before .before .before .before .if7 .left, sym (c .before .before .before .before .before .before .before .before .before .is-between8 .ensures) ∙ c .before .before .before .before .before .before .before .before .if8 .left, sym (c .before .before .before .before .before .before .before .is-between9 .ensures) ∙ c .before .before .before .before .before .before .if9 .left, sym (c .before .before .before .before .before .is-between10 .ensures) ∙ c .before .before .before .before .if10 .left, sym (c .before .before .before .is-between11 .ensures) ∙ c .before .before .if11 .left, sym (c .before .is-between12 .ensures) ∙ c .if12 .left)
 
 pub instruction-of-spec : {M : Type 1} → statement M
 instruction-of-spec =
@@ -77,6 +105,10 @@ instruction-of-spec =
     is-between-requires-6
     is-between-requires-7
     is-between-requires-8
+    is-between-requires-9
+    is-between-requires-10
+    is-between-requires-11
+    is-between-requires-12
     returns
     returns-2
     returns-3
@@ -85,4 +117,8 @@ instruction-of-spec =
     returns-6
     returns-7
     returns-8
-    returns-9)
+    returns-9
+    returns-10
+    returns-11
+    returns-12
+    returns-13)

@@ -32,6 +32,18 @@ enum-told-8 c = search needs
 enum-told-9 : tie.Need-enum-told-9
 enum-told-9 c = search needs
 
+enum-told-10 : tie.Need-enum-told-10
+enum-told-10 c = search needs
+
+enum-told-11 : tie.Need-enum-told-11
+enum-told-11 c = search needs
+
+enum-told-12 : tie.Need-enum-told-12
+enum-told-12 c = search needs
+
+enum-told-13 : tie.Need-enum-told-13
+enum-told-13 c = search needs
+
 returns : tie.Need-returns
 returns c = sym (ap lentTo (c .enum-told .given .1))
 
@@ -59,6 +71,18 @@ returns-8 c = sym (ap lentTo (c .enum-told8 .given .1))
 returns-9 : tie.Need-returns-9
 returns-9 c = sym (ap lentTo (c .enum-told9 .given .1))
 
+returns-10 : tie.Need-returns-10
+returns-10 c = sym (ap lentTo (c .enum-told10 .given .1))
+
+returns-11 : tie.Need-returns-11
+returns-11 c = sym (ap lentTo (c .enum-told11 .given .1))
+
+returns-12 : tie.Need-returns-12
+returns-12 c = sym (ap lentTo (c .enum-told12 .given .1))
+
+returns-13 : tie.Need-returns-13
+returns-13 c = sym (ap lentTo (c .enum-told13 .given .1))
+
 pub lent-to-spec : {M : Type 1} → statement M
 lent-to-spec =
     tie.close
@@ -72,6 +96,10 @@ lent-to-spec =
     enum-told-7
     enum-told-8
     enum-told-9
+    enum-told-10
+    enum-told-11
+    enum-told-12
+    enum-told-13
     returns
     returns-2
     returns-3
@@ -80,4 +108,8 @@ lent-to-spec =
     returns-6
     returns-7
     returns-8
-    returns-9)
+    returns-9
+    returns-10
+    returns-11
+    returns-12
+    returns-13)
