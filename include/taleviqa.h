@@ -86,12 +86,15 @@ enum taleviqa_number {
     TALEVIQA_CONTROL_VALUE = 8, /* a control value outside the list; detail: its number */
     TALEVIQA_ZONE_POINTER = 9,  /* a zone pointer that is neither 0 nor 1; detail: the operand */
     TALEVIQA_LOOP_COUNT = 10,   /* a negative loop count; detail: the operand */
+    TALEVIQA_RANGE = 11,        /* FLIPRGON, FLIPRGOFF: a range of points that ends outside the glyph, or starts two or more above its end; detail: its start */
+    TALEVIQA_CONTOUR = 12,      /* SHC, pedantic: a contour that the zone hasn't; detail: its number */
+    TALEVIQA_COMPATIBILITY = 13, /* SHPIX under backward compatibility */
     TALEVIQA_BAD_WORD = 16      /* the state is not TALEVIQA_STATE_WORDS words, each within its range, or the answer not TALEVIQA_ANSWER_WORDS */
 };
 
 /* Replays the lines of the sheet from word `start` on, at most `budget` of them.
  *
- * A line that is refused (4 to 10) leaves what the lines before it did, and for 6 and 7 what its own earlier steps did. After 16 only the
+ * A line that is refused (4 to 13) leaves what the lines before it did, and for 6 and 7 what its own earlier steps did. After 16 only the
  * answer is written: 16, start, 0, 0, where it has four places.
  *
  * sheet: opcode word, count word, operands, and so on. Coordinates are in 64ths of a pixel, unscaled ones in font units.

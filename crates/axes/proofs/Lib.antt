@@ -1,12 +1,15 @@
 pub mod Align
 pub mod Each
+pub mod Inert
 pub mod Iup
 pub mod Lines
 pub mod Looped
 pub mod Mdap
 pub mod Miap
 pub mod Msirp
+pub mod Rows
 pub mod Seen
+pub mod Shifts
 pub mod Still
 pub mod Straight
 pub mod Vectors

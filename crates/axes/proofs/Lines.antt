@@ -8,7 +8,7 @@ use lib.Dec.{eqb, leb}
 use borrow.Author.Tests.{eqb-false, eqb-true, leb-true}
 use Prim.Native.Nat.{ℕ}
 use lib.IntN.{ℤ}
-use Rattle.lines.specs.declared.Instruction.the-variants.{Alignrp, Flippt, Isect, Iup, Mdap, Miap, Msirp, Set, Shp}
+use Rattle.lines.specs.declared.Instruction.the-variants.{Alignrp, Flippt, Fliprg, Isect, Iup, Mdap, Miap, Msirp, Set, Shc, Shp, Shpix, Shz}
 use Rattle.places.specs.Placed.{AllPlaced, BothPlaced}
 use Rattle.axes.specs.declared.Axis.{Axis}
 use Rattle.world.specs.World.{Fixed, World, lined}
@@ -17,6 +17,7 @@ use Rattle.interpolate.specs.Interpolated.{Interpolated}
 use Rattle.line.specs.declared.Stepped.{Stepped}
 use Rattle.axes.specs.Axes.{Straight, fixedSeen, linedSeen, mixes, turnsAcross, worldSeen, xSeen, ySeen}
 use Rattle.looped.specs.Looped.{Went, Zones, flipptOf}
+use Rattle.ranges.specs.Ranges.{fliprgOf}
 use Rattle.lines.specs.Dispatch.{between, instructionOf, intoAll, intoAxes, intoFlags, intoPlaces, intoState, intoZones, lineBy, lineOf, zonesOf}
 use Rattle.sheet.specs.Setters.{setBy}
 use Rattle.axes.proofs.Align.{alignrp-seen}
@@ -25,6 +26,7 @@ use Rattle.axes.proofs.Mdap.{bothSeen, mdap-seen}
 use Rattle.axes.proofs.Iup.{interpolatedSeen, iup-seen}
 use Rattle.axes.proofs.Msirp.{msirp-seen}
 use Rattle.axes.proofs.Looped.{shp-seen, wentSeen}
+use Rattle.axes.proofs.Shifts.{shc-seen, shpix-seen, shz-seen}
 use Rattle.axes.proofs.Seen.{x-again, y-again}
 
 -- ---- which lines intersect
@@ -34,10 +36,14 @@ isIntersection Set = false
 isIntersection Mdap = false
 isIntersection Iup = false
 isIntersection Shp = false
+isIntersection Shc = false
+isIntersection Shz = false
+isIntersection Shpix = false
 isIntersection Msirp = false
 isIntersection Alignrp = false
 isIntersection Miap = false
 isIntersection Flippt = false
+isIntersection Fliprg = false
 
 pub or-left : (a b : Bool) → a || b ≡ false → a ≡ false
 or-left false b e = refl
@@ -95,7 +101,7 @@ into-axes a w p q e =
     (y-again a (w .ty))
     ∙ ap (λ (i : Interpolated). lined (i .stepped) (i .gx) (i .gy) (w .gflags) (xSeen a (w .tox)) (ySeen a (w .toy)) (xSeen a (w .tx)) (ySeen a (w .ty)) (w .tflags)) e
 
--- FLIPPT reads no coordinate
+-- a flip reads no coordinate
 into-flags : (a : Axis) (w : World) (g : Went (List ℕ)) → linedSeen a (intoFlags (worldSeen a w) g) ≡ linedSeen a (intoFlags w g)
 into-flags a w g =
     world-again a
@@ -112,12 +118,18 @@ by-seen a f op operands w straight Mdap e =
 by-seen a f op operands w straight Iup e =
     into-axes a w _ _ (iup-seen a (w .state) op (f .gux) (f .guy) (f .gox) (f .goy) (w .gx) (w .gy) (w .gflags) (f .contours))
 by-seen a f op operands w straight Shp e = into-zones a w _ _ (shp-seen a (w .state) straight op operands (f .gox) (f .goy) (w .tox) (w .toy) (zonesOf w))
+by-seen a f op operands w straight Shc e =
+    into-zones a w _ _ (shc-seen a (w .state) straight op (f .gox) (f .goy) (w .tox) (w .toy) (zonesOf w) operands (f .contours))
+by-seen a f op operands w straight Shz e =
+    into-zones a w _ _ (shz-seen a (w .state) straight op (f .gox) (f .goy) (w .tox) (w .toy) (zonesOf w) operands (f .contours))
+by-seen a f op operands w straight Shpix e = into-zones a w _ _ (shpix-seen a (w .state) operands (zonesOf w))
 by-seen a f op operands w straight Msirp e =
     into-all a _ _ (msirp-seen a (w .state) straight op operands (w .gx) (w .gy) (w .gflags) (w .tox) (w .toy) (w .tx) (w .ty) (w .tflags))
 by-seen a f op operands w straight Alignrp e = into-zones a w _ _ (alignrp-seen a (w .state) straight operands (zonesOf w))
 by-seen a f op operands w straight Miap e =
     into-all a _ _ (miap-seen a (w .state) straight op operands (f .controls) (w .gx) (w .gy) (w .gflags) (w .tox) (w .toy) (w .tx) (w .ty) (w .tflags))
 by-seen a f op operands w straight Flippt e = into-flags a w (flipptOf (w .state) operands (w .gflags))
+by-seen a f op operands w straight Fliprg e = into-flags a w (fliprgOf (w .state) op operands (w .gflags))
 
 -- the one opcode that intersects
 one-intersects : (op : ℕ) (t : Bool) → eqb op 0x0F ≡ t → between 0x0F 0x0F op ≡ t
@@ -137,12 +149,7 @@ pub no-intersection : (op : ℕ) → eqb op 0x0F ≡ false → isIntersection (i
 unfolding instructionOf
 no-intersection op e =
     rw (one-intersects op false e)
-    (row-by (between 0x2E 0x2F op) Mdap _ refl
-    (row-by (between 0x30 0x31 op) Iup _ refl
-    (row-by (between 0x32 0x33 op) Shp _ refl
-    (row-by (between 0x3A 0x3B op) Msirp _ refl
-    (row-by (between 0x3C 0x3C op) Alignrp _ refl
-    (row-by (between 0x3E 0x3F op) Miap _ refl (row-by (between 0x80 0x80 op) Flippt Set refl refl)))))))
+    (row-by (between 0x2E 0x2F op) Mdap _ refl (row-by (between 0x30 0x31 op) Iup _ refl (row-by (between 0x32 0x33 op) Shp _ refl (row-by (between 0x34 0x35 op) Shc _ refl (row-by (between 0x36 0x37 op) Shz _ refl (row-by (between 0x38 0x38 op) Shpix _ refl (row-by (between 0x3A 0x3B op) Msirp _ refl (row-by (between 0x3C 0x3C op) Alignrp _ refl (row-by (between 0x3E 0x3F op) Miap _ refl (row-by (between 0x80 0x80 op) Flippt _ refl (row-by (between 0x81 0x82 op) Fliprg Set refl refl)))))))))))
 
 pub line-seen : (a : Axis) (f : Fixed) (op : ℕ) (operands : List ℤ) (w : World) → Straight a (w .state) → mixes a op ≡ false
     → linedSeen a (lineOf (fixedSeen a f) op operands (worldSeen a w)) ≡ linedSeen a (lineOf f op operands w)

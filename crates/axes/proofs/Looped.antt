@@ -72,7 +72,7 @@ displaced-seen a v e p gox goy gcx gcy tox toy tcx tcy Glyph = at-seen a v e p g
 displaced-seen a v e p gox goy gcx gcy tox toy tcx tcy Twilight = at-seen a v e p tox toy tcx tcy
 
 -- ---- the points
-shift-by : (a : Axis) (m : Move) (idle : Bool) (at : ℕ) (p : Points)
+pub shift-by : (a : Axis) (m : Move) (idle : Bool) (at : ℕ) (p : Points)
     → endedSeen (pointsSeen a) (cond idle pass (shiftAt m) at (pointsSeen a p)) ≡ endedSeen (pointsSeen a) (cond idle pass (shiftAt m) at p)
 shift-by a m true at p = ap (ended Done) (points-again a p)
 shift-by a m false at p = ap pointsLeft (apply-seen a m at (p .xs) (p .ys) (p .flags))
@@ -81,7 +81,7 @@ shift-each-seen : (a : Axis) (m : Move) (count : ℕ) (operands : List ℤ) (p :
     → endedSeen (pointsSeen a) (each (shiftUnlessIdle m) count operands (pointsSeen a p)) ≡ endedSeen (pointsSeen a) (each (shiftUnlessIdle m) count operands p)
 shift-each-seen a m count operands p = each-seen (pointsSeen a) (points-again a) (shiftUnlessIdle m) (shift-by a m (isIdle m)) count operands p
 
-each-in-seen : (a : Axis) (m : Move) (count : ℕ) (operands : List ℤ) (z : Zones) (zone : ZonePointer)
+pub each-in-seen : (a : Axis) (m : Move) (count : ℕ) (operands : List ℤ) (z : Zones) (zone : ZonePointer)
     → endedSeen (zonesSeen a) (shiftEachIn m count operands (zonesSeen a z) zone) ≡ endedSeen (zonesSeen a) (shiftEachIn m count operands z zone)
 unfolding shiftEachIn
 each-in-seen a m count operands z Glyph = ap₂ glyphLeft (points-again a (z .twilight)) (shift-each-seen a m count operands (z .glyph))

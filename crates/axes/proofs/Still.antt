@@ -4,14 +4,14 @@ use mathlib.Core.Bool.{Bool, cond, false, true}
 use mathlib.Core.List.{List}
 use mathlib.Core.Path.{_∙_, _≡_, ap, refl, subst, sym}
 use native.Mathlib.Omega.{arith}
-use lib.Bits.{bitOr, bitXor}
+use lib.Bits.{bitXor}
 use lib.Dec.{eqb, leb, ltb}
 use borrow.Author.Tests.{eqb-false, leb-true}
 use lib.ListN.{getD, length}
 use lib.Seq.{map-set-same}
 use lib.IntN.{pos, ℤ}
 use Prim.Native.Nat.{ℕ}
-use Rattle.lines.specs.declared.Instruction.the-variants.{Alignrp, Flippt, Isect, Iup, Mdap, Miap, Msirp, Set, Shp}
+use Rattle.lines.specs.declared.Instruction.the-variants.{Alignrp, Flippt, Fliprg, Isect, Iup, Mdap, Miap, Msirp, Set, Shc, Shp, Shpix, Shz}
 use Rattle.places.specs.Placed.{AllPlaced, BothPlaced, Placed}
 use Rattle.zone.specs.declared.Fetched.the-variants.{At, Refused as RefusedPlace}
 use Rattle.axes.specs.declared.Axis.{Axis}
@@ -19,7 +19,6 @@ use Rattle.moves.specs.declared.Displaced.the-variants.{By, Refused as RefusedD
 use Rattle.answer.specs.declared.Call.{Call}
 use Rattle.moves.specs.declared.Displaced.{Displaced}
 use Rattle.answer.specs.declared.Call.the-variants.{Done, Refused as RefusedCall}
-use Rattle.graphics.specs.declared.Facts.{Facts}
 use Rattle.zone.specs.declared.Fetched.{Fetched}
 use Rattle.world.specs.World.{Fixed, World}
 use Rattle.graphics.specs.declared.ZonePointer.the-variants.{Glyph, Twilight}
@@ -28,90 +27,35 @@ use Rattle.lines.specs.declared.Instruction.{Instruction}
 use Rattle.interpolate.specs.Interpolated.{Interpolated, iupBy, markedFor, walkedBy}
 use Rattle.moves.specs.declared.Move.{Move}
 use Rattle.answer.specs.declared.Refusal.the-variants.{Point}
-use Rattle.looped.specs.Looped.{Points, Zones, flipAt, flipUnless, flipptOf, shiftAt, shiftBy, shiftEachIn, shiftUnlessIdle, shpOf}
-use Rattle.axes.specs.Axes.{Still, Straight, across, interpolatesAcross, markAcross, marksAcross, mixes, turnsAcross, unitOf}
-use Rattle.graphics.specs.declared.Vectors.{Vectors}
+use Rattle.looped.specs.Looped.{Zones, flipAt, flipUnless, flipptOf, shiftBy, shpOf}
+use Rattle.axes.specs.Axes.{Still, Straight, across, interpolatesAcross, markAcross, marksAcross, mixes, turnsAcross}
 use Rattle.axes.specs.declared.Axis.the-variants.{X, Y}
 use Rattle.graphics.specs.declared.ZonePointer.{ZonePointer}
 use Rattle.align.specs.Align.{alignAt, alignBy, alignFrom, aligningOf, alignrpOf, zonesLeft}
-use Rattle.graphics.specs.State.{allAlong, pastBothIups}
+use Rattle.graphics.specs.State.{pastBothIups}
 use Rattle.graphics.proofs.Laws.{and-left, and-right}
-use Rattle.moves.specs.Apply.{applyIn, applyOf, moved}
-use Rattle.projection.specs.Projection.{axisOf, freedomAxisBy, projectOf, rawFdotp}
+use Rattle.moves.specs.Apply.{applyIn}
+use Rattle.projection.specs.Projection.{projectOf}
 use Rattle.lines.specs.Dispatch.{between, instructionOf, lineBy, lineOf, zonesOf}
 use Rattle.point.specs.Flag.{bit}
-use Rattle.zone.specs.Zone.{changeAt, fetchOf, flipOf, marked, markedAt, orAt, placeOf}
+use Rattle.zone.specs.Zone.{changeAt, fetchOf, flipOf, marked, markedAt, placeOf}
 use Rattle.moves.specs.Displacement.{displacedIn, referenceOf}
 use Rattle.looped.proofs.Keeps.{each-keeps}
 use Rattle.places.specs.Places.{fetchIn, placeIn}
 use Rattle.outline.specs.Numbers.{fromOrigin, mdapDistance}
 use Rattle.places.specs.Lines.{indexAt, isOdd}
-use Rattle.moves.specs.Move.{isIdle, moveOf, movedAt, stepBy, zp2MoveOf}
+use Rattle.moves.specs.Move.{moveOf, zp2MoveOf}
 use Rattle.iup.specs.Parts.{marks}
 use Rattle.outline.specs.Absolute.{mdapAt, mdapFrom, mdapIn, mdapOf, placeBy}
 use Rattle.miap.specs.Miap.{miapAt, miapFrom, miapIn, miapOf}
 use Rattle.miap.specs.Numbers.{miapDistance}
 use Rattle.relative.specs.Msirp.{msirpAt, msirpDistance, msirpFrom, msirpGlyph, msirpIn, msirpOf, reachOf}
 use Rattle.int.specs.Word.{neg32}
-use Rattle.point.proofs.Bits.{or-keeps, xor-keeps}
+use Rattle.point.proofs.Bits.{xor-keeps}
 use Rattle.looped.specs.Each.{pass}
+use Rattle.axes.proofs.Inert.{PointsStill, apply-still, inert-move, inert-zp2, on-curve-apart, shift-in-still, stays, then}
+use Rattle.axes.proofs.Rows.{fliprg-still, shc-still, shpix-still, shz-still}
 use Rattle.axes.proofs.Lines.{isIntersection, no-intersection, or-left}
-
-pub stays : (a : Axis) (xs ys : List ℤ) (flags : List ℕ) → Still a xs ys flags xs ys flags
-stays a xs ys flags = record { coordinates = refl; marks = refl }
-
--- one thing after the other
-pub then : {a : Axis} {xs ys xs' ys' xs'' ys'' : List ℤ} {flags flags' flags'' : List ℕ} → Still a xs' ys' flags' xs'' ys'' flags'' → Still a xs ys flags xs' ys' flags'
-    → Still a xs ys flags xs'' ys'' flags''
-then p q = record { coordinates = p .coordinates ∙ q .coordinates; marks = p .marks ∙ q .marks }
-
--- ---- a move along the axis
-abbrev movesAcross : Axis → Move → Bool
-movesAcross X m = m .«moves_y»
-movesAcross Y m = m .«moves_x»
-
-record Inert (a : Axis) (m : Move) : Type 0 where
-  moves : movesAcross a m ≡ false
-  touches : bit (markAcross a) (m .touch) ≡ 0
-
-inert-on : (a : Axis) (facts : Facts) (d : ℤ) → Inert a (moveOf (allAlong (unitOf a)) facts d)
-unfolding moveOf stepBy freedomAxisBy rawFdotp axisOf
-inert-on X facts d = record { moves = refl; touches = refl }
-inert-on Y facts d = record { moves = refl; touches = refl }
-
-inert-move : (a : Axis) (v : Vectors) → v ≡ allAlong (unitOf a) → (facts : Facts) (d : ℤ) → Inert a (moveOf v facts d)
-inert-move a v e facts d = subst (λ (u : Vectors). Inert a (moveOf u facts d)) (sym e) (inert-on a facts d)
-
-inert-zp2-on : (a : Axis) (facts : Facts) (dx dy : ℤ) → Inert a (zp2MoveOf (allAlong (unitOf a)) facts dx dy true)
-unfolding zp2MoveOf
-inert-zp2-on X facts dx dy = record { moves = refl; touches = refl }
-inert-zp2-on Y facts dx dy = record { moves = refl; touches = refl }
-
-inert-zp2 : (a : Axis) (v : Vectors) → v ≡ allAlong (unitOf a) → (facts : Facts) (dx dy : ℤ) → Inert a (zp2MoveOf v facts dx dy true)
-inert-zp2 a v e facts dx dy = subst (λ (u : Vectors). Inert a (zp2MoveOf u facts dx dy true)) (sym e) (inert-zp2-on a facts dx dy)
-
-unmoved : (zs : List ℤ) (at : ℕ) (by : ℤ) (moves : Bool) → moves ≡ false → movedAt zs at by moves ≡ zs
-unmoved zs at by moves e = rw e
-
-across-unmoved : (a : Axis) (m : Move) → Inert a m → (at : ℕ) (xs ys : List ℤ)
-    → across a (movedAt xs at (m .dx) (m .«moves_x»)) (movedAt ys at (m .dy) (m .«moves_y»)) ≡ across a xs ys
-across-unmoved X m i at xs ys = unmoved ys at (m .dy) (m .«moves_y») (i .moves)
-across-unmoved Y m i at xs ys = unmoved xs at (m .dx) (m .«moves_x») (i .moves)
-
-marks-or : (a : Axis) (flags : List ℕ) (at touch : ℕ) → bit (markAcross a) touch ≡ 0 → marksAcross a (orAt flags at touch) ≡ marksAcross a flags
-marks-or a flags at touch e =
-    map-set-same (bit (markAcross a)) flags at (bitOr (getD flags at 0) touch) 0 (or-keeps (markAcross a) (getD flags at 0) touch e)
-
-apply-by : (a : Axis) (m : Move) → Inert a m → (at : ℕ) (xs ys : List ℤ) (flags : List ℕ) (t : Bool)
-    → let r = cond t (moved Done (movedAt xs at (m .dx) (m .«moves_x»)) (movedAt ys at (m .dy) (m .«moves_y»)) (orAt flags at (m .touch))) (moved (RefusedCall (Point at)) xs ys flags) in
-    Still a xs ys flags (r .xs) (r .ys) (r .flags)
-apply-by a m i at xs ys flags true = record { coordinates = across-unmoved a m i at xs ys; marks = marks-or a flags at (m .touch) (i .touches) }
-apply-by a m i at xs ys flags false = stays a xs ys flags
-
-apply-still : (a : Axis) (m : Move) → Inert a m → (at : ℕ) (xs ys : List ℤ) (flags : List ℕ)
-    → Still a xs ys flags (applyOf m at xs ys flags .xs) (applyOf m at xs ys flags .ys) (applyOf m at xs ys flags .flags)
-unfolding applyOf
-apply-still a m i at xs ys flags = apply-by a m i at xs ys flags (ltb at (length xs))
 
 -- ---- the lines that place a point
 abbrev PlacedStill : Axis → List ℤ → List ℤ → List ℕ → Placed → Type 0
@@ -197,25 +141,10 @@ msirp-still a s e op operands gx gy gflags ox oy tx ty tflags =
     (reachOf s (indexAt operands 1) (length gx) (length tx) (s .pointers .zp1)))
 
 -- ---- the looped lines
-abbrev PointsStill : Axis → Points → Points → Type 0
-PointsStill a p q = Still a (p .xs) (p .ys) (p .flags) (q .xs) (q .ys) (q .flags)
-
-shift-by-still : (a : Axis) (m : Move) → Inert a m → (p : Points) (idle : Bool) (at : ℕ) (q : Points) → PointsStill a p q → PointsStill a p (cond idle pass (shiftAt m) at q .left)
-shift-by-still a m i p true at q k = k
-shift-by-still a m i p false at q k = then (apply-still a m i at (q .xs) (q .ys) (q .flags)) k
-
-shift-in-still : (a : Axis) (m : Move) → Inert a m → (count : ℕ) (operands : List ℤ) (z : Zones) (zone : ZonePointer)
-    → PointsStill a (z .glyph) (shiftEachIn m count operands z zone .left .glyph)
-unfolding shiftEachIn
-shift-in-still a m i count operands z Glyph =
-    each-keeps (λ (q : Points). PointsStill a (z .glyph) q) (shiftUnlessIdle m) (λ at q k. shift-by-still a m i (z .glyph) (isIdle m) at q k) count operands (z .glyph)
-    (stays a (z .glyph .xs) (z .glyph .ys) (z .glyph .flags))
-shift-in-still a m i count operands z Twilight = stays a (z .glyph .xs) (z .glyph .ys) (z .glyph .flags)
-
 shift-still : (a : Axis) (s : GraphicsState) → Straight a s → (operands : List ℤ) (z : Zones) (d : Displaced) → PointsStill a (z .glyph) (shiftBy s operands z d .left .glyph)
 unfolding shiftBy
 shift-still a s e operands z (By d) =
-    shift-in-still a (zp2MoveOf (s .vectors) (s .facts) (d .dx) (d .dy) true) (inert-zp2 a (s .vectors) e (s .facts) (d .dx) (d .dy)) (s .«loop_counter») operands z (s .pointers .zp2)
+    shift-in-still a (zp2MoveOf (s .vectors) (s .facts) (d .dx) (d .dy) true) (inert-zp2 a (s .vectors) e (s .facts) (d .dx) (d .dy) true) (s .«loop_counter») operands z (s .pointers .zp2)
 shift-still a s e operands z (RefusedDisplacement why) = stays a (z .glyph .xs) (z .glyph .ys) (z .glyph .flags)
 
 shp-still : (a : Axis) (s : GraphicsState) → Straight a s → (op : ℕ) (operands gox goy tox toy : List ℤ) (z : Zones)
@@ -255,10 +184,6 @@ alignrp-still a s e operands z =
     (stays a (z .glyph .xs) (z .glyph .ys) (z .glyph .flags))
 
 -- ---- FLIPPT: bit 0 alone
-on-curve-apart : (a : Axis) → bit (markAcross a) 1 ≡ 0
-on-curve-apart X = refl
-on-curve-apart Y = refl
-
 flip-by : (a : Axis) (flags : List ℕ) (at : ℕ) (t : Bool) → marksAcross a (cond t (marked Done (changeAt (λ (flag : ℕ). bitXor flag 1) flags at)) (marked (RefusedCall (Point at)) flags) .flags) ≡ marksAcross a flags
 flip-by a flags at true =
     map-set-same (bit (markAcross a)) flags at (bitXor (getD flags at 0) 1) 0 (xor-keeps (markAcross a) (getD flags at 0) 1 (on-curve-apart a))
@@ -320,10 +245,14 @@ isIup Set = false
 isIup Isect = false
 isIup Mdap = false
 isIup Shp = false
+isIup Shc = false
+isIup Shz = false
+isIup Shpix = false
 isIup Msirp = false
 isIup Alignrp = false
 isIup Miap = false
 isIup Flippt = false
+isIup Fliprg = false
 
 other-line : (i : Instruction) → isIup i ≡ false → i ≡ Iup → ⊥
 other-line i n e = clash (sym (ap isIup e) ∙ n)
@@ -336,12 +265,9 @@ taken : (t : Bool) (j : Instruction) → (j ≡ Iup → ⊥) → cond t Iup j �
 taken true j h e = refl
 taken false j h e = absurd (h e)
 
-after-iup : (op : ℕ) → cond (between 0x32 0x33 op) Shp (cond (between 0x3A 0x3B op) Msirp (cond (between 0x3C 0x3C op) Alignrp (cond (between 0x3E 0x3F op) Miap (cond (between 0x80 0x80 op) Flippt Set)))) ≡ Iup → ⊥
+after-iup : (op : ℕ) → cond (between 0x32 0x33 op) Shp (cond (between 0x34 0x35 op) Shc (cond (between 0x36 0x37 op) Shz (cond (between 0x38 0x38 op) Shpix (cond (between 0x3A 0x3B op) Msirp (cond (between 0x3C 0x3C op) Alignrp (cond (between 0x3E 0x3F op) Miap (cond (between 0x80 0x80 op) Flippt (cond (between 0x81 0x82 op) Fliprg Set)))))))) ≡ Iup → ⊥
 after-iup op e =
-    let none : Set ≡ Iup =
-    skip (between 0x80 0x80 op) Flippt _ (other-line Flippt refl)
-    (skip (between 0x3E 0x3F op) Miap _ (other-line Miap refl)
-    (skip (between 0x3C 0x3C op) Alignrp _ (other-line Alignrp refl) (skip (between 0x3A 0x3B op) Msirp _ (other-line Msirp refl) (skip (between 0x32 0x33 op) Shp _ (other-line Shp refl) e)))) in
+    let none : Set ≡ Iup = skip (between 0x81 0x82 op) Fliprg _ (other-line Fliprg refl) (skip (between 0x80 0x80 op) Flippt _ (other-line Flippt refl) (skip (between 0x3E 0x3F op) Miap _ (other-line Miap refl) (skip (between 0x3C 0x3C op) Alignrp _ (other-line Alignrp refl) (skip (between 0x3A 0x3B op) Msirp _ (other-line Msirp refl) (skip (between 0x38 0x38 op) Shpix _ (other-line Shpix refl) (skip (between 0x36 0x37 op) Shz _ (other-line Shz refl) (skip (between 0x34 0x35 op) Shc _ (other-line Shc refl) (skip (between 0x32 0x33 op) Shp _ (other-line Shp refl) e)))))))) in
     other-line Set refl none
 
 iup-codes : (op : ℕ) → instructionOf op ≡ Iup → between 0x30 0x31 op ≡ true
@@ -378,11 +304,15 @@ by-still a f op operands w e Mdap q n = mdap-still a (w .state) e op operands (w
 by-still a f op operands w e Iup q n =
     record { coordinates = iup-still a (w .state) op (f .gux) (f .guy) (f .gox) (f .goy) (w .gx) (w .gy) (w .gflags) (f .contours) (n refl); marks = refl }
 by-still a f op operands w e Shp q n = shp-still a (w .state) e op operands (f .gox) (f .goy) (w .tox) (w .toy) (zonesOf w)
+by-still a f op operands w e Shc q n = shc-still a (w .state) e op operands (f .contours) (f .gox) (f .goy) (w .tox) (w .toy) (zonesOf w)
+by-still a f op operands w e Shz q n = shz-still a (w .state) e op operands (f .contours) (f .gox) (f .goy) (w .tox) (w .toy) (zonesOf w)
+by-still a f op operands w e Shpix q n = shpix-still a (w .state) e operands (zonesOf w)
 by-still a f op operands w e Msirp q n = msirp-still a (w .state) e op operands (w .gx) (w .gy) (w .gflags) (w .tox) (w .toy) (w .tx) (w .ty) (w .tflags)
 by-still a f op operands w e Alignrp q n = alignrp-still a (w .state) e operands (zonesOf w)
 by-still a f op operands w e Miap q n =
     miap-still a (w .state) e op operands (f .controls) (w .gx) (w .gy) (w .gflags) (w .tox) (w .toy) (w .tx) (w .ty) (w .tflags)
 by-still a f op operands w e Flippt q n = record { coordinates = refl; marks = flippt-still a (w .state) operands (w .gflags) }
+by-still a f op operands w e Fliprg q n = record { coordinates = refl; marks = fliprg-still a (w .state) op operands (w .gflags) }
 
 pub line-still : (a : Axis) (f : Fixed) (op : ℕ) (operands : List ℤ) (w : World) → Straight a (w .state) → mixes a op ≡ false → interpolatesAcross a op ≡ false
     → WorldStill a w (lineOf f op operands w .world)

@@ -8,7 +8,7 @@ use native.Mathlib.Omega.{arith}
 use lib.Dec.{eqb, ltb}
 use borrow.Author.Tests.{ltb-true}
 use lib.IntN.{ℤ}
-use Rattle.lines.specs.declared.Instruction.the-variants.{Alignrp, Flippt, Isect, Iup, Mdap, Miap, Msirp, Set, Shp}
+use Rattle.lines.specs.declared.Instruction.the-variants.{Alignrp, Flippt, Fliprg, Isect, Iup, Mdap, Miap, Msirp, Set, Shc, Shp, Shpix, Shz}
 use Rattle.axes.specs.declared.Axis.{Axis}
 use Rattle.world.specs.World.{Fixed, World}
 use Rattle.graphics.specs.declared.GraphicsState.{GraphicsState}
@@ -19,7 +19,7 @@ use Rattle.axes.specs.declared.Axis.the-variants.{X, Y}
 use Rattle.sheet.specs.Setters.{axisBy, setBy, vectorsBy}
 use Rattle.lines.specs.Dispatch.{instructionOf, lineBy, lineOf, zonesOf}
 use Rattle.graphics.specs.State.{measuredAlong, movedAlong, xAxis, yAxis}
-use Rattle.axes.proofs.Vectors.{alignrp-held, flippt-held, iup-held, mdap-held, miap-held, msirp-held, others-held, shp-held}
+use Rattle.axes.proofs.Vectors.{alignrp-held, flippt-held, fliprg-held, iup-held, mdap-held, miap-held, msirp-held, others-held, shc-held, shp-held, shpix-held, shz-held}
 use Rattle.axes.proofs.Lines.{isIntersection, no-intersection, or-left, or-right}
 
 vectors-straight : (a : Axis) (s : GraphicsState) → Straight a s → (op : ℕ) → turnsAcross a op ≡ false → op < 6 → Straight a (vectorsBy s op)
@@ -53,11 +53,15 @@ by-straight a f op operands w e n Isect q = cc q
 by-straight a f op operands w e n Mdap q = mdap-held (w .state) op operands (w .gx) (w .gy) (w .gflags) (w .tx) (w .ty) (w .tflags) ∙ e
 by-straight a f op operands w e n Iup q = iup-held (w .state) op (f .gux) (f .guy) (f .gox) (f .goy) (w .gx) (w .gy) (w .gflags) (f .contours) ∙ e
 by-straight a f op operands w e n Shp q = shp-held (w .state) op operands (f .gox) (f .goy) (w .tox) (w .toy) (zonesOf w) ∙ e
+by-straight a f op operands w e n Shc q = shc-held (w .state) op operands (f .contours) (f .gox) (f .goy) (w .tox) (w .toy) (zonesOf w) ∙ e
+by-straight a f op operands w e n Shz q = shz-held (w .state) op operands (f .contours) (f .gox) (f .goy) (w .tox) (w .toy) (zonesOf w) ∙ e
+by-straight a f op operands w e n Shpix q = shpix-held (w .state) operands (zonesOf w) ∙ e
 by-straight a f op operands w e n Msirp q = msirp-held (w .state) op operands (w .gx) (w .gy) (w .gflags) (w .tox) (w .toy) (w .tx) (w .ty) (w .tflags) ∙ e
 by-straight a f op operands w e n Alignrp q = alignrp-held (w .state) operands (zonesOf w) ∙ e
 by-straight a f op operands w e n Miap q =
     miap-held (w .state) op operands (f .controls) (w .gx) (w .gy) (w .gflags) (w .tox) (w .toy) (w .tx) (w .ty) (w .tflags) ∙ e
 by-straight a f op operands w e n Flippt q = flippt-held (w .state) operands (w .gflags) ∙ e
+by-straight a f op operands w e n Fliprg q = fliprg-held (w .state) op operands (w .gflags) ∙ e
 
 pub line-straight : (a : Axis) (f : Fixed) (op : ℕ) (operands : List ℤ) (w : World) → Straight a (w .state) → mixes a op ≡ false
     → Straight a (lineOf f op operands w .world .state)

@@ -20,7 +20,12 @@ use Rattle.interpolate.specs.Interpolated.{Interpolated, iupBy, iupOn, markedFo
 use Rattle.line.specs.declared.Stepped.{Stepped}
 use Rattle.graphics.specs.declared.Vector.{Vector}
 use Rattle.graphics.specs.declared.ZonePointer.{ZonePointer}
-use Rattle.looped.specs.Looped.{Zones, flipptOf, shiftBy, shpOf}
+use Rattle.looped.specs.Looped.{Went, Zones, flipptOf, shiftBy, shpOf}
+use Rattle.ranges.specs.Ranges.{fliprgOf}
+use Rattle.pixels.specs.Pixels.{shiftByAmount, shpixOf}
+use Rattle.spans.specs.Span.{spanBy, spanOf}
+use Rattle.shifts.specs.Shifts.{shcAt, shcOf, shzOf}
+use Rattle.places.specs.Places.{sizeOf}
 use Rattle.align.specs.Align.{alignrpOf}
 use Rattle.moves.specs.Apply.{applyOf}
 use Rattle.int.specs.Word.{eqZ}
@@ -85,6 +90,42 @@ shift-held s operands z (RefusedDisplacement why) = refl
 pub shp-held : (s : GraphicsState) (op : ℕ) (operands gox goy tox toy : List ℤ) (z : Zones) → Held s (shpOf s op operands gox goy tox toy z .stepped .state)
 unfolding shpOf
 shp-held s op operands gox goy tox toy z = shift-held s operands z _
+
+-- ---- the range flips, SHPIX, SHC and SHZ
+went-by-test : {S : Type 0} (s : GraphicsState) (t : Bool) (x y : Went S) → Held s (x .stepped .state) → Held s (y .stepped .state) → Held s (cond t x y .stepped .state)
+went-by-test s true x y p q = p
+went-by-test s false x y p q = q
+
+pub fliprg-held : (s : GraphicsState) (op : ℕ) (operands : List ℤ) (flags : List ℕ) → Held s (fliprgOf s op operands flags .stepped .state)
+unfolding fliprgOf
+fliprg-held s op operands flags = went-by-test s (ltb (length operands) 2) _ _ refl (went-by-test s (pastBothIups (s .facts)) _ _ refl refl)
+
+amount-held : (s : GraphicsState) (z : Zones) (operands : List ℤ) → Held s (shiftByAmount s z operands .stepped .state)
+unfolding shiftByAmount
+amount-held s z [] = refl
+amount-held s z (amount ∷ points) = refl
+
+pub shpix-held : (s : GraphicsState) (operands : List ℤ) (z : Zones) → Held s (shpixOf s operands z .stepped .state)
+unfolding shpixOf
+shpix-held s operands z = went-by-test s (s .facts .«backward_compatibility») _ _ refl (amount-held s z operands)
+
+span-held : (s : GraphicsState) (touches : Bool) (start end : ℕ) (z : Zones) (d : Displaced) → Held s (spanBy s touches start end z d .stepped .state)
+unfolding spanBy
+span-held s touches start end z (By d) = refl
+span-held s touches start end z (RefusedDisplacement why) = refl
+
+pub shc-held : (s : GraphicsState) (op : ℕ) (operands : List ℤ) (contours : List ℕ) (gox goy tox toy : List ℤ) (z : Zones)
+    → Held s (shcOf s op operands contours gox goy tox toy z .stepped .state)
+unfolding shcOf shcAt spanOf
+shc-held s op operands contours gox goy tox toy z =
+    went-by-test s (ltb (length operands) 1) _ _ refl
+    (went-by-test s (ltb (indexAt operands 0) (sizeOf (length contours) 1 (s .pointers .zp2))) _ _ (span-held s true _ _ z _) (by-test s (s .facts .pedantic) _ _ refl refl))
+
+pub shz-held : (s : GraphicsState) (op : ℕ) (operands : List ℤ) (contours : List ℕ) (gox goy tox toy : List ℤ) (z : Zones)
+    → Held s (shzOf s op operands contours gox goy tox toy z .stepped .state)
+unfolding shzOf spanOf
+shz-held s op operands contours gox goy tox toy z =
+    went-by-test s (ltb (length operands) 1) _ _ refl (went-by-test s (ltb 1 (indexAt operands 0)) _ _ refl (span-held s false _ _ z _))
 
 -- ---- MDAP and MIAP
 settled-held : (s : GraphicsState) (at : ℕ) (call : Call) → Held s (settled s at call .state)

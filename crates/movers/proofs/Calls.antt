@@ -4,14 +4,16 @@ use mathlib.Core.Path.{_∙_, _≡_, ap, sym}
 use Prim.Native.Nat.{ℕ}
 use lib.IntN.{ℤ}
 use Rattle.lines.specs.declared.InGlyph.{InGlyph}
-use Rattle.lines.specs.declared.InGlyph.the-variants.{Flippt, Iup}
+use Rattle.lines.specs.declared.InGlyph.the-variants.{Flippt, Fliprg, Iup}
 use Rattle.lines.specs.declared.InPoints.{InPoints}
-use Rattle.lines.specs.declared.InPoints.the-variants.{Alignrp, Isect, Mdap}
+use Rattle.lines.specs.declared.InPoints.the-variants.{Alignrp, Isect, Mdap, Shpix}
 use Rattle.graphics.specs.declared.GraphicsState.{GraphicsState}
 use Rattle.line.specs.declared.Stepped.{Stepped}
 use Rattle.align.specs.Align.{alignrpOf}
 use Rattle.places.specs.Placed.{BothPlaced, bothPlaced, placed}
 use Rattle.looped.specs.Looped.{flipptOf, went, zones}
+use Rattle.ranges.specs.Ranges.{fliprgOf}
+use Rattle.pixels.specs.Pixels.{shpixOf}
 use Rattle.lines.specs.Lent.{glyphBy, intoBoth, intoGlyph, intoGlyphFlags, pointsBy}
 use Rattle.interpolate.specs.Interpolated.{interpolated, iupBy}
 use Rattle.intersect.specs.Intersection.{isectOf}
@@ -28,6 +30,11 @@ module _ (s : GraphicsState) (op : ℕ) (operands gux guy gox goy gx gy : List �
   unfolding glyphBy
   flippt-here told e = ap (intoGlyphFlags gx gy) e ∙ sym (ap (glyphBy s op operands gux guy gox goy gx gy gflags contours) told)
 
+  pub fliprg-here : {r : Stepped} {flags : List ℕ} → line ≡ Fliprg → went r flags ≡ fliprgOf s op operands gflags
+      → placed r gx gy flags ≡ glyphBy s op operands gux guy gox goy gx gy gflags contours line
+  unfolding glyphBy
+  fliprg-here told e = ap (intoGlyphFlags gx gy) e ∙ sym (ap (glyphBy s op operands gux guy gox goy gx gy gflags contours) told)
+
 module _ (s : GraphicsState) (op : ℕ) (operands gx gy : List ℤ) (gflags : List ℕ) (tx ty : List ℤ) (tflags : List ℕ) {line : InPoints} where
   pub isect-here : {p : BothPlaced} → line ≡ Isect → p ≡ isectOf s operands gx gy gflags tx ty tflags
       → p ≡ pointsBy s op operands gx gy gflags tx ty tflags line
@@ -38,6 +45,12 @@ module _ (s : GraphicsState) (op : ℕ) (operands gx gy : List ℤ) (gflags : Li
       → p ≡ pointsBy s op operands gx gy gflags tx ty tflags line
   unfolding pointsBy
   mdap-here told e = e ∙ sym (ap (pointsBy s op operands gx gy gflags tx ty tflags) told)
+
+  pub shpix-here : {r : Stepped} {x y : List ℤ} {f : List ℕ} {x' y' : List ℤ} {f' : List ℕ} → line ≡ Shpix
+      → went r (zones x y f x' y' f') ≡ shpixOf s operands (zones gx gy gflags tx ty tflags)
+      → bothPlaced r x y f x' y' f' ≡ pointsBy s op operands gx gy gflags tx ty tflags line
+  unfolding pointsBy
+  shpix-here told e = ap intoBoth e ∙ sym (ap (pointsBy s op operands gx gy gflags tx ty tflags) told)
 
   pub alignrp-here : {r : Stepped} {x y : List ℤ} {f : List ℕ} {x' y' : List ℤ} {f' : List ℕ} → line ≡ Alignrp
       → went r (zones x y f x' y' f') ≡ alignrpOf s operands (zones gx gy gflags tx ty tflags)

@@ -11,6 +11,8 @@ use lines::InGlyph;
 use lines::InPoints;
 use looped::flippt;
 use outline::mdap;
+use pixels::shpix;
+use ranges::fliprg;
 ghost use lib.ListN.{length};
 ghost use mathlib.Core.Path.{_≡_};
 ghost use Rattle.places.specs.Placed.{placed, bothPlaced};
@@ -36,6 +38,7 @@ pub fn on_glyph(
     match line {
         InGlyph::Iup => dispatch_iup(s, opcode, gux, guy, gox, goy, gx, gy, gflags, contours),
         InGlyph::Flippt => flippt(s, operands, gflags),
+        InGlyph::Fliprg => fliprg(s, opcode, operands, gflags),
     }
 }
 
@@ -57,6 +60,7 @@ pub fn on_points(
     match line {
         InPoints::Isect => isect(s, operands, gx, gy, gflags, tx, ty, tflags),
         InPoints::Mdap => mdap(s, opcode, operands, gx, gy, gflags, tx, ty, tflags),
+        InPoints::Shpix => shpix(s, operands, gx, gy, gflags, tx, ty, tflags),
         InPoints::Alignrp => alignrp(s, operands, gx, gy, gflags, tx, ty, tflags),
     }
 }

@@ -3,6 +3,7 @@
 // `perform` is one equation with `lineOf` of the crate lines: what the line says, the state, and every list that it may change, refused or not. It asks
 // that the lists of each zone share one length, which the run tests once at its entry, and nothing else. That an opcode is known and the operands
 // aren't too many is tested by the crate sheet before.
+use contoured::on_contours;
 use graphics::GraphicsState;
 use line::Stepped;
 use lines::Lent;
@@ -58,6 +59,23 @@ pub fn perform(
             contours,
         ),
         Lent::Points(line) => on_points(line, s, opcode, operands, gx, gy, gflags, tx, ty, tflags),
+        Lent::Contours(line) => on_contours(
+            line,
+            s,
+            opcode,
+            operands,
+            contours,
+            gox,
+            goy,
+            gx,
+            gy,
+            gflags,
+            tox,
+            toy,
+            tx,
+            ty,
+            tflags,
+        ),
         Lent::All(line) => on_all(
             line,
             s,
