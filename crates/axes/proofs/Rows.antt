@@ -1,6 +1,6 @@
 -- What the range flips, SHPIX, SHC and SHZ leave across the axis: a flip changes bit 0 alone, and every shift is a move along the axis. Assumes nothing.
 use mathlib.Core.Bool.{Bool, _&&_, cond, false, true}
-use mathlib.Core.List.{List, [], _++_, _∷_, map, map-append}
+use mathlib.Core.List.{List, [], _++_, _∷_, append-assoc, map, map-append}
 use mathlib.Core.Path.{_∙_, _≡_, ap, ap₂, refl, sym}
 use native.Mathlib.Omega.{arith}
 use borrow.Author.Tests.{leb-true}

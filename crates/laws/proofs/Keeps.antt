@@ -7,7 +7,7 @@ use mathlib.Core.Path.{_∙_, _≡_, ap, refl, sym}
 use lib.ListN.{drop, length, take}
 use lib.Dec.{eqb, leb, ltb}
 use lib.IntN.{ℤ}
-use Rattle.lines.specs.declared.Instruction.the-variants.{Alignrp, Flippt, Isect, Iup, Mdap, Miap, Msirp, Set, Shp}
+use Rattle.lines.specs.declared.Instruction.the-variants.{Alignrp, Flippt, Fliprg, Isect, Iup, Mdap, Miap, Msirp, Set, Shc, Shp, Shpix, Shz}
 use Rattle.world.specs.World.{Alike, Fixed, World}
 use Rattle.answer.specs.declared.Call.{Call}
 use Rattle.sheet.specs.declared.Decoded.{Decoded}
@@ -23,9 +23,13 @@ use Rattle.sheet.specs.Table.{decodeOf}
 use Rattle.zone.proofs.Cases.{either}
 use Rattle.onward.proofs.Loop.{same-sizes, still-alike}
 use Rattle.replay.proofs.Entry.{entered-alike}
-use Rattle.looped.proofs.Keeps.{flippt-length, shp-lengths}
+use Rattle.looped.proofs.Keeps.{BothSame, flippt-length, shp-lengths}
+use Rattle.looped.specs.Looped.{Went, Zones}
+use Rattle.ranges.proofs.Keeps.{fliprg-length}
+use Rattle.pixels.proofs.Keeps.{shpix-lengths}
+use Rattle.shifts.proofs.Keeps.{shc-lengths, shz-lengths}
 use Rattle.zone.specs.Sizes.{glyphFits, pairFits, placedFits, twilightFits}
-use Rattle.lines.specs.Dispatch.{instructionOf, lineBy, lineOf, zonesOf}
+use Rattle.lines.specs.Dispatch.{instructionOf, intoZones, lineBy, lineOf, zonesOf}
 use Rattle.intersect.proofs.Keeps.{isect-lengths}
 use Rattle.interpolate.proofs.Keeps.{iup-lengths}
 use Rattle.outline.proofs.Keeps.{mdap-lengths}
@@ -34,7 +38,7 @@ use Rattle.limits.specs.Limits.{mostContours, mostControlValues, mostPoints, mo
 use Rattle.relative.proofs.Keeps.{msirp-lengths}
 use Rattle.step.proofs.Steps.{operands-inside}
 use Rattle.graphics.specs.State.{usableState}
-use Rattle.laws.proofs.Usable.{alignrp-usable, flippt-usable, isect-usable, iup-usable, mdap-usable, miap-usable, msirp-usable, set-usable, shp-usable}
+use Rattle.laws.proofs.Usable.{alignrp-usable, flippt-usable, fliprg-usable, isect-usable, iup-usable, mdap-usable, miap-usable, msirp-usable, set-usable, shc-usable, shp-usable, shpix-usable, shz-usable}
 use Rattle.onward.proofs.Loop.{Sizes, sizes}
 use Rattle.step.specs.Step.{stepOf}
 use Rattle.answer.specs.declared.Call.the-variants.{Refused as RefusedCall}
@@ -52,6 +56,10 @@ pub left-by-both : {u v w : World} → Left u v → Left v w → Left u w
 left-by-both a b = record { lengths = b .lengths ∙ a .lengths; usable = λ h. b .usable (a .usable h) }
 
 -- ---- one line
+zones-sizes : (w : World) (g : Went Zones) → BothSame (g .left) (zonesOf w) → sizes (intoZones w g .world) ≡ sizes w
+zones-sizes w g k =
+    same-sizes (k .glyph .xs) (k .glyph .ys) (k .glyph .flags) refl refl (k .twilight .xs) (k .twilight .ys) (k .twilight .flags)
+
 module _ (f : Fixed) (op : ℕ) (operands : List ℤ) (w : World) (alike : Alike f w) where
   instruction-lengths : (i : Instruction) → sizes (lineBy f op operands w i .world) ≡ sizes w
   unfolding lineBy
@@ -70,19 +78,19 @@ module _ (f : Fixed) (op : ℕ) (operands : List ℤ) (w : World) (alike : Alike
       (w .state)
       op in
       same-sizes (k .gx) (k .gy) refl refl refl refl refl refl
-  instruction-lengths Shp =
-      let k = shp-lengths (w .state) op operands (f .gox) (f .goy) (w .tox) (w .toy) (zonesOf w) in
-      same-sizes (k .glyph .xs) (k .glyph .ys) (k .glyph .flags) refl refl (k .twilight .xs) (k .twilight .ys) (k .twilight .flags)
+  instruction-lengths Shp = zones-sizes w _ (shp-lengths (w .state) op operands (f .gox) (f .goy) (w .tox) (w .toy) (zonesOf w))
+  instruction-lengths Shc = zones-sizes w _ (shc-lengths (w .state) op operands (f .contours) (f .gox) (f .goy) (w .tox) (w .toy) (zonesOf w))
+  instruction-lengths Shz = zones-sizes w _ (shz-lengths (w .state) op operands (f .contours) (f .gox) (f .goy) (w .tox) (w .toy) (zonesOf w))
+  instruction-lengths Shpix = zones-sizes w _ (shpix-lengths (w .state) operands (zonesOf w))
   instruction-lengths Msirp =
       let k = msirp-lengths (w .state) op operands (w .gx) (w .gy) (w .gflags) (w .tox) (w .toy) (w .tx) (w .ty) (w .tflags) in
       same-sizes (k .gx) (k .gy) (k .gflags) (k .ox) (k .oy) (k .tx) (k .ty) (k .tflags)
-  instruction-lengths Alignrp =
-      let k = alignrp-lengths (w .state) operands (zonesOf w) in
-      same-sizes (k .glyph .xs) (k .glyph .ys) (k .glyph .flags) refl refl (k .twilight .xs) (k .twilight .ys) (k .twilight .flags)
+  instruction-lengths Alignrp = zones-sizes w _ (alignrp-lengths (w .state) operands (zonesOf w))
   instruction-lengths Miap =
       let k = miap-lengths (w .state) op (w .gx) (w .gy) (w .gflags) (w .tox) (w .toy) (w .tx) (w .ty) (w .tflags) operands (f .controls) in
       same-sizes (k .gx) (k .gy) (k .gflags) (k .ox) (k .oy) (k .tx) (k .ty) (k .tflags)
   instruction-lengths Flippt = same-sizes refl refl (flippt-length (w .state) operands (w .gflags)) refl refl refl refl refl
+  instruction-lengths Fliprg = same-sizes refl refl (fliprg-length (w .state) op operands (w .gflags)) refl refl refl refl refl
 
   instruction-usable : (i : Instruction) → usableState (w .state) ≡ true → usableState (lineBy f op operands w i .world .state) ≡ true
   unfolding lineBy
@@ -91,10 +99,14 @@ module _ (f : Fixed) (op : ℕ) (operands : List ℤ) (w : World) (alike : Alike
   instruction-usable Mdap = mdap-usable (w .state) op (w .gx) (w .gy) (w .gflags) (w .tx) (w .ty) (w .tflags) operands
   instruction-usable Iup = iup-usable (f .gux) (f .guy) (f .gox) (f .goy) (w .gx) (w .gy) (w .gflags) (f .contours) (w .state) op
   instruction-usable Shp = shp-usable (w .state) op operands (f .gox) (f .goy) (w .tox) (w .toy) (zonesOf w)
+  instruction-usable Shc = shc-usable (w .state) op operands (f .contours) (f .gox) (f .goy) (w .tox) (w .toy) (zonesOf w)
+  instruction-usable Shz = shz-usable (w .state) op operands (f .contours) (f .gox) (f .goy) (w .tox) (w .toy) (zonesOf w)
+  instruction-usable Shpix = shpix-usable (w .state) operands (zonesOf w)
   instruction-usable Msirp = msirp-usable (w .state) op (w .gx) (w .gy) (w .gflags) (w .tox) (w .toy) (w .tx) (w .ty) (w .tflags) operands
   instruction-usable Alignrp = alignrp-usable (w .state) operands (zonesOf w)
   instruction-usable Miap = miap-usable (w .state) op (w .gx) (w .gy) (w .gflags) (w .tox) (w .toy) (w .tx) (w .ty) (w .tflags) operands (f .controls)
   instruction-usable Flippt = flippt-usable (w .state) operands (w .gflags)
+  instruction-usable Fliprg = fliprg-usable (w .state) op operands (w .gflags)
 
   pub line-keeps : Left w (lineOf f op operands w .world)
   unfolding lineOf

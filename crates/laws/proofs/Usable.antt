@@ -23,7 +23,11 @@ use Rattle.round.specs.declared.RoundMode.{RoundMode}
 use Rattle.line.specs.declared.Stepped.{Stepped}
 use Rattle.graphics.specs.declared.Vector.{Vector}
 use Rattle.graphics.specs.declared.ZonePointer.{ZonePointer}
-use Rattle.looped.specs.Looped.{Zones, flipptOf, shiftBy, shpOf}
+use Rattle.looped.specs.Looped.{Went, Zones, flipptOf, shiftBy, shpOf}
+use Rattle.ranges.specs.Ranges.{fliprgOf}
+use Rattle.pixels.specs.Pixels.{shiftByAmount, shpixOf}
+use Rattle.spans.specs.Span.{spanBy, spanOf}
+use Rattle.shifts.specs.Shifts.{shcAt, shcOf, shzOf}
 use Rattle.align.specs.Align.{alignrpOf}
 use Rattle.moves.specs.Apply.{applyOf}
 use Rattle.sheet.specs.Setters.{axisBy, loopBy, modeBy, onOperand, operandBy, pointerBy, referenceBy, setBy, vectorsBy, zoneBy}
@@ -40,7 +44,7 @@ use Rattle.graphics.specs.State.{markedX, markedY, pastBothIups, usableState, v
 use Rattle.outline.specs.Absolute.{mdapAt, mdapFrom, mdapIn, mdapOf, outsideMdap, placeBy, settled}
 use Rattle.miap.specs.Miap.{miapAt, miapFrom, miapIn, miapOf, miapTwilight}
 use Rattle.moves.specs.Move.{moveOf}
-use Rattle.places.specs.Places.{placeIn}
+use Rattle.places.specs.Places.{placeIn, sizeOf}
 use Rattle.graphics.proofs.Laws.{usable-all-vectors, usable-facts, usable-freedom-vector, usable-loop, usable-pointers, usable-projection-vectors, usable-references, usable-round-mode, x-in-range, y-in-range}
 use Rattle.round.specs.Round.{usableBy}
 
@@ -277,3 +281,38 @@ shp-usable s op operands gox goy tox toy z = shift-usable s operands z _
 pub alignrp-usable : (s : GraphicsState) (operands : List ℤ) (z : Zones) → Usable s (alignrpOf s operands z .stepped)
 unfolding alignrpOf
 alignrp-usable s operands z = reset-usable s
+
+-- ---- the range flips, SHPIX, SHC and SHZ
+pub fliprg-usable : (s : GraphicsState) (op : ℕ) (operands : List ℤ) (flags : List ℕ) → Usable s (fliprgOf s op operands flags .stepped)
+unfolding fliprgOf
+fliprg-usable s op operands flags =
+    either (λ (g : Went (List ℕ)). Usable s (g .stepped)) (ltb (length operands) 2) (λ h. h)
+    (either (λ (g : Went (List ℕ)). Usable s (g .stepped)) (pastBothIups (s .facts)) (λ h. h) (λ h. h))
+
+amount-usable : (s : GraphicsState) (z : Zones) (operands : List ℤ) → Usable s (shiftByAmount s z operands .stepped)
+unfolding shiftByAmount
+amount-usable s z [] = λ h. h
+amount-usable s z (amount ∷ points) = reset-usable s
+
+pub shpix-usable : (s : GraphicsState) (operands : List ℤ) (z : Zones) → Usable s (shpixOf s operands z .stepped)
+unfolding shpixOf
+shpix-usable s operands z = either (λ (g : Went Zones). Usable s (g .stepped)) (s .facts .«backward_compatibility») (λ h. h) (amount-usable s z operands)
+
+span-usable : (s : GraphicsState) (touches : Bool) (start end : ℕ) (z : Zones) (d : Displaced) → Usable s (spanBy s touches start end z d .stepped)
+unfolding spanBy
+span-usable s touches start end z (By d) = λ h. h
+span-usable s touches start end z (RefusedDisplacement why) = λ h. h
+
+module _ (s : GraphicsState) (op : ℕ) (operands : List ℤ) (contours : List ℕ) (gox goy tox toy : List ℤ) (z : Zones) where
+  pub shc-usable : Usable s (shcOf s op operands contours gox goy tox toy z .stepped)
+  unfolding shcOf shcAt spanOf
+  shc-usable =
+      either (λ (g : Went Zones). Usable s (g .stepped)) (ltb (length operands) 1) (λ h. h)
+      (either (λ (g : Went Zones). Usable s (g .stepped)) (ltb (indexAt operands 0) (sizeOf (length contours) 1 (s .pointers .zp2))) (span-usable s true _ _ z _)
+      (either (Usable s) (s .facts .pedantic) (λ h. h) (λ h. h)))
+
+  pub shz-usable : Usable s (shzOf s op operands contours gox goy tox toy z .stepped)
+  unfolding shzOf spanOf
+  shz-usable =
+      either (λ (g : Went Zones). Usable s (g .stepped)) (ltb (length operands) 1) (λ h. h)
+      (either (λ (g : Went Zones). Usable s (g .stepped)) (ltb 1 (indexAt operands 0)) (λ h. h) (span-usable s false _ _ z _))
