@@ -53,7 +53,7 @@ use Rattle.relative.specs.Msirp.{msirpAt, msirpDistance, msirpFrom, msirpGlyph,
 use Rattle.int.specs.Word.{neg32}
 use Rattle.point.proofs.Bits.{xor-keeps}
 use Rattle.looped.specs.Each.{pass}
-use Rattle.axes.proofs.Inert.{PointsStill, apply-still, inert-move, inert-zp2, on-curve-apart, shift-in-still, stays, then}
+use Rattle.axes.proofs.Inert.{Inert, PointsStill, apply-still, inert-move, inert-zp2, on-curve-apart, shift-in-still, stays, then}
 use Rattle.axes.proofs.Rows.{fliprg-still, shc-still, shpix-still, shz-still}
 use Rattle.axes.proofs.Lines.{isIntersection, no-intersection, or-left}
 
