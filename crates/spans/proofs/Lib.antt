@@ -1,1 +1,2 @@
+mod Cases
 mod Walk
