@@ -1,0 +1,65 @@
+-- `ranges::fliprg` meets its contract: by the number of operands and by whether points are held fast; else it is what `set_through` ensures.
+-- Assumes nothing.
+use mathlib.Core.Path.{sym, ap, _∙_}
+use borrow.Author.Needs.{needs}
+use denote.Ref.{now}
+use Rattle.line.specs.declared.Stepped.{Stepped}
+use Rattle.looped.specs.Looped.{went}
+use Rattle.ranges.proofs.Cases.{too-few, held-fast, range-set}
+use Rattle.ranges.proofs.fliprg.Statement.{statement}
+use Rattle.ranges.proofs.fliprg.Tie as tie
+
+refused-requires : tie.Need-refused-requires
+refused-requires c κs = search needs
+
+returns : tie.Need-returns
+returns c = let i = c .before in let a = i .before .before .before .args in
+    ap (λ (line : Stepped). went line (now (a .flags))) (c .refused .ensures)
+    ∙ too-few (a .s) (a .opcode) (now (a .operands)) (now (a .flags)) (i .if1 .taken)
+
+past-both-iups-requires : tie.Need-past-both-iups-requires
+past-both-iups-requires c κs = search needs
+
+done-requires : tie.Need-done-requires
+done-requires c κs = search needs
+
+returns-2 : tie.Need-returns-2
+returns-2 c = let i = c .before in let p = i .before in let a = p .before .before .before .before .args in
+    ap (λ (line : Stepped). went line (now (a .flags))) (c .done .ensures)
+    ∙ held-fast (a .s) (a .opcode) (now (a .operands)) (now (a .flags)) (p .before .if1 .left) (sym (p .past-both-iups .ensures) ∙ i .if2 .taken)
+
+index-at-requires : tie.Need-index-at-requires
+index-at-requires c κs = search needs
+
+index-at-requires-2 : tie.Need-index-at-requires-2
+index-at-requires-2 c κs = search needs
+
+is-odd-requires : tie.Need-is-odd-requires
+is-odd-requires c κs = search needs
+
+set-through-requires : tie.Need-set-through-requires
+set-through-requires c κs = search needs
+
+same-length : tie.Need-same-length
+same-length c = search needs
+
+returns-3 : tie.Need-returns-3
+returns-3 c = let t = c .before .before in let o = t .before in let l = o .before .before in let h = l .before in let i = h .before in let p = i .before in let a = p .before .before .before .before .args in
+    range-set (a .s) (a .opcode) (now (a .operands)) (now (a .flags)) (p .before .if1 .left) (sym (p .past-both-iups .ensures) ∙ i .if2 .left)
+    (h .index-at .ensures) (l .index-at2 .ensures) (o .is-odd .ensures) (t .set-through .ensures)
+
+pub fliprg-spec : {M : Type 1} → statement M
+fliprg-spec =
+    tie.close
+    (tie.spec
+    refused-requires
+    returns
+    past-both-iups-requires
+    done-requires
+    returns-2
+    index-at-requires
+    index-at-requires-2
+    is-odd-requires
+    set-through-requires
+    same-length
+    returns-3)
