@@ -90,7 +90,7 @@ shift-same m count operands p = by (isIdle m)
     by true = each-keeps (λ (q : Points). Same q p) pass (λ at q k. k) count operands p (same p)
     by false = each-keeps (λ (q : Points). Same q p) (shiftAt m) (λ at q k. onto (apply-same m at q) k) count operands p (same p)
 
-shift-in-same : (m : Move) (count : ℕ) (operands : List ℤ) (z : Zones) (zone : ZonePointer) → BothSame (shiftEachIn m count operands z zone .left) z
+pub shift-in-same : (m : Move) (count : ℕ) (operands : List ℤ) (z : Zones) (zone : ZonePointer) → BothSame (shiftEachIn m count operands z zone .left) z
 unfolding shiftEachIn
 shift-in-same m count operands z Glyph = record { glyph = shift-same m count operands (z .glyph); twilight = same (z .twilight) }
 shift-in-same m count operands z Twilight = record { glyph = same (z .glyph); twilight = shift-same m count operands (z .twilight) }
