@@ -152,7 +152,8 @@ pub fn shift_span_of(
         Displaced::Refused(why) => refused(s, why),
         Displaced::By(d) => {
             let m = zp2_move_of(vectors, facts, d.dx, d.dy, touches);
-            let keeps = same_zone(d.zone, zp2);
+            let zone = d.zone;
+            let keeps = same_zone(zone, zp2);
             let call = shift_span_in(
                 zp2,
                 m,
