@@ -12,9 +12,7 @@ mod worlds;
 pub use calls::{iup_case, zone_case};
 pub use limits::{limit_cases, long_iup_case, long_iup_shift_case};
 pub use lines::{line_case, OUTLINE_LINES};
-pub use runs::{
-    every_opcode, every_setter, run_case, runs_of_01, shift_run_case, whole_run_of_01,
-};
+pub use runs::{every_opcode, every_setter, run_case, runs_of_01, shift_run_case, whole_run_of_01};
 pub use shift_grid::every_shift;
 pub use shifts::{shift_case, SHIFT_LINES};
 

@@ -11,8 +11,16 @@ use reference::door::State;
 
 /// Backward compatibility, and the marks of both IUPs: none, the first, all.
 const LOCKS: [(bool, bool); 3] = [(false, false), (true, false), (true, true)];
-const FREEDOMS: [[i32; 2]; 4] = [X, Y, DIAGONAL, NOWHERE];
-const ENDS: [&[u32]; 7] = [&[2, 5], &[], &[6], &[2, 7], &[5, 2], &[2, 2, 65535], &[9, 3]];
+const FREEDOMS: [[i32; 2]; 6] = [X, Y, DIAGONAL, NOWHERE, [-0x4000, 0], [0, -0x4000]];
+const ENDS: [&[u32]; 7] = [
+    &[2, 5],
+    &[],
+    &[6],
+    &[2, 7],
+    &[5, 2],
+    &[2, 2, 65535],
+    &[9, 3],
+];
 const POINTS: i32 = 7;
 
 /// All of them.
@@ -37,7 +45,15 @@ pub fn every_shift() -> Vec<Case> {
 /// Two contours of three points and a point after them; three twilight points.
 /// Reference point 1 and 4, and twilight point 1, have been moved.
 fn scene() -> Scene {
-    let was = [(0, 0), (60, 0), (64, 64), (10, 20), (30, 40), (50, 60), (7, 7)];
+    let was = [
+        (0, 0),
+        (60, 0),
+        (64, 64),
+        (10, 20),
+        (30, 40),
+        (50, 60),
+        (7, 7),
+    ];
     let mut is = was;
     is[1] = (75, -20);
     is[4] = (21, 83);
