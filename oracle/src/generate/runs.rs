@@ -38,7 +38,7 @@ pub fn run_case(random: &mut Random) -> Case {
 
 /// The same with shifts and range flips among the lines.
 pub fn shift_run_case(random: &mut Random) -> Case {
-    let state = calm_state(random);
+    let state = calm_state(random, 6);
     run_of(random, state, &ALL_MOVERS)
 }
 
