@@ -26,6 +26,8 @@ meaning() { # NUMBER
     9) echo "a zone pointer that is neither 0 nor 1; the detail is the operand" ;;
     10) echo "a negative loop count; the detail is the operand" ;;
     11) echo "a range of points outside the zone; the detail is its start" ;;
+    12) echo "a contour that zp2's zone doesn't have; the detail is its number. Correct the SHC line, or clear the fact pedantic: then such a line does nothing" ;;
+    13) echo "SHPIX under backward compatibility. Take the line out, or clear that fact" ;;
     15) echo "the record is refused: its sum is not that of its words, so something in it has changed" ;;
     16) echo "the record is refused: its length, its trailer or a word is out of range, so this is no record of edition 1 or it is damaged" ;;
     17) echo "the record is refused: it has more than 24 KiB" ;;

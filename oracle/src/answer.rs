@@ -15,6 +15,8 @@ pub const CONTROL_VALUE: u32 = 8;
 pub const ZONE: u32 = 9;
 pub const LOOP: u32 = 10;
 pub const RANGE: u32 = 11;
+pub const CONTOUR: u32 = 12;
+pub const SHIFT_BY_PIXELS: u32 = 13;
 
 #[derive(Copy, Clone, PartialEq, Eq, Default, Debug)]
 pub struct Answer {

@@ -1,6 +1,8 @@
 //! What document 01 says in numbers, and what was found beside it: each claim
 //! with the smallest input known, run on the Rust.
 
+mod shifts;
+
 use crate::{
     case::Case,
     direct::Call,
@@ -30,6 +32,7 @@ pub fn check_all() -> bool {
     horizontal_exception(&mut claims);
     lines_at_the_ends(&mut claims);
     direct_calls(&mut claims);
+    shifts::check(&mut claims);
     budgets_add_up(&mut claims);
     println!("{} claims, {} fail", claims.count, claims.failed);
     claims.failed == 0

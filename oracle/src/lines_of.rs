@@ -5,7 +5,9 @@ use crate::{
     case::{Case, Outcome},
     direct::Call,
     words::widened,
+    world::CONTOURS,
 };
+use std::ops::Range;
 
 /// A line that a run reached: where it stands, and what it is given.
 pub struct ReachedLine {
@@ -33,8 +35,16 @@ pub fn finished_lines(case: &Case, outcome: &Outcome) -> Vec<ReachedLine> {
 pub fn refused_line(case: &Case, outcome: &Outcome) -> Option<ReachedLine> {
     let answer = outcome.returned.answer;
     let is_run = matches!(case.call, Call::Run { .. });
-    let by_line = (answer::TOO_MANY..=answer::LOOP).contains(&answer.number);
+    let by_line = (answer::TOO_MANY..=answer::SHIFT_BY_PIXELS).contains(&answer.number);
     (is_run && by_line).then(|| line_at(&case.world.sheet(), answer.place as usize))
+}
+
+/// The line that a run did or refused first.
+pub fn first_line(case: &Case, outcome: &Outcome) -> Option<ReachedLine> {
+    match outcome.returned.answer.lines {
+        0 => refused_line(case, outcome),
+        _ => finished_lines(case, outcome).into_iter().next(),
+    }
 }
 
 fn line_at(sheet: &[i32], place: usize) -> ReachedLine {
@@ -83,6 +93,16 @@ pub fn accesses(case: &Case, line: &ReachedLine) -> Vec<Access> {
         0x3E | 0x3F => vec![access("point", zp0, operand(1))],
         0x3A | 0x3B if zp1 == 0 => vec![access("rp0", zp0, rp0), access("point", zp1, operand(1))],
         0x3A | 0x3B => vec![access("point", zp1, operand(1)), access("rp0", zp0, rp0)],
+        0x34..=0x37 => {
+            let (zone, index) = reference_of(case, line.opcode);
+            let reference = access("reference", zone, index);
+            let points = points_shifted(case, line);
+            // The points before it are there.
+            let missing = points.start.max(case.world.points_of(zp2) as u64);
+            let beyond = (missing < points.end).then(|| access("point past n", zp2, missing));
+            std::iter::once(reference).chain(beyond).collect()
+        }
+        0x38 => each_point(zp2).skip(1).collect(),
         0x3C => each_point(zp1)
             .flat_map(|point| [point, access("rp0", zp0, rp0)])
             .collect(),
@@ -95,6 +115,38 @@ pub fn accesses(case: &Case, line: &ReachedLine) -> Vec<Access> {
         0x80 => each_point(1).collect(),
         0x30 | 0x31 => vec![access("first point", 1, 0)],
         _ => Vec::new(),
+    }
+}
+
+/// The zone and the index of the point that a shift goes by.
+pub fn reference_of(case: &Case, opcode: u8) -> (u32, u64) {
+    let state = &case.world.state;
+    let [zp0, zp1, _] = state.zones;
+    let [_, rp1, rp2] = state.references;
+    match opcode & 1 {
+        1 => (zp0, rp1),
+        _ => (zp1, rp2),
+    }
+}
+
+/// The points of zp2's zone that an SHC or SHZ names, before the reference is
+/// left out; a contour that isn't there has none.
+pub fn points_shifted(case: &Case, line: &ReachedLine) -> Range<u64> {
+    let world = &case.world;
+    let of_zone = line.opcode >= 0x36;
+    let contour = widened(line.operands[0]);
+    if !of_zone && contour >= world.contours_of(world.state.zones[2]) as u64 {
+        return 0..0;
+    }
+    if world.state.zones[2] == 0 {
+        return 0..world.twilight_points() as u64;
+    }
+    let ends = &world.lists[CONTOURS];
+    let after = |contour: u64| u64::from(ends[contour as usize]) + 1;
+    match (of_zone, contour) {
+        (true, _) => 0..ends.last().map_or(0, |end| u64::from(*end) + 1),
+        (false, 0) => 0..after(0),
+        (false, _) => after(contour - 1)..after(contour),
     }
 }
 

@@ -2,7 +2,7 @@
 
 use crate::{
     answer::{self, Answer},
-    entry,
+    apart, entry,
     world::World,
 };
 use reference::door::Machine;
@@ -12,10 +12,12 @@ use reference::door::Machine;
 pub enum Needs {
     Operands(u32),
     AsManyAsTheLoop,
+    /// SHPIX: an amount, then as many points as the loop counter says.
+    OneMoreThanTheLoop,
     Unknown,
 }
 
-/// Document 01's table of lines.
+/// Document 01's table of lines, and the shifts and range flips of document 02.
 pub fn needs_of(opcode: u8) -> Needs {
     match opcode {
         0x00..=0x05 => Needs::Operands(0),
@@ -25,7 +27,9 @@ pub fn needs_of(opcode: u8) -> Needs {
         0x2E | 0x2F => Needs::Operands(1),
         0x30 | 0x31 => Needs::Operands(0),
         0x32 | 0x33 | 0x3C | 0x80 => Needs::AsManyAsTheLoop,
-        0x3A | 0x3B | 0x3E | 0x3F => Needs::Operands(2),
+        0x34..=0x37 => Needs::Operands(1),
+        0x38 => Needs::OneMoreThanTheLoop,
+        0x3A | 0x3B | 0x3E | 0x3F | 0x81 | 0x82 => Needs::Operands(2),
         _ => Needs::Unknown,
     }
 }
@@ -56,6 +60,11 @@ pub fn name_of(opcode: u8) -> &'static str {
         0x31 => "IUP[x]",
         0x32 => "SHP[0]",
         0x33 => "SHP[1]",
+        0x34 => "SHC[0]",
+        0x35 => "SHC[1]",
+        0x36 => "SHZ[0]",
+        0x37 => "SHZ[1]",
+        0x38 => "SHPIX",
         0x3A => "MSIRP[0]",
         0x3B => "MSIRP[1]",
         0x3C => "ALIGNRP",
@@ -66,6 +75,8 @@ pub fn name_of(opcode: u8) -> &'static str {
         0x7C => "RUTG",
         0x7D => "RDTG",
         0x80 => "FLIPPT",
+        0x81 => "FLIPRGON",
+        0x82 => "FLIPRGOFF",
         _ => "unknown",
     }
 }
@@ -129,11 +140,18 @@ fn run_line(machine: &mut Machine, words: &[i32]) -> Result<usize, (u32, u64)> {
     if operands.len() as u64 > most_operands(machine, opcode) {
         return Err((answer::TOO_MANY, 0));
     }
+    match apart::decided(machine, opcode, operands) {
+        Some(decided) => decided?,
+        None => by_the_rust(machine, opcode, operands)?,
+    }
+    Ok(2 + operands.len())
+}
+
+fn by_the_rust(machine: &mut Machine, opcode: u8, operands: &[i32]) -> Result<(), (u32, u64)> {
     let first_operand = operands.first().copied().unwrap_or_default();
     machine
         .instruct(opcode, operands)
-        .map_err(|refused| answer::of_refusal(&refused, first_operand))?;
-    Ok(2 + operands.len())
+        .map_err(|refused| answer::of_refusal(&refused, first_operand))
 }
 
 /// The opcode and the operands, if the words start with a whole, known line.
@@ -151,6 +169,7 @@ fn most_operands(machine: &Machine, opcode: u8) -> u64 {
     match needs_of(opcode) {
         Needs::Operands(count) => u64::from(count),
         Needs::AsManyAsTheLoop => u64::from(machine.loop_counter()),
+        Needs::OneMoreThanTheLoop => u64::from(machine.loop_counter()) + 1,
         Needs::Unknown => 0,
     }
 }

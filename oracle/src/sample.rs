@@ -1,12 +1,13 @@
-//! The committed sample: six files, the same bytes every time.
+//! The committed sample: seven files, the same bytes every time.
 
 use crate::{
     case::Case,
     coverage,
     direct::Call,
     generate::{
-        every_opcode, every_setter, iup_case, limit_cases, line_case, long_iup_case,
-        long_iup_shift_case, run_case, runs_of_01, zone_case, OUTLINE_LINES,
+        every_opcode, every_setter, every_shift, iup_case, limit_cases, line_case, long_iup_case,
+        long_iup_shift_case, run_case, runs_of_01, shift_case, shift_run_case, zone_case,
+        OUTLINE_LINES, SHIFT_LINES,
     },
     math_rows, notable, projection_rows,
     random::Random,
@@ -19,14 +20,25 @@ const ZONE_SEED: u64 = 0x7A6F_6E65;
 const IUP_SEED: u64 = 0x0069_7570;
 const OUTLINE_SEED: u64 = 0x6F75_746C;
 const RUNS_SEED: u64 = 0x7275_6E73;
+const SHIFTS_SEED: u64 = 0x7368_6966;
 const ZONE_CASES: usize = 5_000;
 const IUP_CASES: usize = 3_400;
 const LINES_EACH: usize = 480;
 const RUN_CASES: usize = 2_800;
+const SHIFTS_EACH: usize = 400;
+const SHIFT_RUN_CASES: usize = 240;
 
-const NAMES: [&str; 6] = ["math", "projection", "zone", "iup", "outline", "runs"];
+const NAMES: [&str; 7] = [
+    "math",
+    "projection",
+    "zone",
+    "iup",
+    "outline",
+    "runs",
+    "shifts",
+];
 
-/// Writes the six files into a folder and says how large each is.
+/// Writes the seven files into a folder and says how large each is.
 pub fn write(folder: &Path) -> Result<(), String> {
     std::fs::create_dir_all(folder).map_err(|error| error.to_string())?;
     for name in NAMES {
@@ -88,13 +100,14 @@ fn make(name: &str) -> (usize, Vec<u32>) {
     }
 }
 
-/// The cases of one of the four files that hold cases.
+/// The cases of one of the five files that hold cases.
 fn cases_of(name: &str) -> Vec<Case> {
     match name {
         "zone" => zone_cases(),
         "iup" => iup_cases(),
         "outline" => outline_cases(),
-        _ => runs(),
+        "runs" => runs(),
+        _ => shifts(),
     }
 }
 
@@ -137,6 +150,18 @@ fn runs() -> Vec<Case> {
     cases.extend(every_setter());
     cases.extend(limit_cases(&mut random).into_iter().filter(is_run));
     cases.extend((0..RUN_CASES).map(|_| run_case(&mut random)));
+    cases
+}
+
+/// Each shift at the operands where it turns, then random ones alone, then
+/// random ones among other lines.
+fn shifts() -> Vec<Case> {
+    let mut random = Random::new(SHIFTS_SEED);
+    let mut cases = every_shift();
+    for (_, opcodes) in SHIFT_LINES {
+        cases.extend((0..SHIFTS_EACH).map(|_| shift_case(&mut random, opcodes)));
+    }
+    cases.extend((0..SHIFT_RUN_CASES).map(|_| shift_run_case(&mut random)));
     cases
 }
 

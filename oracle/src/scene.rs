@@ -1,7 +1,7 @@
 //! Small worlds written by hand, for claims about single lines.
 
 use crate::{answer::Answer, case::Case, direct::Call, world::*};
-use reference::door::{Pair, State};
+use reference::door::{Pair, Refused, State};
 
 /// A world to be run, in document 01's fresh state unless told otherwise.
 #[derive(Clone)]
@@ -79,6 +79,20 @@ impl Scene {
         let mut world = self.world.clone();
         let answer = call.perform(&mut world).answer;
         Played { answer, world }
+    }
+
+    /// The sheet's one line as the Rust decides it by itself: its refusal, if
+    /// it has one, and what it left.
+    pub fn by_the_rust_alone(&self) -> (Option<Refused>, Played) {
+        let mut world = self.world.clone();
+        let sheet = world.sheet();
+        let mut buffers = world.buffers();
+        let refused = buffers.with_machine(&mut world.state, |machine| {
+            machine.instruct(sheet[0] as u8, &sheet[2..]).err()
+        });
+        world.keep(&buffers);
+        let answer = Answer::default();
+        (refused, Played { answer, world })
     }
 
     pub fn case(&self, call: Call) -> Case {

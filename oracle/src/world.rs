@@ -184,6 +184,14 @@ impl World {
         }
     }
 
+    /// How many contours that zone has; the twilight zone has one.
+    pub fn contours_of(&self, zone: u32) -> usize {
+        match zone {
+            0 => 1,
+            _ => self.lists[CONTOURS].len(),
+        }
+    }
+
     pub fn sheet(&self) -> Vec<i32> {
         self.signed(SHEET)
     }

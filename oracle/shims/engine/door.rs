@@ -67,6 +67,8 @@ pub struct Buffers {
     glyph: Outline,
     contours: Vec<u16>,
     twilight: Outline,
+    /// The end of the twilight zone's one contour.
+    twilight_contours: [u16; 1],
     control_values: Vec<i32>,
     stack: Vec<i32>,
 }
@@ -124,6 +126,8 @@ impl Buffers {
             unscaled: unscaled.iter().map(|(x, y)| Point::new(*x, *y)).collect(),
             glyph,
             contours: contours.to_vec(),
+            // As the Rust's instance gives it: one contour, and m as its end.
+            twilight_contours: [twilight.flags.len() as u16],
             twilight,
             control_values: control_values.to_vec(),
             stack: vec![0; most_operands],
@@ -153,7 +157,7 @@ impl Buffers {
             CowSlice::new_mut(&mut []),
             // Pedantic, so that a missing operand is reported and not read as 0.
             ValueStack::new(&mut self.stack, true),
-            self.twilight.zone(&[], &[]),
+            self.twilight.zone(&[], &self.twilight_contours),
             self.glyph.zone(&self.unscaled, &self.contours),
             0,
             &[],
@@ -192,6 +196,25 @@ impl<'a> Machine<'a> {
 
     pub fn loop_counter(&self) -> u32 {
         self.engine.graphics.loop_counter
+    }
+
+    pub fn is_pedantic(&self) -> bool {
+        self.engine.graphics.is_pedantic
+    }
+
+    pub fn is_backward_compatible(&self) -> bool {
+        self.engine.graphics.backward_compatibility
+    }
+
+    /// Backward compatibility, and IUP has been along both axes.
+    pub fn is_past_both_iups(&self) -> bool {
+        let graphics = &self.engine.graphics;
+        graphics.backward_compatibility && graphics.did_iup_x && graphics.did_iup_y
+    }
+
+    /// How many contours the zone has that zp2 names.
+    pub fn contours_of_zp2(&self) -> u64 {
+        self.engine.graphics.zp2().contours.len() as u64
     }
 
     pub fn point(&self, zone: u32, index: u64) -> Result<Pair, Refused> {

@@ -1,6 +1,7 @@
 //! Which ways the moves, IUP, ISECT and MIAP went, told from what they were
 //! given. Nothing here decides an outcome.
 
+use super::shifts::lock_of;
 use crate::{
     case::{Case, Outcome},
     direct::Call,
@@ -92,17 +93,10 @@ fn cut_in_key(native: bool, kept: bool) -> String {
     format!("MIAP[1]: native ClearType x {native}, control value kept {kept}")
 }
 
-/// How a move is held back: by backward compatibility, and after both IUPs.
+/// The freedom axis of a move, how it is held back, and the exception.
 fn move_key(case: &Case, name: &str) -> String {
     let state = &case.world.state;
-    let lock = match (
-        state.backward_compatibility,
-        state.x_interpolated && state.y_interpolated,
-    ) {
-        (false, _) => "none",
-        (true, false) => "x",
-        (true, true) => "x and y",
-    };
+    let lock = lock_of(case);
     let axis = door::derived(state.vectors).axes[2];
     moved_key(name, axis, lock, state.vectors[1] == 0)
 }

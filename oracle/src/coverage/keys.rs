@@ -1,6 +1,12 @@
 //! The names that things are counted under, and the kinds they fall into.
 
-use crate::{answer, generate::OUTLINE_LINES, replay::name_of, vectors::VectorKind, world::*};
+use crate::{
+    answer,
+    generate::{OUTLINE_LINES, SHIFT_LINES},
+    replay::name_of,
+    vectors::VectorKind,
+    world::*,
+};
 
 /// The calls' names by kind.
 pub const CALLS: [&str; 14] = [
@@ -39,6 +45,7 @@ pub const UNEXPLAINED: &str = "UNEXPLAINED: a 7 that document 01's order doesn't
 pub fn instruction_of(opcode: u8) -> &'static str {
     OUTLINE_LINES
         .iter()
+        .chain(&SHIFT_LINES)
         .find(|(_, opcodes)| opcodes.contains(&opcode))
         .map_or(name_of(opcode), |(name, _)| *name)
 }

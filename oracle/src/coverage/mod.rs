@@ -4,6 +4,7 @@ mod branches;
 mod keys;
 mod required;
 mod rows;
+mod shifts;
 
 use crate::{
     answer,
@@ -84,6 +85,9 @@ impl Coverage {
             self.count_run(case, outcome);
         }
         for key in branches::keys(case, outcome) {
+            self.add(key);
+        }
+        for key in shifts::keys(case, outcome) {
             self.add(key);
         }
     }

@@ -1,8 +1,8 @@
 //! What must come up in a run of the generator and in the sample.
 
-use super::{branches, keys::*, rows};
+use super::{branches, keys::*, rows, shifts};
 use crate::{
-    generate::OUTLINE_LINES,
+    generate::{OUTLINE_LINES, SHIFT_LINES},
     replay::{name_of, needs_of, Needs},
     vectors,
     world::*,
@@ -11,7 +11,7 @@ use crate::{
 /// Everything that must come up.
 pub fn required() -> Vec<String> {
     let mut keys = Vec::new();
-    keys.extend((0..=11).map(|number| format!("answer {number:2}")));
+    keys.extend((0..=13).map(|number| format!("answer {number:2}")));
     keys.extend(required_calls());
     keys.extend(required_states());
     keys.extend(required_sizes());
@@ -19,6 +19,7 @@ pub fn required() -> Vec<String> {
     keys.extend(required_steps());
     keys.extend(required_alone());
     keys.extend(branches::required());
+    keys.extend(shifts::required());
     keys.extend(rows::required());
     keys
 }
@@ -27,7 +28,7 @@ fn required_calls() -> Vec<String> {
     let mut keys = Vec::new();
     for (kind, name) in CALLS.iter().enumerate() {
         let numbers: &[u32] = match kind {
-            0 => &[0, 1, 2, 3, 4, 5, 6, 7, 8, 9, 10],
+            0 => &[0, 1, 2, 3, 4, 5, 6, 7, 8, 9, 10, 11, 12, 13],
             3 => &[0, 2],
             8 => &[0, 2, 11],
             10..=13 => &[0, 2, 3, 7],
@@ -116,6 +117,10 @@ fn required_opcodes() -> Vec<String> {
             0x3E | 0x3F => &[7, 8],
             0x13..=0x16 => &[9],
             0x17 => &[10],
+            0x34 | 0x35 => &[7, 12],
+            0x36 | 0x37 => &[7, 9],
+            0x38 => &[7, 13],
+            0x81 | 0x82 => &[11],
             _ => &[],
         };
         keys.extend(
@@ -123,8 +128,8 @@ fn required_opcodes() -> Vec<String> {
                 .map(|number| opcode_key(opcode, &format!("refused {number}"))),
         );
     }
-    for (_, opcodes) in OUTLINE_LINES {
-        for opcode in opcodes {
+    for (_, opcodes) in OUTLINE_LINES.iter().chain(&SHIFT_LINES) {
+        for opcode in *opcodes {
             let pointers = (0..8).map(|bits| [bits & 1, bits >> 1 & 1, bits >> 2]);
             keys.extend(pointers.map(|zones| zones_key(name_of(*opcode), zones)));
         }
@@ -137,7 +142,7 @@ fn required_opcodes() -> Vec<String> {
 
 fn required_steps() -> Vec<String> {
     let mut keys = Vec::new();
-    let sevens: [(&str, &[&str]); 8] = [
+    let sevens: [(&str, &[&str]); 11] = [
         ("FLIPPT", &["point 0", "point 1", "point 2"]),
         ("SHP", &["reference", "point 0", "point 1", "point 2"]),
         ("MSIRP", &["point", "rp0"]),
@@ -146,6 +151,9 @@ fn required_steps() -> Vec<String> {
         ("ALIGNRP", &["point 0", "point 1", "point 2", "rp0"]),
         ("ISECT", &["a0", "a1", "b0", "b1", "point"]),
         ("IUP", &["first point"]),
+        ("SHC", &["reference", "point past n"]),
+        ("SHZ", &["reference", "point past n"]),
+        ("SHPIX", &["point 1", "point 2", "point 3"]),
     ];
     for (name, steps) in sevens {
         keys.extend(steps.iter().map(|step| format!("{name}: 7 by {step}")));
@@ -158,6 +166,11 @@ fn required_steps() -> Vec<String> {
         ("MIAP", 2),
         ("ALIGNRP", 3),
         ("ISECT", 5),
+        ("SHC", 1),
+        ("SHZ", 1),
+        ("SHPIX", 4),
+        ("FLIPRGON", 2),
+        ("FLIPRGOFF", 2),
     ];
     for (name, operands) in sixes {
         keys.extend((0..operands).map(|given| format!("{name}: 6 after {given} operands")));
@@ -175,6 +188,16 @@ fn required_alone() -> Vec<String> {
             8 => name == "MIAP",
             _ => true,
         });
+        keys.extend(numbers.map(|number| alone_key(name, number)));
+    }
+    for (name, _) in SHIFT_LINES {
+        let own: &[u32] = match name {
+            "SHC" => &[7, 12],
+            "SHZ" => &[7, 9],
+            "SHPIX" => &[7, 13],
+            _ => &[11],
+        };
+        let numbers = (0..=6).chain(own.iter().copied());
         keys.extend(numbers.map(|number| alone_key(name, number)));
     }
     keys

@@ -1,6 +1,7 @@
 //! Single lines of the instructions that move points, whole and spoilt.
 
 use super::{
+    shifts::{self, is_shift},
     states::{make_unsound, sound_state},
     worlds::{fill_glyph, fill_twilight, small_world},
 };
@@ -176,7 +177,7 @@ fn operands(random: &mut Random, world: &World, opcode: u8) -> Vec<i32> {
         0x32 | 0x33 => looped(random, world, zp2),
         0x3C => looped(random, world, zp1),
         0x80 => looped(random, world, 1),
-        _ => Vec::new(),
+        _ => shifts::operands(random, world, opcode),
     }
 }
 
@@ -188,7 +189,7 @@ fn keep_apart(ends: &mut [i32], count: usize) {
 }
 
 /// As many points as the loop counter asks for, or a few of a great many.
-fn looped(random: &mut Random, world: &World, zone: u32) -> Vec<i32> {
+pub fn looped(random: &mut Random, world: &World, zone: u32) -> Vec<i32> {
     let wanted = world.state.loop_counter as usize;
     let count = if wanted > 5 { random.below(5) } else { wanted };
     (0..count)
@@ -197,7 +198,7 @@ fn looped(random: &mut Random, world: &World, zone: u32) -> Vec<i32> {
 }
 
 /// Mostly an index below the count, now and then at it, above it or negative.
-fn point_operand(random: &mut Random, count: usize) -> i32 {
+pub fn point_operand(random: &mut Random, count: usize) -> i32 {
     if count > 0 && !random.once_in(16) {
         return random.below(count) as i32;
     }
@@ -209,7 +210,7 @@ fn point_operand(random: &mut Random, count: usize) -> i32 {
     }
 }
 
-fn zone_operand(random: &mut Random) -> i32 {
+pub fn zone_operand(random: &mut Random) -> i32 {
     if random.once_in(10) {
         random.pick(&[2, -1, i32::MIN, i32::MAX, 256])
     } else {
@@ -230,6 +231,7 @@ pub fn taken(world: &World, opcode: u8) -> u32 {
     match needs_of(opcode) {
         Needs::Operands(count) => count,
         Needs::AsManyAsTheLoop => world.state.loop_counter,
+        Needs::OneMoreThanTheLoop => world.state.loop_counter.saturating_add(1),
         Needs::Unknown => 0,
     }
 }
@@ -253,10 +255,12 @@ pub mod spoil {
         }
     }
 
+    /// An opcode of no line of document 01. The later ones count as unknown
+    /// too, so that the cases made before them stay as they were.
     pub fn unknown_opcode(random: &mut Random) -> u8 {
         loop {
             let opcode = random.next() as u8;
-            if needs_of(opcode) == Needs::Unknown {
+            if needs_of(opcode) == Needs::Unknown || is_shift(opcode) {
                 return opcode;
             }
         }

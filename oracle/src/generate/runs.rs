@@ -2,6 +2,7 @@
 
 use super::{
     lines::{line, spoil, taken},
+    shifts::{calm_state, is_shift},
     states::{make_unsound, sound_state},
     worlds::small_world,
 };
@@ -12,6 +13,7 @@ use crate::{
     replay::{needs_of, Needs},
     world::*,
 };
+use reference::door::State;
 
 /// The opcodes of setters, each as likely as the others.
 const SETTERS: [u8; 20] = [
@@ -22,11 +24,27 @@ const MOVERS: [u8; 13] = [
     0x0F, 0x2E, 0x2F, 0x30, 0x31, 0x32, 0x33, 0x3A, 0x3B, 0x3C, 0x3E, 0x3F, 0x80,
 ];
 
-/// A sheet of some lines, run from some place with some budget.
+/// The movers with the shifts and range flips, the latter twice as likely.
+const ALL_MOVERS: [u8; 27] = [
+    0x0F, 0x2E, 0x2F, 0x30, 0x31, 0x32, 0x33, 0x3A, 0x3B, 0x3C, 0x3E, 0x3F, 0x80, 0x34, 0x35, 0x36,
+    0x37, 0x38, 0x38, 0x81, 0x82, 0x34, 0x35, 0x36, 0x37, 0x81, 0x82,
+];
+
+/// A sheet of some lines of document 01, run from some place with some budget.
 pub fn run_case(random: &mut Random) -> Case {
     let state = sound_state(random);
+    run_of(random, state, &MOVERS)
+}
+
+/// The same with shifts and range flips among the lines.
+pub fn shift_run_case(random: &mut Random) -> Case {
+    let state = calm_state(random, 6);
+    run_of(random, state, &ALL_MOVERS)
+}
+
+fn run_of(random: &mut Random, state: State, movers: &[u8]) -> Case {
     let mut world = small_world(random, state);
-    let places = fill_sheet(random, &mut world);
+    let places = fill_sheet(random, &mut world, movers);
     if random.once_in(40) {
         spoil::some_length(random, &mut world);
     }
@@ -43,13 +61,13 @@ pub fn run_case(random: &mut Random) -> Case {
 }
 
 /// Fills the sheet and says where its lines start.
-fn fill_sheet(random: &mut Random, world: &mut World) -> Vec<usize> {
+fn fill_sheet(random: &mut Random, world: &mut World, movers: &[u8]) -> Vec<usize> {
     // Lines are made for the state that the lines before them leave.
     let mut ahead = world.clone();
     let mut sheet = Vec::new();
     let mut places = Vec::new();
     for _ in 0..random.weighted(&[1, 3, 4, 4, 4, 3, 2, 2, 1]) {
-        let mut line = some_line(random, &ahead);
+        let mut line = some_line(random, &ahead, movers);
         places.push(sheet.len());
         if random.once_in(60) {
             spoil::line(random, &mut line);
@@ -62,11 +80,11 @@ fn fill_sheet(random: &mut Random, world: &mut World) -> Vec<usize> {
     places
 }
 
-fn some_line(random: &mut Random, world: &World) -> Vec<i32> {
+fn some_line(random: &mut Random, world: &World, movers: &[u8]) -> Vec<i32> {
     let opcode = if random.once_in(3) {
         random.pick(&SETTERS)
     } else {
-        random.pick(&MOVERS)
+        random.pick(movers)
     };
     line(random, world, opcode)
 }
@@ -81,7 +99,7 @@ fn look_ahead(world: &mut World, line: &[i32]) {
         }
         (0x16, Some(zone @ 0..=1)) => state.zones = [*zone as u32; 3],
         (0x17, Some(count @ 0..)) => state.loop_counter = (*count as u32).min(0xFFFF),
-        (0x32 | 0x33 | 0x3C | 0x80, _) if taken(world, opcode) > 0 => {
+        (0x32 | 0x33 | 0x38 | 0x3C | 0x80, _) if taken(world, opcode) > 0 => {
             world.state.loop_counter = 1;
         }
         _ => {}
@@ -110,14 +128,14 @@ fn budget(random: &mut Random, lines: usize) -> u64 {
 }
 
 /// Each of the 256 opcodes alone, on the glyph of document 01's whole run, and
-/// each known one with an operand too many.
+/// each of document 01's with an operand too many.
 pub fn every_opcode() -> Vec<Case> {
     let mut cases = Vec::new();
     let mut case = whole_run_of_01();
     for opcode in 0..=255 {
         case.world.lists[SHEET] = vec![u32::from(opcode), 0];
         cases.push(case.clone());
-        if needs_of(opcode) != Needs::Unknown {
+        if needs_of(opcode) != Needs::Unknown && !is_shift(opcode) {
             let count = taken(&case.world, opcode) + 1;
             case.world.lists[SHEET] = vec![u32::from(opcode), count];
             case.world.lists[SHEET].extend((0..count).map(|_| 0));

@@ -23,7 +23,7 @@ pub fn small_world(random: &mut Random, state: State) -> World {
 }
 
 /// Most references become points of the zones that lines look for them in.
-fn bring_references_inside(random: &mut Random, world: &mut World) {
+pub fn bring_references_inside(random: &mut Random, world: &mut World) {
     let [zp0, zp1, _] = world.state.zones;
     for (place, zone) in [zp0, zp0, zp1].into_iter().enumerate() {
         let points = world.points_of(zone) as u64;
@@ -131,7 +131,7 @@ fn leave_one_touched(random: &mut Random, flags: &mut [u32]) {
 }
 
 /// Contour ends: a glyph's own, or wild ones.
-fn contours(random: &mut Random, points: usize) -> Vec<u32> {
+pub fn contours(random: &mut Random, points: usize) -> Vec<u32> {
     match random.weighted(&[2, 5, 4, 2, 2, 2]) {
         0 => Vec::new(),
         1 => vec![points.saturating_sub(1) as u32],
@@ -149,7 +149,7 @@ fn contours(random: &mut Random, points: usize) -> Vec<u32> {
 }
 
 /// Ends in order, each contour with a point or more, all below the count.
-fn rising_ends(random: &mut Random, points: usize) -> Vec<u32> {
+pub fn rising_ends(random: &mut Random, points: usize) -> Vec<u32> {
     (0..points)
         .filter(|point| *point + 1 == points || random.once_in(3))
         .map(|point| point as u32)
@@ -161,7 +161,7 @@ fn equal_ends(random: &mut Random, points: usize) -> Vec<u32> {
     vec![end; 2 + random.below(2)]
 }
 
-fn wild_end(random: &mut Random, points: usize) -> u32 {
+pub fn wild_end(random: &mut Random, points: usize) -> u32 {
     match random.below(4) {
         0 => points as u32,
         1 => 0xFFFF,

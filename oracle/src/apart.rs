@@ -1,0 +1,45 @@
+//! The lines that document 02 decides otherwise than the Rust. They are decided
+//! here, before the Rust is asked; it decides every other line.
+
+use crate::{answer, words::widened};
+use reference::door::Machine;
+
+/// Done, or the number and detail of a refusal. Nothing is changed either way.
+type Decided = Result<(), (u32, u64)>;
+
+/// The number that one more has no room above: -1 as an index.
+const LAST_INDEX: u64 = u64::MAX;
+
+/// What becomes of the line, where document 02 and the Rust part.
+pub fn decided(machine: &Machine, opcode: u8, operands: &[i32]) -> Option<Decided> {
+    match (opcode, operands) {
+        (0x34 | 0x35, [contour, ..]) => bad_contour(machine, widened(*contour)),
+        (0x38, _) => shift_by_pixels(machine),
+        (0x81 | 0x82, [high, low, ..]) => range_to_the_last(machine, widened(*high), widened(*low)),
+        _ => None,
+    }
+}
+
+/// The Rust looks at the reference point first, and takes twilight contour 1.
+fn bad_contour(machine: &Machine, contour: u64) -> Option<Decided> {
+    let is_bad = contour >= machine.contours_of_zp2();
+    (is_bad && machine.is_pedantic()).then_some(Err((answer::CONTOUR, contour)))
+}
+
+/// The Rust moves some of the points.
+fn shift_by_pixels(machine: &Machine) -> Option<Decided> {
+    machine
+        .is_backward_compatible()
+        .then_some(Err((answer::SHIFT_BY_PIXELS, 0)))
+}
+
+/// The Rust refuses the high point with 7, even where nothing is flipped.
+fn range_to_the_last(machine: &Machine, high: u64, low: u64) -> Option<Decided> {
+    if high != LAST_INDEX {
+        return None;
+    }
+    if machine.is_past_both_iups() {
+        return Some(Ok(()));
+    }
+    Some(Err((answer::RANGE, low)))
+}
