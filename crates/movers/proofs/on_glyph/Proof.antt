@@ -2,7 +2,7 @@
 use mathlib.Core.Path.{refl}
 use borrow.Author.Needs.{needs}
 use denote.Ref.{now}
-use Rattle.movers.proofs.Calls.{flippt-here, iup-here}
+use Rattle.movers.proofs.Calls.{flippt-here, fliprg-here, iup-here}
 use Rattle.movers.proofs.on_glyph.Tie as tie
 use Rattle.movers.proofs.on_glyph.Statement.{statement}
 
@@ -17,6 +17,12 @@ enum-told-2 c = search needs
 
 flippt-requires : tie.Need-flippt-requires
 flippt-requires c κs = tt
+
+enum-told-3 : tie.Need-enum-told-3
+enum-told-3 c = search needs
+
+fliprg-requires : tie.Need-fliprg-requires
+fliprg-requires c κs = tt
 
 same-length : tie.Need-same-length
 same-length c = let k = c .before .before in k .dispatch-iup .kept .1 .1 .1 .1 .1 .1 .0
@@ -38,6 +44,13 @@ returns-2 : tie.Need-returns-2
 returns-2 c = let k = c .before .before in let e = k .before .before in let s = e .before .before .before .before in
     flippt-here (s .args .s) (s .args .opcode) (now (s .args .operands)) (now (s .args .gux)) (now (s .args .guy)) (now (s .args .gox)) (now (s .args .goy)) (now (s .args .gx)) (now (s .args .gy)) (now (s .args .gflags)) (now (s .args .contours)) (e .enum-told2 .given .1) (k .flippt .ensures)
 
+same-length-5 : tie.Need-same-length-5
+same-length-5 c = let k = c .before .before in k .fliprg .kept .1 .1 .1 .0
+
+returns-3 : tie.Need-returns-3
+returns-3 c = let k = c .before .before in let e = k .before .before in let s = e .before .before .before .before in
+    fliprg-here (s .args .s) (s .args .opcode) (now (s .args .operands)) (now (s .args .gux)) (now (s .args .guy)) (now (s .args .gox)) (now (s .args .goy)) (now (s .args .gx)) (now (s .args .gy)) (now (s .args .gflags)) (now (s .args .contours)) (e .enum-told3 .given .1) (k .fliprg .ensures)
+
 pub on-glyph-spec : {M : Type 1} → statement M
 on-glyph-spec =
     tie.close
@@ -46,9 +59,13 @@ on-glyph-spec =
     dispatch-iup-requires
     enum-told-2
     flippt-requires
+    enum-told-3
+    fliprg-requires
     same-length
     same-length-2
     same-length-3
     returns
     same-length-4
-    returns-2)
+    returns-2
+    same-length-5
+    returns-3)
