@@ -1,9 +1,9 @@
 -- `perform::perform` meets its contract: by the lists that the opcode's instruction is lent. Assumes nothing.
-use mathlib.Core.Path.{_∙_, sym}
+use mathlib.Core.Path.{_∙_, refl, sym}
 use borrow.Author.Needs.{needs}
 use denote.Ref.{now}
 use Rattle.world.specs.World.{Fixed, World, fixed, world}
-use Rattle.lines.proofs.Cases.{all-line, glyph-line, points-line, set-line}
+use Rattle.lines.proofs.Cases.{all-line, contours-line, glyph-line, points-line, set-line}
 use Rattle.perform.proofs.perform.Tie as tie
 use Rattle.perform.proofs.perform.Statement.{statement}
 
@@ -40,6 +40,12 @@ on-points-requires c κs = let s = c .before .before .before .before .before .be
 
 enum-known-lent-3 : tie.Need-enum-known-lent-3
 enum-known-lent-3 c = search needs
+
+on-contours-requires : tie.Need-on-contours-requires
+on-contours-requires c κs = let s = c .before .before .before .before .before .before .before .before .before .before .before .before .before .before .before .before in (s .pre .3 ∙ sym (s .pre .2), s .pre .6, s .pre .4, s .pre .5, s .pre .7, s .pre .8)
+
+enum-known-lent-4 : tie.Need-enum-known-lent-4
+enum-known-lent-4 c = search needs
 
 on-all-requires : tie.Need-on-all-requires
 on-all-requires c κs = let s = c .before .before .before .before .before .before .before .before .before .before .before .before .before .before .before .before in (s .pre .3 ∙ sym (s .pre .2), s .pre .6, s .pre .4, s .pre .5, s .pre .7, s .pre .8)
@@ -84,32 +90,60 @@ returns-3 c = let k = c .before .before .before .before .before .before .before 
     points-line (held s) (s .args .opcode) (now (s .args .operands)) (entry s) (i .instruction-of .ensures) (sym (l .lent-to .ensures) ∙ e .lent2 .given .1) (k .on-points .ensures)
 
 same-length-10 : tie.Need-same-length-10
-same-length-10 c = let k = c .before .before .before .before .before .before .before .before .before .before in k .on-all .kept .1 .1 .1 .1 .1 .1 .1 .0
+same-length-10 c = let k = c .before .before .before .before .before .before .before .before in k .on-contours .kept .1 .1 .1 .1 .1 .1 .1 .0
 
 same-length-11 : tie.Need-same-length-11
-same-length-11 c = let k = c .before .before .before .before .before .before .before .before .before .before in k .on-all .kept .1 .1 .1 .1 .1 .1 .1 .1 .0
+same-length-11 c = let k = c .before .before .before .before .before .before .before .before in k .on-contours .kept .1 .1 .1 .1 .1 .1 .1 .1 .0
 
 same-length-12 : tie.Need-same-length-12
-same-length-12 c = let k = c .before .before .before .before .before .before .before .before .before .before in k .on-all .kept .1 .1 .1 .1 .1 .1 .1 .1 .1 .0
+same-length-12 c = let k = c .before .before .before .before .before .before .before .before in k .on-contours .kept .1 .1 .1 .1 .1 .1 .1 .1 .1 .0
 
 same-length-13 : tie.Need-same-length-13
-same-length-13 c = let k = c .before .before .before .before .before .before .before .before .before .before in k .on-all .kept .1 .1 .1 .1 .1 .1 .1 .1 .1 .1 .0
+same-length-13 c = refl
 
 same-length-14 : tie.Need-same-length-14
-same-length-14 c = let k = c .before .before .before .before .before .before .before .before .before .before in k .on-all .kept .1 .1 .1 .1 .1 .1 .1 .1 .1 .1 .1 .0
+same-length-14 c = refl
 
 same-length-15 : tie.Need-same-length-15
-same-length-15 c = let k = c .before .before .before .before .before .before .before .before .before .before in k .on-all .kept .1 .1 .1 .1 .1 .1 .1 .1 .1 .1 .1 .1 .0
+same-length-15 c = let k = c .before .before .before .before .before .before .before .before in k .on-contours .kept .1 .1 .1 .1 .1 .1 .1 .1 .1 .1 .1 .1 .0
 
 same-length-16 : tie.Need-same-length-16
-same-length-16 c = let k = c .before .before .before .before .before .before .before .before .before .before in k .on-all .kept .1 .1 .1 .1 .1 .1 .1 .1 .1 .1 .1 .1 .1 .0
+same-length-16 c = let k = c .before .before .before .before .before .before .before .before in k .on-contours .kept .1 .1 .1 .1 .1 .1 .1 .1 .1 .1 .1 .1 .1 .0
 
 same-length-17 : tie.Need-same-length-17
-same-length-17 c = let k = c .before .before .before .before .before .before .before .before .before .before in k .on-all .kept .1 .1 .1 .1 .1 .1 .1 .1 .1 .1 .1 .1 .1 .1 .0
+same-length-17 c = let k = c .before .before .before .before .before .before .before .before in k .on-contours .kept .1 .1 .1 .1 .1 .1 .1 .1 .1 .1 .1 .1 .1 .1 .0
 
 returns-4 : tie.Need-returns-4
-returns-4 c = let k = c .before .before .before .before .before .before .before .before .before .before in let e = k .before .before .before .before .before .before .before .before .before .before in let l = e .before .before in let i = l .before in let s = i .before .before .before .before in
-    all-line (held s) (s .args .opcode) (now (s .args .operands)) (entry s) (i .instruction-of .ensures) (sym (l .lent-to .ensures) ∙ e .lent3 .given .1) (k .on-all .ensures)
+returns-4 c = let k = c .before .before .before .before .before .before .before .before in let e = k .before .before .before .before .before .before .before .before .before .before in let l = e .before .before in let i = l .before in let s = i .before .before .before .before in
+    contours-line (held s) (s .args .opcode) (now (s .args .operands)) (entry s) (i .instruction-of .ensures) (sym (l .lent-to .ensures) ∙ e .lent3 .given .1) (k .on-contours .ensures)
+
+same-length-18 : tie.Need-same-length-18
+same-length-18 c = let k = c .before .before .before .before .before .before .before .before .before .before in k .on-all .kept .1 .1 .1 .1 .1 .1 .1 .0
+
+same-length-19 : tie.Need-same-length-19
+same-length-19 c = let k = c .before .before .before .before .before .before .before .before .before .before in k .on-all .kept .1 .1 .1 .1 .1 .1 .1 .1 .0
+
+same-length-20 : tie.Need-same-length-20
+same-length-20 c = let k = c .before .before .before .before .before .before .before .before .before .before in k .on-all .kept .1 .1 .1 .1 .1 .1 .1 .1 .1 .0
+
+same-length-21 : tie.Need-same-length-21
+same-length-21 c = let k = c .before .before .before .before .before .before .before .before .before .before in k .on-all .kept .1 .1 .1 .1 .1 .1 .1 .1 .1 .1 .0
+
+same-length-22 : tie.Need-same-length-22
+same-length-22 c = let k = c .before .before .before .before .before .before .before .before .before .before in k .on-all .kept .1 .1 .1 .1 .1 .1 .1 .1 .1 .1 .1 .0
+
+same-length-23 : tie.Need-same-length-23
+same-length-23 c = let k = c .before .before .before .before .before .before .before .before .before .before in k .on-all .kept .1 .1 .1 .1 .1 .1 .1 .1 .1 .1 .1 .1 .0
+
+same-length-24 : tie.Need-same-length-24
+same-length-24 c = let k = c .before .before .before .before .before .before .before .before .before .before in k .on-all .kept .1 .1 .1 .1 .1 .1 .1 .1 .1 .1 .1 .1 .1 .0
+
+same-length-25 : tie.Need-same-length-25
+same-length-25 c = let k = c .before .before .before .before .before .before .before .before .before .before in k .on-all .kept .1 .1 .1 .1 .1 .1 .1 .1 .1 .1 .1 .1 .1 .1 .0
+
+returns-5 : tie.Need-returns-5
+returns-5 c = let k = c .before .before .before .before .before .before .before .before .before .before in let e = k .before .before .before .before .before .before .before .before .before .before in let l = e .before .before in let i = l .before in let s = i .before .before .before .before in
+    all-line (held s) (s .args .opcode) (now (s .args .operands)) (entry s) (i .instruction-of .ensures) (sym (l .lent-to .ensures) ∙ e .lent4 .given .1) (k .on-all .ensures)
 
 pub perform-spec : {M : Type 1} → statement M
 perform-spec =
@@ -124,6 +158,8 @@ perform-spec =
     enum-known-lent-2
     on-points-requires
     enum-known-lent-3
+    on-contours-requires
+    enum-known-lent-4
     on-all-requires
     returns
     same-length
@@ -145,4 +181,13 @@ perform-spec =
     same-length-15
     same-length-16
     same-length-17
-    returns-4)
+    returns-4
+    same-length-18
+    same-length-19
+    same-length-20
+    same-length-21
+    same-length-22
+    same-length-23
+    same-length-24
+    same-length-25
+    returns-5)
