@@ -19,7 +19,8 @@ use Rattle.replay.specs.Run.{entryOf, onEntry as runOnEntry, runOf}
 use Rattle.step.specs.Step.{onDecoded, stepOf}
 use Rattle.world.specs.Sizes.{worldFits}
 use Rattle.axes.specs.Axes.{Straight, interpolatesAcross, mixes}
-use Rattle.axes.proofs.Still.{WorldStill, line-still, stays, then}
+use Rattle.axes.proofs.Inert.{stays, then}
+use Rattle.axes.proofs.Still.{WorldStill, line-still}
 use Rattle.axes.specs.declared.Axis.the-variants.{X, Y}
 use Rattle.apart.specs.Reached.{afterCall, afterLine, linesReached, none, onEntry as reachedOnEntry, opcodeAt, reachedFrom}
 use Rattle.graphics.specs.State.{allAlong, usableState, xAxis, yAxis}

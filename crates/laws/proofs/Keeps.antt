@@ -24,12 +24,12 @@ use Rattle.zone.proofs.Cases.{either}
 use Rattle.onward.proofs.Loop.{same-sizes, still-alike}
 use Rattle.replay.proofs.Entry.{entered-alike}
 use Rattle.looped.proofs.Keeps.{BothSame, flippt-length, shp-lengths}
-use Rattle.looped.specs.Looped.{Went, Zones}
+use Rattle.looped.specs.Looped.{Zones}
 use Rattle.ranges.proofs.Keeps.{fliprg-length}
 use Rattle.pixels.proofs.Keeps.{shpix-lengths}
 use Rattle.shifts.proofs.Keeps.{shc-lengths, shz-lengths}
 use Rattle.zone.specs.Sizes.{glyphFits, pairFits, placedFits, twilightFits}
-use Rattle.lines.specs.Dispatch.{instructionOf, intoZones, lineBy, lineOf, zonesOf}
+use Rattle.lines.specs.Dispatch.{instructionOf, lineBy, lineOf, zonesOf}
 use Rattle.intersect.proofs.Keeps.{isect-lengths}
 use Rattle.interpolate.proofs.Keeps.{iup-lengths}
 use Rattle.outline.proofs.Keeps.{mdap-lengths}
@@ -39,7 +39,7 @@ use Rattle.relative.proofs.Keeps.{msirp-lengths}
 use Rattle.step.proofs.Steps.{operands-inside}
 use Rattle.graphics.specs.State.{usableState}
 use Rattle.laws.proofs.Usable.{alignrp-usable, flippt-usable, fliprg-usable, isect-usable, iup-usable, mdap-usable, miap-usable, msirp-usable, set-usable, shc-usable, shp-usable, shpix-usable, shz-usable}
-use Rattle.onward.proofs.Loop.{Sizes, sizes}
+use Rattle.onward.proofs.Loop.{Sizes, mkSizes, sizes}
 use Rattle.step.specs.Step.{stepOf}
 use Rattle.answer.specs.declared.Call.the-variants.{Refused as RefusedCall}
 use Rattle.sheet.specs.declared.Decoded.the-variants.{Refused as RefusedLine}
@@ -56,8 +56,9 @@ pub left-by-both : {u v w : World} → Left u v → Left v w → Left u w
 left-by-both a b = record { lengths = b .lengths ∙ a .lengths; usable = λ h. b .usable (a .usable h) }
 
 -- ---- one line
-zones-sizes : (w : World) (g : Went Zones) → BothSame (g .left) (zonesOf w) → sizes (intoZones w g .world) ≡ sizes w
-zones-sizes w g k =
+zones-sizes : (w : World) {z : Zones} → BothSame z (zonesOf w)
+    → mkSizes (length (z .glyph .xs)) (length (z .glyph .ys)) (length (z .glyph .flags)) (length (w .tox)) (length (w .toy)) (length (z .twilight .xs)) (length (z .twilight .ys)) (length (z .twilight .flags)) ≡ sizes w
+zones-sizes w k =
     same-sizes (k .glyph .xs) (k .glyph .ys) (k .glyph .flags) refl refl (k .twilight .xs) (k .twilight .ys) (k .twilight .flags)
 
 module _ (f : Fixed) (op : ℕ) (operands : List ℤ) (w : World) (alike : Alike f w) where
@@ -78,14 +79,14 @@ module _ (f : Fixed) (op : ℕ) (operands : List ℤ) (w : World) (alike : Alike
       (w .state)
       op in
       same-sizes (k .gx) (k .gy) refl refl refl refl refl refl
-  instruction-lengths Shp = zones-sizes w _ (shp-lengths (w .state) op operands (f .gox) (f .goy) (w .tox) (w .toy) (zonesOf w))
-  instruction-lengths Shc = zones-sizes w _ (shc-lengths (w .state) op operands (f .contours) (f .gox) (f .goy) (w .tox) (w .toy) (zonesOf w))
-  instruction-lengths Shz = zones-sizes w _ (shz-lengths (w .state) op operands (f .contours) (f .gox) (f .goy) (w .tox) (w .toy) (zonesOf w))
-  instruction-lengths Shpix = zones-sizes w _ (shpix-lengths (w .state) operands (zonesOf w))
+  instruction-lengths Shp = zones-sizes w (shp-lengths (w .state) op operands (f .gox) (f .goy) (w .tox) (w .toy) (zonesOf w))
+  instruction-lengths Shc = zones-sizes w (shc-lengths (w .state) op operands (f .contours) (f .gox) (f .goy) (w .tox) (w .toy) (zonesOf w))
+  instruction-lengths Shz = zones-sizes w (shz-lengths (w .state) op operands (f .contours) (f .gox) (f .goy) (w .tox) (w .toy) (zonesOf w))
+  instruction-lengths Shpix = zones-sizes w (shpix-lengths (w .state) operands (zonesOf w))
   instruction-lengths Msirp =
       let k = msirp-lengths (w .state) op operands (w .gx) (w .gy) (w .gflags) (w .tox) (w .toy) (w .tx) (w .ty) (w .tflags) in
       same-sizes (k .gx) (k .gy) (k .gflags) (k .ox) (k .oy) (k .tx) (k .ty) (k .tflags)
-  instruction-lengths Alignrp = zones-sizes w _ (alignrp-lengths (w .state) operands (zonesOf w))
+  instruction-lengths Alignrp = zones-sizes w (alignrp-lengths (w .state) operands (zonesOf w))
   instruction-lengths Miap =
       let k = miap-lengths (w .state) op (w .gx) (w .gy) (w .gflags) (w .tox) (w .toy) (w .tx) (w .ty) (w .tflags) operands (f .controls) in
       same-sizes (k .gx) (k .gy) (k .gflags) (k .ox) (k .oy) (k .tx) (k .ty) (k .tflags)
