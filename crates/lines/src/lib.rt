@@ -2,7 +2,7 @@
 //
 // What a line does with the world is `lineOf` of specs/Dispatch.antt. `instruction_of` and `lent_to` are one equation each with their definitions;
 // proofs/Cases.antt says that a line is what specs/Lent.antt says of the lists it is lent, laid back into the world. The calls are made by the crates
-// movers, contoured, originals and perform.
+// glyphs, movers, contoured, originals and perform.
 ghost use mathlib.Core.Path.{_≡_};
 ghost use Rattle.lines.specs.Dispatch.{between, instructionOf};
 ghost use Rattle.lines.specs.Lent.{lentTo};

@@ -4,12 +4,12 @@
 // that the lists of each zone share one length, which the run tests once at its entry, and nothing else. That an opcode is known and the operands
 // aren't too many is tested by the crate sheet before.
 use contoured::on_contours;
+use glyphs::on_glyph;
 use graphics::GraphicsState;
 use line::Stepped;
 use lines::Lent;
 use lines::instruction_of;
 use lines::lent_to;
-use movers::on_glyph;
 use movers::on_points;
 use originals::on_all;
 use sheet::set_state;

@@ -1,10 +1,10 @@
--- `movers::on_glyph` meets its contract: by the line, whose call says it of the same lists. Assumes nothing.
+-- `glyphs::on_glyph` meets its contract: by the line, whose call says it of the same lists. Assumes nothing.
 use mathlib.Core.Path.{refl}
 use borrow.Author.Needs.{needs}
 use denote.Ref.{now}
-use Rattle.movers.proofs.Calls.{flippt-here, fliprg-here, iup-here}
-use Rattle.movers.proofs.on_glyph.Tie as tie
-use Rattle.movers.proofs.on_glyph.Statement.{statement}
+use Rattle.glyphs.proofs.Calls.{flippt-here, fliprg-here, iup-here}
+use Rattle.glyphs.proofs.on_glyph.Tie as tie
+use Rattle.glyphs.proofs.on_glyph.Statement.{statement}
 
 enum-told : tie.Need-enum-told
 enum-told c = search needs
