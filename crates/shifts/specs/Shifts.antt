@@ -28,7 +28,7 @@ pointAfter contours (suc k) = suc (getD contours k 0)
 abbrev pub noContour : GraphicsState → ℕ → Stepped
 noContour s index = cond (s .facts .pedantic) (refusedWith s (Contour index)) (doneWith s)
 
--- the twilight zone has one, of all its points
+-- the twilight zone has one, of all its points (`sizeOf` takes its first number for the glyph, its second for twilight)
 unfoldable pub shcAt : GraphicsState → ℕ → ℕ → List ℕ → List ℤ → List ℤ → List ℤ → List ℤ → Zones → Went Zones
 shcAt s opcode index contours gox goy tox toy z =
     cond (ltb index (sizeOf (length contours) 1 (s .pointers .zp2)))
