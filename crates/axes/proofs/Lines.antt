@@ -30,20 +30,24 @@ use Rattle.axes.proofs.Shifts.{shc-seen, shpix-seen, shz-seen}
 use Rattle.axes.proofs.Seen.{x-again, y-again}
 
 -- ---- which lines intersect
+-- a number for each instruction, by which one is told from the others
+abbrev pub lineNumber : Instruction → ℕ
+lineNumber Set = 0
+lineNumber Isect = 1
+lineNumber Mdap = 2
+lineNumber Iup = 3
+lineNumber Shp = 4
+lineNumber Shc = 5
+lineNumber Shz = 6
+lineNumber Shpix = 7
+lineNumber Msirp = 8
+lineNumber Alignrp = 9
+lineNumber Miap = 10
+lineNumber Flippt = 11
+lineNumber Fliprg = 12
+
 abbrev pub isIntersection : Instruction → Bool
-isIntersection Isect = true
-isIntersection Set = false
-isIntersection Mdap = false
-isIntersection Iup = false
-isIntersection Shp = false
-isIntersection Shc = false
-isIntersection Shz = false
-isIntersection Shpix = false
-isIntersection Msirp = false
-isIntersection Alignrp = false
-isIntersection Miap = false
-isIntersection Flippt = false
-isIntersection Fliprg = false
+isIntersection i = eqb (lineNumber i) (lineNumber Isect)
 
 pub or-left : (a b : Bool) → a || b ≡ false → a ≡ false
 or-left false b e = refl

@@ -55,7 +55,7 @@ use Rattle.point.proofs.Bits.{xor-keeps}
 use Rattle.looped.specs.Each.{pass}
 use Rattle.axes.proofs.Inert.{Inert, PointsStill, apply-still, inert-move, inert-zp2, on-curve-apart, shift-in-still, stays, then}
 use Rattle.axes.proofs.Rows.{fliprg-still, shc-still, shpix-still, shz-still}
-use Rattle.axes.proofs.Lines.{isIntersection, no-intersection, or-left}
+use Rattle.axes.proofs.Lines.{isIntersection, lineNumber, no-intersection, or-left}
 
 -- ---- the lines that place a point
 abbrev PlacedStill : Axis → List ℤ → List ℤ → List ℕ → Placed → Type 0
@@ -240,19 +240,7 @@ clash : true ≡ false → ⊥
 clash e = subst Truth e tt
 
 abbrev isIup : Instruction → Bool
-isIup Iup = true
-isIup Set = false
-isIup Isect = false
-isIup Mdap = false
-isIup Shp = false
-isIup Shc = false
-isIup Shz = false
-isIup Shpix = false
-isIup Msirp = false
-isIup Alignrp = false
-isIup Miap = false
-isIup Flippt = false
-isIup Fliprg = false
+isIup i = eqb (lineNumber i) (lineNumber Iup)
 
 other-line : (i : Instruction) → isIup i ≡ false → i ≡ Iup → ⊥
 other-line i n e = clash (sym (ap isIup e) ∙ n)
