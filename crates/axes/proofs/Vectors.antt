@@ -32,7 +32,7 @@ use Rattle.int.specs.Word.{eqZ}
 use Rattle.zone.specs.Zone.{fetchOf, placeOf}
 use Rattle.outline.specs.Numbers.{fromOrigin, mdapDistance}
 use Rattle.places.specs.Lines.{indexAt, isOdd}
-use Rattle.sheet.specs.Setters.{loopBy, onOperand, operandBy, pointerBy, referenceBy, setBy, zoneBy}
+use Rattle.sheet.specs.Setters.{loopBy, onOperand, operandBy, pointerBy, referenceBy, setBy, takesOperand, zoneBy}
 use Rattle.outline.specs.Absolute.{mdapAt, mdapFrom, mdapIn, mdapOf, outsideMdap, placeBy, settled}
 use Rattle.miap.specs.Miap.{miapAt, miapFrom, miapIn, miapOf, miapTwilight}
 use Rattle.miap.specs.Numbers.{miapDistance}
@@ -63,7 +63,8 @@ loop-held s word = by-test s (nonNeg word) _ _ refl refl
 
 operand-held : (s : GraphicsState) (op : ℕ) (word : ℤ) → Held s (operandBy s op word .state)
 unfolding operandBy referenceBy
-operand-held s op word = by-test s (ltb op 0x13) _ _ refl (by-test s (ltb op 0x17) _ _ (zone-held s op word) (loop-held s word))
+operand-held s op word =
+    by-test s (ltb op 0x13) _ _ refl (by-test s (ltb op 0x17) _ _ (zone-held s op word) (by-test s (ltb op 0x18) _ _ (loop-held s word) refl))
 
 operands-held : (s : GraphicsState) (op : ℕ) (operands : List ℤ) → Held s (onOperand s (operandBy s op) operands .state)
 operands-held s op [] = refl
@@ -71,7 +72,7 @@ operands-held s op (word ∷ words) = operand-held s op word
 
 pub others-held : (s : GraphicsState) (op : ℕ) (operands : List ℤ) → ltb op 0x06 ≡ false → Held s (setBy s op operands .state)
 unfolding setBy
-others-held s op operands e = rw e (by-test s (ltb 0x17 op) _ _ refl (operands-held s op operands))
+others-held s op operands e = rw e (by-test s (takesOperand op) _ _ (operands-held s op operands) refl)
 
 -- ---- the looped lines
 pub flippt-held : (s : GraphicsState) (operands : List ℤ) (flags : List ℕ) → Held s (flipptOf s operands flags .stepped .state)

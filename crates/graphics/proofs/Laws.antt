@@ -6,6 +6,7 @@ use mathlib.Core.Bool.{Bool, true, false, _&&_}
 use Prim.Native.Nat.{ℕ}
 use Rattle.round.specs.Round.{usable, usableBy}
 use Rattle.round.specs.declared.RoundMode.{RoundMode}
+use Rattle.round.specs.declared.RoundState.{RoundState}
 use Rattle.graphics.specs.State.{xAxis, yAxis, inRange, vectorInRange, vectorsInRange, usableState, freshState, withReferences, withLoopCounter, withPointers, withFacts, withVectors, withRound, allAlong, measuredAlong, movedAlong, inMode}
 use Rattle.graphics.specs.declared.Vector.{Vector}
 use Rattle.graphics.specs.declared.References.{References}
@@ -91,7 +92,10 @@ module _ (s : GraphicsState) (ok : usableState s ≡ true) where
   unfolding usableState vectorsInRange
   usable-freedom-vector v h = rw (measured-ok, h, round-ok)
 
+  pub usable-round : (r : RoundState) → usable r ≡ true → usableState (withRound s r) ≡ true
+  unfolding usableState
+  usable-round r h = rw (vectors-ok, h)
+
   -- every mode but Super45, and that one with a period
   pub usable-round-mode : (m : RoundMode) → usableBy (s .round .period) m ≡ true → usableState (withRound s (inMode (s .round) m)) ≡ true
-  unfolding usableState
-  usable-round-mode m h = rw (vectors-ok, h)
+  usable-round-mode m h = usable-round (inMode (s .round) m) h

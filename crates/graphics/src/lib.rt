@@ -266,6 +266,14 @@ impl GraphicsState {
         self
     }
 
+    // The whole round state set, as SROUND and S45ROUND do.
+    pub fn with_round(mut self, round: RoundState) -> GraphicsState
+        ensures { λ r. ⌜ r ≡ withRound self round ⌝ }
+    {
+        self.round = round;
+        self
+    }
+
     pub fn with_loop_counter(mut self, count: u32) -> GraphicsState
         ensures { λ r. ⌜ r ≡ withLoopCounter self count ⌝ }
     {

@@ -1,5 +1,6 @@
 -- A line that is given a usable state leaves one: by cases on the line. A line sets the vectors to an axis, which is in range, or the mode to one
--- that divides by no period, or parts of the state that the test doesn't read. Assumes nothing.
+-- that divides by no period, or the round state to a selector's, whose period is never 0, or parts of the state that the test doesn't read.
+-- Assumes nothing.
 use mathlib.Core.Bool.{Bool, false, true}
 use mathlib.Core.List.{List, [], _∷_}
 use Prim.Native.Nat.{_%_, ℕ}
@@ -30,7 +31,7 @@ use Rattle.spans.specs.Span.{spanBy, spanOf}
 use Rattle.shifts.specs.Shifts.{shcAt, shcOf, shzOf}
 use Rattle.align.specs.Align.{alignrpOf}
 use Rattle.moves.specs.Apply.{applyOf}
-use Rattle.sheet.specs.Setters.{axisBy, loopBy, modeBy, onOperand, operandBy, pointerBy, referenceBy, setBy, vectorsBy, zoneBy}
+use Rattle.sheet.specs.Setters.{axisBy, loopBy, modeBy, onOperand, operandBy, pointerBy, referenceBy, setBy, takesOperand, vectorsBy, zoneBy}
 use Rattle.miap.specs.Numbers.{controlPlace, miapDistance}
 use Rattle.line.specs.Line.{doneWith}
 use Rattle.zone.proofs.Cases.{either}
@@ -45,8 +46,10 @@ use Rattle.outline.specs.Absolute.{mdapAt, mdapFrom, mdapIn, mdapOf, outsideMda
 use Rattle.miap.specs.Miap.{miapAt, miapFrom, miapIn, miapOf, miapTwilight}
 use Rattle.moves.specs.Move.{moveOf}
 use Rattle.places.specs.Places.{placeIn, sizeOf}
-use Rattle.graphics.proofs.Laws.{usable-all-vectors, usable-facts, usable-freedom-vector, usable-loop, usable-pointers, usable-projection-vectors, usable-references, usable-round-mode, x-in-range, y-in-range}
+use Rattle.graphics.proofs.Laws.{usable-all-vectors, usable-facts, usable-freedom-vector, usable-loop, usable-pointers, usable-projection-vectors, usable-references, usable-round, usable-round-mode, x-in-range, y-in-range}
 use Rattle.round.specs.Round.{usableBy}
+use Rattle.selector.specs.Selector.{superOf}
+use Rattle.selector.proofs.Facts.{super-usable}
 
 -- an outcome whose state is usable where this one is
 abbrev pub Usable : GraphicsState → Stepped → Type 0
@@ -92,7 +95,11 @@ loop-usable s word = either (Usable s) (nonNeg word) (λ h. usable-loop s _ ∙ 
 operand-usable : (s : GraphicsState) (op : ℕ) (word : ℤ) → Usable s (operandBy s op word)
 unfolding operandBy
 operand-usable s op word =
-    either (Usable s) (ltb op 0x13) (reference-usable s op (indexOf word)) (either (Usable s) (ltb op 0x17) (zone-usable s op word) (loop-usable s word))
+    either (Usable s) (ltb op 0x13)
+    (reference-usable s op (indexOf word))
+    (either (Usable s) (ltb op 0x17)
+    (zone-usable s op word)
+    (either (Usable s) (ltb op 0x18) (loop-usable s word) (λ h. usable-round s h (superOf (eqb op 0x77) word) (super-usable (eqb op 0x77) word))))
 
 on-operand-usable : (s : GraphicsState) (f : ℤ → Stepped) → ((word : ℤ) → Usable s (f word)) → (operands : List ℤ) → Usable s (onOperand s f operands)
 on-operand-usable s f ok [] = λ h. h
@@ -102,9 +109,9 @@ pub set-usable : (s : GraphicsState) (op : ℕ) (operands : List ℤ) → Usable
 unfolding setBy
 set-usable s op operands =
     either (Usable s) (ltb op 0x06) (vectors-usable s op)
-    (either (Usable s) (ltb 0x17 op)
-    (λ h. usable-round-mode s h (modeBy op) (mode-divides-by-none (s .round .period) op))
-    (on-operand-usable s (operandBy s op) (operand-usable s op) operands))
+    (either (Usable s) (takesOperand op)
+    (on-operand-usable s (operandBy s op) (operand-usable s op) operands)
+    (λ h. usable-round-mode s h (modeBy op) (mode-divides-by-none (s .round .period) op)))
 
 -- ---- MDAP
 settled-usable : (s : GraphicsState) (at : ℕ) (call : Call) → Usable s (settled s at call)

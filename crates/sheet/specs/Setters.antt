@@ -1,8 +1,9 @@
 -- The lines that set the state and move no point: the OpenType instructions SVTCA, SPVTCA, SFVTCA, SRP0 to SRP2, SZP0 to SZP2, SZPS, SLOOP, RTG, RTHG,
--- RTDG, RDTG, RUTG and ROFF. Document 01 gives the refusals 6, 9 and 10, and SLOOP's cap. Assumes nothing.
+-- RTDG, RDTG, RUTG, ROFF, SROUND and S45ROUND. Document 01 gives the refusals 6, 9 and 10, and SLOOP's cap; document 02, K2, the last two lines.
+-- Assumes nothing.
 use Prim.Native.Nat.{ℕ, _%_, min}
 use mathlib.Core.List.{List, [], _∷_}
-use mathlib.Core.Bool.{cond}
+use mathlib.Core.Bool.{Bool, cond, _||_}
 use lib.IntN.{ℤ, pos, natAbs}
 use lib.Signed.{nonNeg}
 use lib.Dec.{ltb, eqb}
@@ -10,6 +11,7 @@ use Rattle.int.specs.Word.{eqZ, indexOf}
 use Rattle.answer.specs.declared.Refusal.the-variants.{Missing, ZonePointer, LoopCount}
 use Rattle.round.specs.declared.RoundMode.{RoundMode}
 use Rattle.round.specs.declared.RoundMode.the-variants.{Grid, HalfGrid, DoubleGrid, DownToGrid, UpToGrid, Off}
+use Rattle.selector.specs.Selector.{superOf}
 use Rattle.graphics.specs.declared.GraphicsState.{GraphicsState}
 use Rattle.graphics.specs.declared.Vector.{Vector}
 use Rattle.graphics.specs.declared.ZonePointer.{ZonePointer as Pointer}
@@ -60,13 +62,17 @@ modeBy op =
     cond (eqb op 0x18) Grid
     (cond (eqb op 0x19) HalfGrid (cond (eqb op 0x3D) DoubleGrid (cond (eqb op 0x7D) DownToGrid (cond (eqb op 0x7C) UpToGrid Off))))
 
--- 10 to 17: the lines with one operand
+-- 10 to 17, 76, 77: the lines with one operand
+abbrev pub takesOperand : ℕ → Bool
+takesOperand op = ltb op 0x18 || (eqb op 0x76 || eqb op 0x77)
+
 unfoldable pub operandBy : GraphicsState → ℕ → ℤ → Stepped
 operandBy s op word =
-    cond (ltb op 0x13) (doneWith (referenceBy s op (indexOf word))) (cond (ltb op 0x17) (zoneBy s op word) (loopBy s word))
+    cond (ltb op 0x13) (doneWith (referenceBy s op (indexOf word)))
+    (cond (ltb op 0x17) (zoneBy s op word) (cond (ltb op 0x18) (loopBy s word) (doneWith (withRound s (superOf (eqb op 0x77) word)))))
 
 -- a line that sets the state, by its opcode
 unfoldable pub setBy : GraphicsState → ℕ → List ℤ → Stepped
 setBy s op operands =
     cond (ltb op 0x06) (doneWith (vectorsBy s op))
-    (cond (ltb 0x17 op) (doneWith (withRound s (inMode (s .round) (modeBy op)))) (onOperand s (operandBy s op) operands))
+    (cond (takesOperand op) (onOperand s (operandBy s op) operands) (doneWith (withRound s (inMode (s .round) (modeBy op)))))

@@ -1,5 +1,5 @@
 -- What each opcode's line takes, and how a line is read off a sheet: document 01, "A sheet and its lines", and
--- document 02, K1 (0x34 to 0x38, 0x81, 0x82). Assumes nothing.
+-- document 02, K1 (0x34 to 0x38, 0x81, 0x82) and K2 (0x76, 0x77). Assumes nothing.
 use Prim.Native.Nat.{ℕ, zero, suc, _+_, _-_}
 use mathlib.Core.List.{List, [], _∷_}
 use mathlib.Core.Bool.{Bool, true, false, cond, _&&_}
@@ -38,6 +38,7 @@ rows =
     ∷ (0x3C, 0x3C, looped)
     ∷ (0x3D, 0x3D, 0)
     ∷ (0x3E, 0x3F, 2)
+    ∷ (0x76, 0x77, 1)
     ∷ (0x7A, 0x7A, 0)
     ∷ (0x7C, 0x7D, 0)
     ∷ (0x80, 0x80, looped)

@@ -14,10 +14,11 @@ use line::Stepped;
 use line::done;
 use line::refused;
 use round::RoundMode;
+use selector::super_round;
 ghost use mathlib.Core.Path.{_≡_};
 ghost use Prim.Native.Nat.{_<_, min};
 ghost use Rattle.sheet.specs.Table.{needOf, takesBy, decodeOf};
-ghost use Rattle.sheet.specs.Setters.{axisBy, vectorsBy, referenceBy, pointerBy, zoneBy, loopBy, modeBy, operandBy, setBy};
+ghost use Rattle.sheet.specs.Setters.{axisBy, vectorsBy, referenceBy, pointerBy, zoneBy, loopBy, modeBy, takesOperand, operandBy, setBy};
 
 // As many operands as the loop counter says.
 pub const LOOPED: u8 = 254;
@@ -147,8 +148,8 @@ const NEEDS: [u8; 256] = [
     255,
     255,
     255,
-    255,
-    255,
+    1,
+    1,
     255,
     255,
     0,
@@ -452,6 +453,13 @@ fn mode_by(opcode: usize) -> RoundMode
     }
 }
 
+// SRP0 to SLOOP, SROUND and S45ROUND.
+fn takes_operand(opcode: usize) -> bool
+    ensures { λ r. ⌜ r ≡ takesOperand opcode ⌝ }
+{
+    (opcode < 0x18) | ((opcode == 0x76) | (opcode == 0x77))
+}
+
 // A line that takes one operand and sets the state.
 fn set_by_operand(s: GraphicsState, opcode: usize, word: i32) -> Stepped
     ensures { λ r. ⌜ r ≡ operandBy s opcode word ⌝ }
@@ -460,8 +468,10 @@ fn set_by_operand(s: GraphicsState, opcode: usize, word: i32) -> Stepped
         done(set_reference(s, opcode, as_index(word)))
     } else if opcode < 0x17 {
         set_zone(s, opcode, word)
-    } else {
+    } else if opcode < 0x18 {
         set_loop(s, word)
+    } else {
+        done(s.with_round(super_round(opcode == 0x77, word)))
     }
 }
 
@@ -472,7 +482,7 @@ pub fn set_state(s: GraphicsState, opcode: usize, operands: &[i32]) -> Stepped
     if opcode < 0x06 {
         return done(set_vectors(s, opcode));
     }
-    if 0x17 < opcode {
+    if !takes_operand(opcode) {
         return done(s.with_round_mode(mode_by(opcode)));
     }
     if operands.len() == 0 {
