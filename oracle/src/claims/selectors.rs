@@ -10,6 +10,7 @@ const S45ROUND: i32 = 0x77;
 pub fn check(claims: &mut Claims) {
     selectors_by_hand(claims);
     bits_that_do_not_count(claims);
+    when_the_shift_comes(claims);
     counts_of_operands(claims);
     periods_of_zero(claims);
 }
@@ -96,6 +97,32 @@ fn bits_that_do_not_count(claims: &mut Claims) {
             claims.same(&what, set(opcode, operand), set(opcode, 0x48));
         }
     }
+}
+
+/// All is shifted at the end: the thresholds show it, the phases don't.
+fn when_the_shift_comes(claims: &mut Claims) {
+    let parted = |part: fn(Rounding, i32) -> (i32, i32)| {
+        let both = [SROUND, S45ROUND].into_iter();
+        let sets = both.flat_map(|opcode| (0..=255).map(move |byte| (set(opcode, byte), byte)));
+        sets.filter(|(set, byte)| {
+            let (number, of_shifted) = part(*set, *byte);
+            number != of_shifted
+        })
+        .count()
+    };
+    claims.same(
+        "phases that aren't quarters of the shifted period, of 512",
+        parted(|set, byte| (set.phase, set.period * (byte >> 4 & 3) / 4)),
+        0,
+    );
+    claims.same(
+        "thresholds that aren't eighths of it, or it less one, of 512",
+        parted(|set, byte| match byte & 15 {
+            0 => (set.threshold, set.period - 1),
+            eighths => (set.threshold, (eighths - 4) * set.period / 8),
+        }),
+        84,
+    );
 }
 
 fn counts_of_operands(claims: &mut Claims) {

@@ -80,11 +80,11 @@ pub fn selector_counts() -> Vec<Case> {
             &[opcode, 4, 0x48],
             &[0x2F, 1, 0, opcode, 1, 0x9B],
         ];
-        for rounding in brought_roundings() {
-            for (line, pedantic) in lines.iter().zip([false, true].into_iter().cycle()) {
+        for (row, rounding) in brought_roundings().into_iter().enumerate() {
+            for (column, line) in lines.iter().enumerate() {
                 let scene = Scene::new(&[(75, -75)]).state(|state| {
                     state.rounding = rounding;
-                    state.pedantic = pedantic;
+                    state.pedantic = (row + column) % 2 == 1;
                 });
                 let sheet: Vec<i32> = line.iter().chain(&[0x2F, 1, 0]).copied().collect();
                 cases.push(scene.sheet(&sheet).case(WHOLE_RUN));
