@@ -121,7 +121,7 @@ fn when_the_shift_comes(claims: &mut Claims) {
             0 => (set.threshold, set.period - 1),
             eighths => (set.threshold, (eighths - 4) * set.period / 8),
         }),
-        84,
+        100,
     );
 }
 
