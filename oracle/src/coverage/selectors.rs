@@ -1,6 +1,7 @@
 //! Which selectors came up, and what rounded by them, told from what was given
 //! and from the state before each line. Nothing here decides an outcome.
 
+use super::branches::keeps_control_value;
 use crate::{
     case::{Case, Outcome},
     direct::Call,
@@ -93,12 +94,15 @@ fn world_before(case: &Case, number: usize) -> World {
     world
 }
 
-/// MDAP's point, or MIAP's control value, as a distance; none for a point that
-/// isn't there.
+/// MDAP's point as a distance, or MIAP's control value if it is kept; none
+/// where nothing is rounded.
 fn distance_rounded(world: &World, line: &ReachedLine) -> Option<i32> {
+    if world.state.native_cleartype_x {
+        return None;
+    }
     if line.opcode == 0x3F {
-        let value = world.lists[CONTROL_VALUES].get(line.operands[0] as usize)?;
-        return Some(*value as i32);
+        let value = world.lists[CONTROL_VALUES][line.operands[0] as usize];
+        return keeps_control_value(world, line).then_some(value as i32);
     }
     let x = if world.state.zones[0] == 0 {
         TWILIGHT_CURRENT_X
