@@ -195,6 +195,9 @@ static void store_state(World *world)
     store_vector(state + DUAL, context.GS.dualVector);
     store_vector(state + FREEDOM, context.GS.freeVector);
     state[MODE] = (uint32_t)mode_between(context.GS.round_state);
+    state[THRESHOLD] = (uint32_t)context.threshold;
+    state[PHASE] = (uint32_t)context.phase;
+    state[PERIOD] = (uint32_t)context.period;
     store_reference(state + REFERENCES, context.GS.rp0);
     store_reference(state + REFERENCES + 2, context.GS.rp1);
     store_reference(state + REFERENCES + 4, context.GS.rp2);

@@ -3,7 +3,8 @@
 import streams
 
 ONE = 16384
-SETTERS = [0, 1, 2, 3, 4, 5, 0x10, 0x11, 0x12, 0x13, 0x14, 0x15, 0x16, 0x17, 0x18, 0x19, 0x3D, 0x7D, 0x7C, 0x7A]
+SETTERS = [0, 1, 2, 3, 4, 5, 0x10, 0x11, 0x12, 0x13, 0x14, 0x15, 0x16, 0x17, 0x18, 0x19, 0x3D, 0x7D, 0x7C, 0x7A,
+           0x76, 0x77]
 MOVERS = [0x0F, 0x2E, 0x2F, 0x2F, 0x30, 0x31, 0x32, 0x33, 0x3A, 0x3B, 0x3C, 0x3E, 0x3F, 0x3F, 0x80]
 # Corners of 32-bit numbers, for wild cases.
 CORNERS = [0, 1, -1, 31, 32, 63, 64, -64, ONE, -ONE, 2**30, -2**30, 2**31 - 1, -2**31, -2**31 + 1]
@@ -58,6 +59,11 @@ class Maker:
         if count and not self.chance(14):
             return self.random.randrange(count)
         return self.random.choice([count, count, count + 1, -1, 70000, 65536, 65536 + count])
+
+    def selector(self):
+        """A byte, mostly alone, else below bits that don't count."""
+        byte = self.random.randrange(256)
+        return byte if self.random.randrange(3) else byte + 256 * self.random.randrange(-2**23, 2**23)
 
     def counts(self):
         """Points, twilight points, control values."""
@@ -117,6 +123,7 @@ class Maker:
                 0x3E: lambda: [self.index(counts[2]), point(0)], 0x3F: lambda: [self.index(counts[2]), point(0)],
                 **{code: lambda: [point(self.random.randrange(3))] for code in range(0x10, 0x13)},
                 **{code: lambda: [self.random.choice([0, 1, 1, 0, 1, 2, -1])] for code in range(0x13, 0x17)},
+                **{code: lambda: [self.selector()] for code in (0x76, 0x77)},
                 }.get(opcode, list)()
 
     def sheet(self, state, counts, reach):

@@ -1,6 +1,7 @@
 //! What document 01 says in numbers, and what was found beside it: each claim
 //! with the smallest input known, run on the Rust.
 
+mod selectors;
 mod shifts;
 
 use crate::{
@@ -33,6 +34,7 @@ pub fn check_all() -> bool {
     lines_at_the_ends(&mut claims);
     direct_calls(&mut claims);
     shifts::check(&mut claims);
+    selectors::check(&mut claims);
     budgets_add_up(&mut claims);
     println!("{} claims, {} fail", claims.count, claims.failed);
     claims.failed == 0

@@ -17,7 +17,8 @@ pub enum Needs {
     Unknown,
 }
 
-/// Document 01's table of lines, and the shifts and range flips of document 02.
+/// Document 01's table of lines, and the shifts, range flips and selectors of
+/// document 02.
 pub fn needs_of(opcode: u8) -> Needs {
     match opcode {
         0x00..=0x05 => Needs::Operands(0),
@@ -30,6 +31,7 @@ pub fn needs_of(opcode: u8) -> Needs {
         0x34..=0x37 => Needs::Operands(1),
         0x38 => Needs::OneMoreThanTheLoop,
         0x3A | 0x3B | 0x3E | 0x3F | 0x81 | 0x82 => Needs::Operands(2),
+        0x76 | 0x77 => Needs::Operands(1),
         _ => Needs::Unknown,
     }
 }
@@ -71,6 +73,8 @@ pub fn name_of(opcode: u8) -> &'static str {
         0x3D => "RTDG",
         0x3E => "MIAP[0]",
         0x3F => "MIAP[1]",
+        0x76 => "SROUND",
+        0x77 => "S45ROUND",
         0x7A => "ROFF",
         0x7C => "RUTG",
         0x7D => "RDTG",

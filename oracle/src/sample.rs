@@ -1,13 +1,14 @@
-//! The committed sample: seven files, the same bytes every time.
+//! The committed sample: eight files, the same bytes every time.
 
 use crate::{
     case::Case,
     coverage,
     direct::Call,
     generate::{
-        every_opcode, every_setter, every_shift, iup_case, limit_cases, line_case, long_iup_case,
-        long_iup_shift_case, run_case, runs_of_01, shift_case, shift_run_case, zone_case,
-        OUTLINE_LINES, SHIFT_LINES,
+        every_opcode, every_selector, every_setter, every_shift, iup_case, limit_cases, line_case,
+        long_iup_case, long_iup_shift_case, rounds_by_every_selector, run_case, runs_of_01,
+        selector_counts, selector_run_case, shift_case, shift_run_case, zone_case, OUTLINE_LINES,
+        SELECTOR_LINES, SHIFT_LINES,
     },
     math_rows, notable, projection_rows,
     random::Random,
@@ -21,14 +22,17 @@ const IUP_SEED: u64 = 0x0069_7570;
 const OUTLINE_SEED: u64 = 0x6F75_746C;
 const RUNS_SEED: u64 = 0x7275_6E73;
 const SHIFTS_SEED: u64 = 0x7368_6966;
+const SELECTORS_SEED: u64 = 0x7365_6C65;
 const ZONE_CASES: usize = 5_000;
 const IUP_CASES: usize = 3_400;
 const LINES_EACH: usize = 480;
 const RUN_CASES: usize = 2_800;
 const SHIFTS_EACH: usize = 400;
 const SHIFT_RUN_CASES: usize = 240;
+const SELECTORS_EACH: usize = 100;
+const SELECTOR_RUN_CASES: usize = 240;
 
-const NAMES: [&str; 7] = [
+const NAMES: [&str; 8] = [
     "math",
     "projection",
     "zone",
@@ -36,9 +40,10 @@ const NAMES: [&str; 7] = [
     "outline",
     "runs",
     "shifts",
+    "selectors",
 ];
 
-/// Writes the seven files into a folder and says how large each is.
+/// Writes the eight files into a folder and says how large each is.
 pub fn write(folder: &Path) -> Result<(), String> {
     std::fs::create_dir_all(folder).map_err(|error| error.to_string())?;
     for name in NAMES {
@@ -100,14 +105,15 @@ fn make(name: &str) -> (usize, Vec<u32>) {
     }
 }
 
-/// The cases of one of the five files that hold cases.
+/// The cases of one of the six files that hold cases.
 fn cases_of(name: &str) -> Vec<Case> {
     match name {
         "zone" => zone_cases(),
         "iup" => iup_cases(),
         "outline" => outline_cases(),
         "runs" => runs(),
-        _ => shifts(),
+        "shifts" => shifts(),
+        _ => selectors(),
     }
 }
 
@@ -162,6 +168,20 @@ fn shifts() -> Vec<Case> {
         cases.extend((0..SHIFTS_EACH).map(|_| shift_case(&mut random, opcodes)));
     }
     cases.extend((0..SHIFT_RUN_CASES).map(|_| shift_run_case(&mut random)));
+    cases
+}
+
+/// Each selector of both kinds alone, then with lines that round by it, then
+/// each count of operands, then random ones alone and among other lines.
+fn selectors() -> Vec<Case> {
+    let mut random = Random::new(SELECTORS_SEED);
+    let mut cases = every_selector();
+    cases.extend(rounds_by_every_selector());
+    cases.extend(selector_counts());
+    for (_, opcodes) in SELECTOR_LINES {
+        cases.extend((0..SELECTORS_EACH).map(|_| line_case(&mut random, opcodes)));
+    }
+    cases.extend((0..SELECTOR_RUN_CASES).map(|_| selector_run_case(&mut random)));
     cases
 }
 

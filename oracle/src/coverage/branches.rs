@@ -79,7 +79,7 @@ fn line_keys(case: &Case, line: &ReachedLine) -> Vec<String> {
         0x3A | 0x3B if outside => vec![lenient_key("MSIRP")],
         0x3F => vec![cut_in_key(
             state.native_cleartype_x,
-            keeps_control_value(case, line),
+            keeps_control_value(&case.world, line),
         )],
         _ => Vec::new(),
     }
@@ -139,8 +139,7 @@ fn crossing(world: &World, line: &ReachedLine) -> &'static str {
 }
 
 /// Whether the cut-in lets MIAP keep its control value.
-fn keeps_control_value(case: &Case, line: &ReachedLine) -> bool {
-    let world = &case.world;
+pub fn keeps_control_value(world: &World, line: &ReachedLine) -> bool {
     let state = &world.state;
     let value = world.lists[CONTROL_VALUES][line.operands[0] as usize] as i32;
     let index = line.operands[1] as usize;

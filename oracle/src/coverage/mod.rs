@@ -4,6 +4,7 @@ mod branches;
 mod keys;
 mod required;
 mod rows;
+mod selectors;
 mod shifts;
 
 use crate::{
@@ -88,6 +89,9 @@ impl Coverage {
             self.add(key);
         }
         for key in shifts::keys(case, outcome) {
+            self.add(key);
+        }
+        for key in selectors::keys(case, outcome) {
             self.add(key);
         }
     }

@@ -1,8 +1,8 @@
 //! What must come up in a run of the generator and in the sample.
 
-use super::{branches, keys::*, rows, shifts};
+use super::{branches, keys::*, rows, selectors, shifts};
 use crate::{
-    generate::{OUTLINE_LINES, SHIFT_LINES},
+    generate::{OUTLINE_LINES, SELECTOR_LINES, SHIFT_LINES},
     replay::{name_of, needs_of, Needs},
     vectors,
     world::*,
@@ -20,6 +20,7 @@ pub fn required() -> Vec<String> {
     keys.extend(required_alone());
     keys.extend(branches::required());
     keys.extend(shifts::required());
+    keys.extend(selectors::required());
     keys.extend(rows::required());
     keys
 }
@@ -171,6 +172,8 @@ fn required_steps() -> Vec<String> {
         ("SHPIX", 4),
         ("FLIPRGON", 2),
         ("FLIPRGOFF", 2),
+        ("SROUND", 1),
+        ("S45ROUND", 1),
     ];
     for (name, operands) in sixes {
         keys.extend((0..operands).map(|given| format!("{name}: 6 after {given} operands")));
@@ -178,7 +181,8 @@ fn required_steps() -> Vec<String> {
     keys
 }
 
-/// Each instruction that moves points, alone: every answer it can give.
+/// Each instruction that moves points or takes a selector, alone: every answer
+/// it can give.
 fn required_alone() -> Vec<String> {
     let mut keys = Vec::new();
     for (name, opcodes) in OUTLINE_LINES {
@@ -189,6 +193,9 @@ fn required_alone() -> Vec<String> {
             _ => true,
         });
         keys.extend(numbers.map(|number| alone_key(name, number)));
+    }
+    for (name, _) in SELECTOR_LINES {
+        keys.extend((0..=6).map(|number| alone_key(name, number)));
     }
     for (name, _) in SHIFT_LINES {
         let own: &[u32] = match name {

@@ -1,7 +1,7 @@
 //! Single lines of the instructions that move points, whole and spoilt.
 
 use super::{
-    shifts::{self, is_shift},
+    is_later, selectors, shifts,
     states::{make_unsound, sound_state},
     worlds::{fill_glyph, fill_twilight, small_world},
 };
@@ -177,6 +177,7 @@ fn operands(random: &mut Random, world: &World, opcode: u8) -> Vec<i32> {
         0x32 | 0x33 => looped(random, world, zp2),
         0x3C => looped(random, world, zp1),
         0x80 => looped(random, world, 1),
+        0x76 | 0x77 => vec![selectors::selector(random)],
         _ => shifts::operands(random, world, opcode),
     }
 }
@@ -260,7 +261,7 @@ pub mod spoil {
     pub fn unknown_opcode(random: &mut Random) -> u8 {
         loop {
             let opcode = random.next() as u8;
-            if needs_of(opcode) == Needs::Unknown || is_shift(opcode) {
+            if needs_of(opcode) == Needs::Unknown || is_later(opcode) {
                 return opcode;
             }
         }

@@ -4,6 +4,7 @@ mod calls;
 mod limits;
 mod lines;
 mod runs;
+mod selectors;
 mod shift_grid;
 mod shifts;
 mod states;
@@ -12,14 +13,26 @@ mod worlds;
 pub use calls::{iup_case, zone_case};
 pub use limits::{limit_cases, long_iup_case, long_iup_shift_case};
 pub use lines::{line_case, OUTLINE_LINES};
-pub use runs::{every_opcode, every_setter, run_case, runs_of_01, shift_run_case, whole_run_of_01};
+pub use runs::{
+    every_opcode, every_setter, run_case, runs_of_01, selector_run_case, shift_run_case,
+    whole_run_of_01,
+};
+pub use selectors::{
+    every_selector, is_selector, rounds_by_every_selector, selector_counts, SELECTOR_LINES,
+};
 pub use shift_grid::every_shift;
 pub use shifts::{shift_case, SHIFT_LINES};
 
 use crate::{case::Case, notable, random::Random};
 
+/// True for the lines of document 02, which the cases made before them take
+/// for unknown.
+fn is_later(opcode: u8) -> bool {
+    shifts::is_shift(opcode) || is_selector(opcode)
+}
+
 /// What no chance is left to: document 01's runs, the scenes of note, each
-/// opcode, each setter, each shift, the limits.
+/// opcode, each setter, each shift, each selector, the limits.
 pub fn fixed_cases(random: &mut Random) -> Vec<Case> {
     let mut cases = runs_of_01().to_vec();
     cases.extend(notable::lines());
@@ -27,13 +40,15 @@ pub fn fixed_cases(random: &mut Random) -> Vec<Case> {
     cases.extend(every_opcode());
     cases.extend(every_setter());
     cases.extend(every_shift());
+    cases.extend(every_selector());
+    cases.extend(selector_counts());
     cases.extend(limit_cases(random));
     cases
 }
 
 /// Any case at all, for comparisons, coverage and searches.
 pub fn any_case(random: &mut Random) -> Case {
-    match random.weighted(&[5, 4, 8, 5, 5, 4]) {
+    match random.weighted(&[5, 4, 8, 5, 5, 4, 1, 4]) {
         0 => zone_case(random),
         1 => iup_case(random),
         2 => {
@@ -45,6 +60,11 @@ pub fn any_case(random: &mut Random) -> Case {
             let (_, opcodes) = random.pick(&SHIFT_LINES);
             shift_case(random, opcodes)
         }
-        _ => shift_run_case(random),
+        5 => shift_run_case(random),
+        6 => {
+            let (_, opcodes) = random.pick(&SELECTOR_LINES);
+            line_case(random, opcodes)
+        }
+        _ => selector_run_case(random),
     }
 }

@@ -1,8 +1,9 @@
 //! Whole runs: sheets of several lines, starts and budgets of every kind.
 
 use super::{
+    is_later, is_selector,
     lines::{line, spoil, taken},
-    shifts::{calm_state, is_shift},
+    shifts::calm_state,
     states::{make_unsound, sound_state},
     worlds::small_world,
 };
@@ -30,21 +31,45 @@ const ALL_MOVERS: [u8; 27] = [
     0x37, 0x38, 0x38, 0x81, 0x82, 0x34, 0x35, 0x36, 0x37, 0x81, 0x82,
 ];
 
+/// The lines that round by the state.
+const ROUNDERS: [u8; 2] = [0x2F, 0x3F];
+
+/// Chooses a line's opcode, given that of the line before it.
+type Choice = fn(&mut Random, Option<u8>) -> u8;
+
 /// A sheet of some lines of document 01, run from some place with some budget.
 pub fn run_case(random: &mut Random) -> Case {
     let state = sound_state(random);
-    run_of(random, state, &MOVERS)
+    run_of(random, state, |random, _| setter_or(random, &MOVERS))
 }
 
 /// The same with shifts and range flips among the lines.
 pub fn shift_run_case(random: &mut Random) -> Case {
     let state = calm_state(random, 6);
-    run_of(random, state, &ALL_MOVERS)
+    run_of(random, state, |random, _| setter_or(random, &ALL_MOVERS))
 }
 
-fn run_of(random: &mut Random, state: State, movers: &[u8]) -> Case {
+/// The same with SROUND and S45ROUND, mostly with a line that rounds after each.
+pub fn selector_run_case(random: &mut Random) -> Case {
+    let state = calm_state(random, 6);
+    run_of(random, state, |random, before| match before {
+        Some(opcode) if is_selector(opcode) && !random.once_in(5) => random.pick(&ROUNDERS),
+        _ if random.flip() => random.pick(&[0x76, 0x77]),
+        _ => setter_or(random, &ALL_MOVERS),
+    })
+}
+
+fn setter_or(random: &mut Random, movers: &[u8]) -> u8 {
+    if random.once_in(3) {
+        random.pick(&SETTERS)
+    } else {
+        random.pick(movers)
+    }
+}
+
+fn run_of(random: &mut Random, state: State, choice: Choice) -> Case {
     let mut world = small_world(random, state);
-    let places = fill_sheet(random, &mut world, movers);
+    let places = fill_sheet(random, &mut world, choice);
     if random.once_in(40) {
         spoil::some_length(random, &mut world);
     }
@@ -61,13 +86,16 @@ fn run_of(random: &mut Random, state: State, movers: &[u8]) -> Case {
 }
 
 /// Fills the sheet and says where its lines start.
-fn fill_sheet(random: &mut Random, world: &mut World, movers: &[u8]) -> Vec<usize> {
+fn fill_sheet(random: &mut Random, world: &mut World, choice: Choice) -> Vec<usize> {
     // Lines are made for the state that the lines before them leave.
     let mut ahead = world.clone();
     let mut sheet = Vec::new();
     let mut places = Vec::new();
+    let mut before = None;
     for _ in 0..random.weighted(&[1, 3, 4, 4, 4, 3, 2, 2, 1]) {
-        let mut line = some_line(random, &ahead, movers);
+        let opcode = choice(random, before);
+        let mut line = line(random, &ahead, opcode);
+        before = Some(opcode);
         places.push(sheet.len());
         if random.once_in(60) {
             spoil::line(random, &mut line);
@@ -78,15 +106,6 @@ fn fill_sheet(random: &mut Random, world: &mut World, movers: &[u8]) -> Vec<usiz
     }
     world.lists[SHEET] = sheet;
     places
-}
-
-fn some_line(random: &mut Random, world: &World, movers: &[u8]) -> Vec<i32> {
-    let opcode = if random.once_in(3) {
-        random.pick(&SETTERS)
-    } else {
-        random.pick(movers)
-    };
-    line(random, world, opcode)
 }
 
 /// What the line does to the pointers and the loop counter, if it is taken.
@@ -135,7 +154,7 @@ pub fn every_opcode() -> Vec<Case> {
     for opcode in 0..=255 {
         case.world.lists[SHEET] = vec![u32::from(opcode), 0];
         cases.push(case.clone());
-        if needs_of(opcode) != Needs::Unknown && !is_shift(opcode) {
+        if needs_of(opcode) != Needs::Unknown && !is_later(opcode) {
             let count = taken(&case.world, opcode) + 1;
             case.world.lists[SHEET] = vec![u32::from(opcode), count];
             case.world.lists[SHEET].extend((0..count).map(|_| 0));
