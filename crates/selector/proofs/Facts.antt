@@ -1,17 +1,12 @@
--- What every selector's numbers come to, by the three periods that a grid has: the period is from 22 * 256 to 2 ^ 15 in 2.14, so every number
--- fits 32 bits, and the period that is left in 26.6 is never 0: no selector makes a state that the state test refuses. Assumes nothing.
-use Prim.Native.Nat.{ℕ, _*_, _/_, _%_, _≤_, _<_, _^_}
+-- What every selector's period comes to, by the three that a grid has: it is from 22 * 256 to 2 ^ 15 in 2.14, so what is left of it in 26.6 is
+-- never 0, and no selector makes a state that the state test refuses. Assumes nothing.
+use Prim.Native.Nat.{ℕ, _*_, _/_, _%_, _≤_}
 use native.Mathlib.Omega.{arith}
-use native.Mathlib.Nat.{le-trans, mul-le-mul}
 use mathlib.Core.Bool.{Bool, true, false, cond, not}
 use mathlib.Core.Path.{_≡_, refl, ap}
 use lib.Dec.{eqb}
-use lib.IntN.{ℤ, pos, negsuc, negℤ, natAbs, _-ℤ_, _*ℤ_}
-use lib.Signed.{mag, natAbs-le, quotZ}
+use lib.IntN.{ℤ, pos, negsuc, natAbs}
 use borrow.Author.Tests.{ne-eqb}
-use mir.Syntax.{w32}
-use mir.Val.{SFits}
-use Rattle.int.proofs.Ints.{mag-add, mag-neg, mag-mul, mag-quot}
 use Rattle.int.specs.Word.{bitsOf, eqZ}
 use Rattle.round.specs.Round.{usable}
 use Rattle.selector.specs.Selector.{gridPeriod, periodBy, stateBy, superOf}
@@ -37,23 +32,6 @@ period-most false field = by-field (λ p. p ≤ 0x8000) 0x4000 field (omega arit
 pub period-least : (diagonal : Bool) (field : ℕ) → 22 * 256 ≤ periodBy (gridPeriod diagonal) field
 period-least true field = by-field (λ p. 22 * 256 ≤ p) 0x2D41 field (omega arith) (omega arith) (omega arith)
 period-least false field = by-field (λ p. 22 * 256 ≤ p) 0x4000 field (omega arith) (omega arith) (omega arith)
-
--- ---- the threshold
--- so many eighths less four, times the period
-module _ (period field : ℕ) (most : period ≤ 0x8000) (below : field < 16) where
-  pub eighths-fit : SFits w32 (pos field -ℤ pos 4)
-  eighths-fit = record { sfits = omega (arith, mag-add (pos field) (negℤ (pos 4)), mag-neg (pos 4), below) }
-
-  eighths-most : mag ((pos field -ℤ pos 4) *ℤ pos period) ≤ 22 * 0x8000
-  eighths-most = le-trans (mag-mul (pos field -ℤ pos 4) (pos period)) (mul-le-mul (natAbs-le (pos field -ℤ pos 4) {H = 22} (omega (arith, mag-add (pos field) (negℤ (pos 4)), mag-neg (pos 4), below))) most)
-
-  pub product-fits : SFits w32 ((pos field -ℤ pos 4) *ℤ pos period)
-  product-fits = record { sfits = omega (arith, eighths-most) }
-
-  pub quotient-fits : SFits w32 (quotZ ((pos field -ℤ pos 4) *ℤ pos period) (pos 8))
-  quotient-fits =
-      let p = (pos field -ℤ pos 4) *ℤ pos period in
-      record { sfits = omega (arith, mag-quot p (pos 8), natAbs-le p {H = 720897} (omega (arith, eighths-most))) }
 
 -- ---- the state
 -- the smallest period of all is 22, S45ROUND's halved

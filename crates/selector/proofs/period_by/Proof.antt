@@ -1,11 +1,11 @@
 -- `selector::period_by` meets its contract: by its two tests, on the period that the grid has. Assumes nothing.
-use mathlib.Core.Path.{_∙_, ap}
+use mathlib.Core.Path.{ap}
 use Prim.Native.Nat.{ℕ, _*_, _/_}
 use native.Mathlib.Omega.{arith}
 use borrow.Author.Needs.{needs}
 use borrow.Author.Tests.{eq-eqb, ne-eqb}
 use Rattle.selector.proofs.Facts.{grid-most}
-use Rattle.selector.specs.Selector.{gridPeriod, periodBy}
+use Rattle.selector.specs.Selector.{periodBy}
 use Rattle.selector.proofs.period_by.Statement.{statement}
 use Rattle.selector.proofs.period_by.Tie as tie
 

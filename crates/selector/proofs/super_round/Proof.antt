@@ -1,7 +1,6 @@
 -- `selector::super_round` meets its contract: each number is what its function ensures of the byte's fields, which are in range, and fits 32 bits.
 -- Assumes nothing.
-use mathlib.Core.Path.{_∙_, ap}
-use Prim.Native.Nat.{ℕ, _%_, _/_}
+use Prim.Native.Nat.{_%_, _/_}
 use native.Mathlib.Omega.{arith}
 use borrow.Author.Needs.{needs}
 use mir.Facts.{toZ-ofZ, toZ-pos}
