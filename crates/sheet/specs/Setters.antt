@@ -3,10 +3,10 @@
 -- Assumes nothing.
 use Prim.Native.Nat.{ℕ, _%_, min}
 use mathlib.Core.List.{List, [], _∷_}
-use mathlib.Core.Bool.{Bool, cond, _||_}
+use mathlib.Core.Bool.{Bool, cond, _&&_, _||_}
 use lib.IntN.{ℤ, pos, natAbs}
 use lib.Signed.{nonNeg}
-use lib.Dec.{ltb, eqb}
+use lib.Dec.{ltb, leb, eqb}
 use Rattle.int.specs.Word.{eqZ, indexOf}
 use Rattle.answer.specs.declared.Refusal.the-variants.{Missing, ZonePointer, LoopCount}
 use Rattle.round.specs.declared.RoundMode.{RoundMode}
@@ -64,7 +64,7 @@ modeBy op =
 
 -- 10 to 17, 76, 77: the lines with one operand
 abbrev pub takesOperand : ℕ → Bool
-takesOperand op = ltb op 0x18 || (eqb op 0x76 || eqb op 0x77)
+takesOperand op = (leb 0x10 op && leb op 0x17) || (leb 0x76 op && leb op 0x77)
 
 unfoldable pub operandBy : GraphicsState → ℕ → ℤ → Stepped
 operandBy s op word =

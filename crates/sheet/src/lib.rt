@@ -457,7 +457,7 @@ fn mode_by(opcode: usize) -> RoundMode
 fn takes_operand(opcode: usize) -> bool
     ensures { λ r. ⌜ r ≡ takesOperand opcode ⌝ }
 {
-    (opcode < 0x18) | ((opcode == 0x76) | (opcode == 0x77))
+    ((0x10 <= opcode) & (opcode <= 0x17)) | ((0x76 <= opcode) & (opcode <= 0x77))
 }
 
 // A line that takes one operand and sets the state.
