@@ -29,7 +29,7 @@ fn mode_of(diagonal: bool) -> RoundMode
 
 // Half the grid's period, once or twice; the reserved field 3 is once.
 fn period_by(diagonal: bool, field: u32) -> u32
-    ensures { λ r. ⌜ r ≡ periodBy (gridPeriod diagonal) field ⌝ }
+    ensures { λ r. ⌜ (r ≡ periodBy (gridPeriod diagonal) field) × ((0 < r) × (r ≤ 0x8000)) ⌝ }
 {
     let grid = grid_period(diagonal);
     if field == 0 {

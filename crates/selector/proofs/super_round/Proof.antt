@@ -1,12 +1,10 @@
 -- `selector::super_round` meets its contract: each number is what its function ensures of the byte's fields, which are in range, and fits 32 bits.
 -- Assumes nothing.
-use Prim.Native.Nat.{_%_, _/_}
 use native.Mathlib.Omega.{arith}
 use borrow.Author.Needs.{needs}
 use mir.Facts.{toZ-ofZ, toZ-pos}
 use mir.Syntax.{w32}
 use Rattle.int.proofs.Words.{back32}
-use Rattle.selector.proofs.Facts.{period-least, period-most}
 use Rattle.selector.specs.Selector.{stateBy}
 use Rattle.selector.proofs.super_round.Statement.{statement}
 use Rattle.selector.proofs.super_round.Tie as tie
@@ -18,15 +16,10 @@ period-by-requires : tie.Need-period-by-requires
 period-by-requires c κs = search needs
 
 phase-by-requires : tie.Need-phase-by-requires
-phase-by-requires c κs =
-    let selector = c .before .to-bits .result % 256 in
-    (omega (arith, c .period-by .ensures, period-most (c .before .before .args .diagonal) (selector / 64)), omega arith)
+phase-by-requires c κs = (c .period-by .ensures .1 .1, omega arith)
 
 threshold-by-requires : tie.Need-threshold-by-requires
-threshold-by-requires c κs =
-    let selector = c .before .before .to-bits .result % 256 in
-    let diagonal = c .before .before .before .args .diagonal in
-    (omega (arith, c .before .period-by .ensures, period-least diagonal (selector / 64)), (omega (arith, c .before .period-by .ensures, period-most diagonal (selector / 64)), omega arith))
+threshold-by-requires c κs = (c .before .period-by .ensures .1 .0, (c .before .period-by .ensures .1 .1, omega arith))
 
 mode-of-requires : tie.Need-mode-of-requires
 mode-of-requires c κs = search needs
@@ -41,9 +34,7 @@ in-sixty-fourths-requires-2 : tie.Need-in-sixty-fourths-requires-2
 in-sixty-fourths-requires-2 c κs = search needs
 
 cast-in-sixty-fourths-2 : tie.Need-cast-in-sixty-fourths-2
-cast-in-sixty-fourths-2 c =
-    let s = c .before .before .before .before .before in
-    record { sfits = omega (arith, s .period-by .ensures, period-most (s .before .before .args .diagonal) (s .before .to-bits .result % 256 / 64)) }
+cast-in-sixty-fourths-2 c = record { sfits = omega (arith, c .before .before .before .before .before .period-by .ensures .1 .1) }
 
 in-sixty-fourths-requires-3 : tie.Need-in-sixty-fourths-requires-3
 in-sixty-fourths-requires-3 c κs = search needs
@@ -60,7 +51,7 @@ returns c =
     let shifted = c .in-sixty-fourths3 in
     let shifted2 = c .before .in-sixty-fourths2 in
     let shifted1 = c .before .before .in-sixty-fourths in
-    rw (modes .mode-of .ensures, back32 (shifted1 .result) (shifted1 .ok), shifted1 .ensures, back32 (thresholds .threshold-by .result) (thresholds .threshold-by .ok), thresholds .threshold-by .ensures, back32 (shifted2 .result) (shifted2 .ok), shifted2 .ensures, toZ-pos w32 {n = phases .phase-by .result} (omega (arith, phases .phase-by .ensures .1)), phases .phase-by .ensures .0, back32 (shifted .result) (shifted .ok), shifted .ensures, toZ-pos w32 {n = periods .period-by .result} (omega (arith, periods .period-by .ensures, period-most (s .args .diagonal) (bits .to-bits .result % 256 / 64))), periods .period-by .ensures, bits .to-bits .ensures, toZ-ofZ (s .fits .word))
+    rw (modes .mode-of .ensures, back32 (shifted1 .result) (shifted1 .ok), shifted1 .ensures, back32 (thresholds .threshold-by .result) (thresholds .threshold-by .ok), thresholds .threshold-by .ensures, back32 (shifted2 .result) (shifted2 .ok), shifted2 .ensures, toZ-pos w32 {n = phases .phase-by .result} (omega (arith, phases .phase-by .ensures .1)), phases .phase-by .ensures .0, back32 (shifted .result) (shifted .ok), shifted .ensures, toZ-pos w32 {n = periods .period-by .result} (omega (arith, periods .period-by .ensures .1 .1)), periods .period-by .ensures .0, bits .to-bits .ensures, toZ-ofZ (s .fits .word))
 
 pub super-round-spec : {M : Type 1} → statement M
 super-round-spec =
