@@ -1,6 +1,6 @@
 -- One line of a sheet seen along an axis: what is read off the sheet hangs on the sheet and the loop counter, and the line that is read is the one whose
 -- opcode stands there. Assumes nothing.
-use mathlib.Core.Bool.{Bool, cond, false, true}
+use mathlib.Core.Bool.{false}
 use mathlib.Core.List.{List}
 use Prim.Native.Nat.{_+_, _-_, ℕ}
 use mathlib.Core.Path.{_∙_, _≡_, ap, ap₂, refl, sym}
@@ -22,15 +22,12 @@ use Rattle.axes.proofs.Lines.{line-seen}
 use Rattle.axes.proofs.Straight.{line-straight}
 use Rattle.apart.specs.Reached.{opcodeAt}
 use Rattle.axes.proofs.Seen.{x-again, y-again}
+use Rattle.int.proofs.Tests.{either}
 
 -- ---- the opcode that is read
 unfoldable pub Named : ℕ → Decoded → Type 0
 Named op (Operands read first end) = read ≡ op
 Named op (RefusedLine why) = Unit {0}
-
-by-test : (P : Decoded → Type 0) (x y : Decoded) (t : Bool) → P x → P y → P (cond t x y)
-by-test P x y true p q = p
-by-test P x y false p q = q
 
 nothing-read : (op : ℕ) (why : Refusal) → Named op (RefusedLine why)
 unfolding Named
@@ -43,16 +40,16 @@ its-own op first end = refl
 read-named : (sheet : List ℤ) (counter at op count : ℕ) → Named op (decodeBy sheet counter at op count)
 unfolding decodeBy
 read-named sheet counter at op count =
-    by-test (Named op) _ _ (ltb 255 op) (nothing-read op Line)
-    (by-test (Named op) _ _ (eqb (needOf op) unknown) (nothing-read op Line)
-    (by-test (Named op) _ _ (ltb (length sheet) (at + 2)) (nothing-read op Line)
-    (by-test (Named op) _ _ (ltb (length sheet - (at + 2)) count) (nothing-read op Line)
-    (by-test (Named op) _ _ (ltb (takesBy (needOf op) counter) count) (nothing-read op Surplus) (its-own op (at + 2) (at + 2 + count))))))
+    either (Named op) (ltb 255 op) (nothing-read op Line)
+    (either (Named op) (eqb (needOf op) unknown) (nothing-read op Line)
+    (either (Named op) (ltb (length sheet) (at + 2)) (nothing-read op Line)
+    (either (Named op) (ltb (length sheet - (at + 2)) count) (nothing-read op Line)
+    (either (Named op) (ltb (takesBy (needOf op) counter) count) (nothing-read op Surplus) (its-own op (at + 2) (at + 2 + count))))))
 
 pub all-named : (sheet : List ℤ) (counter at : ℕ) → Named (opcodeAt sheet at) (decodeOf sheet counter at)
 unfolding decodeOf
 all-named sheet counter at =
-    by-test (Named (opcodeAt sheet at)) _ _ (ltb at (length sheet))
+    either (Named (opcodeAt sheet at)) (ltb at (length sheet))
     (read-named sheet counter at (opcodeAt sheet at) (indexOf (getD sheet (at + 1) (pos 0))))
     (nothing-read (opcodeAt sheet at) Line)
 

@@ -20,7 +20,7 @@ use Rattle.iup.proofs.Facts.{keeps-length, keeps-walk}
 use Rattle.axes.specs.Axes.{leveled, xSeen, ySeen}
 use Rattle.graphics.specs.State.{pastBothIups}
 use Rattle.iup.specs.Contour.{points}
-use Rattle.axes.proofs.Seen.{level-by, level-length, x-again, y-again}
+use Rattle.axes.proofs.Seen.{level-by, level-length, x-again, y-again, seen-by-test}
 
 -- ---- across the axis
 points-level : (mask : ℕ) (fs : List ℕ) (us os cs : List ℤ) → length (points mask fs (leveled us) (leveled os) (leveled cs)) ≡ length (points mask fs us os cs)
@@ -80,16 +80,11 @@ walked-seen X s ux uy ox oy gx gy fs es false = on-y-across s fs es uy oy gx gy
 walked-seen Y s ux uy ox oy gx gy fs es true = on-x-across s fs es ux ox gx gy
 walked-seen Y s ux uy ox oy gx gy fs es false = ap (λ (u : List ℤ). onY u (iupOn s 4 fs es uy oy gy)) (x-again Y gx)
 
-by-seen : (a : Axis) (t : Bool) (i i' j j' : Interpolated) → interpolatedSeen a i ≡ interpolatedSeen a i' → interpolatedSeen a j ≡ interpolatedSeen a j'
-    → interpolatedSeen a (cond t i j) ≡ interpolatedSeen a (cond t i' j')
-by-seen a true i i' j j' e d = e
-by-seen a false i i' j j' e d = d
-
 pub iup-seen : (a : Axis) (s : GraphicsState) (op : ℕ) (ux uy ox oy gx gy : List ℤ) (fs es : List ℕ)
     → interpolatedSeen a (iupBy s op (xSeen a ux) (ySeen a uy) (xSeen a ox) (ySeen a oy) (xSeen a gx) (ySeen a gy) fs es)
     ≡ interpolatedSeen a (iupBy s op ux uy ox oy gx gy fs es)
 unfolding iupBy
 iup-seen a s op ux uy ox oy gx gy fs es =
-    by-seen a (pastBothIups (s .facts)) (interpolated (doneWith s) (xSeen a gx) (ySeen a gy)) (interpolated (doneWith s) gx gy) _ _
+    seen-by-test (interpolatedSeen a) (pastBothIups (s .facts))
     (ap₂ (interpolated (doneWith s)) (x-again a gx) (y-again a gy))
     (walked-seen a (markedFor s op) ux uy ox oy gx gy fs es (isOdd op))

@@ -1,6 +1,6 @@
 -- A line seen along an axis: with the vectors along it, and where it doesn't mix the axes, a line leaves the vectors along it, and what is seen after it
 -- is what is seen after the same line over what is seen. By the instruction that the opcode names. Assumes nothing.
-use mathlib.Core.Bool.{Bool, _&&_, _||_, cond, false, true}
+use mathlib.Core.Bool.{Bool, _&&_, _||_, false, true}
 use mathlib.Core.List.{List}
 use mathlib.Core.Path.{_∙_, _≡_, ap, ap₂, refl}
 use native.Mathlib.Omega.{arith}
@@ -28,6 +28,7 @@ use Rattle.axes.proofs.Msirp.{msirp-seen}
 use Rattle.axes.proofs.Looped.{shp-seen, wentSeen}
 use Rattle.axes.proofs.Shifts.{shc-seen, shpix-seen, shz-seen}
 use Rattle.axes.proofs.Seen.{x-again, y-again}
+use Rattle.int.proofs.Tests.{either}
 
 -- ---- which lines intersect
 -- a number for each instruction, by which one is told from the others
@@ -145,15 +146,14 @@ one-intersects op false e = apart (leb 0x0F op) (leb op 0x0F) refl refl
     apart true false p q = refl
     apart true true p q = absurd (eqb-false op 0x0F e (omega (arith, leb-true 0x0F op p, leb-true op 0x0F q)))
 
-row-by : (t : Bool) (i j : Instruction) → isIntersection i ≡ false → isIntersection j ≡ false → isIntersection (cond t i j) ≡ false
-row-by true i j p q = p
-row-by false i j p q = q
+abbrev NoIntersection : Instruction → Type 0
+NoIntersection i = isIntersection i ≡ false
 
-pub no-intersection : (op : ℕ) → eqb op 0x0F ≡ false → isIntersection (instructionOf op) ≡ false
+pub no-intersection : (op : ℕ) → eqb op 0x0F ≡ false → NoIntersection (instructionOf op)
 unfolding instructionOf
 no-intersection op e =
     rw (one-intersects op false e)
-    (row-by (between 0x2E 0x2F op) Mdap _ refl (row-by (between 0x30 0x31 op) Iup _ refl (row-by (between 0x32 0x33 op) Shp _ refl (row-by (between 0x34 0x35 op) Shc _ refl (row-by (between 0x36 0x37 op) Shz _ refl (row-by (between 0x38 0x38 op) Shpix _ refl (row-by (between 0x3A 0x3B op) Msirp _ refl (row-by (between 0x3C 0x3C op) Alignrp _ refl (row-by (between 0x3E 0x3F op) Miap _ refl (row-by (between 0x80 0x80 op) Flippt _ refl (row-by (between 0x81 0x82 op) Fliprg Set refl refl)))))))))))
+    (either NoIntersection (between 0x2E 0x2F op) refl (either NoIntersection (between 0x30 0x31 op) refl (either NoIntersection (between 0x32 0x33 op) refl (either NoIntersection (between 0x34 0x35 op) refl (either NoIntersection (between 0x36 0x37 op) refl (either NoIntersection (between 0x38 0x38 op) refl (either NoIntersection (between 0x3A 0x3B op) refl (either NoIntersection (between 0x3C 0x3C op) refl (either NoIntersection (between 0x3E 0x3F op) refl (either NoIntersection (between 0x80 0x80 op) refl (either NoIntersection (between 0x81 0x82 op) refl refl)))))))))))
 
 pub line-seen : (a : Axis) (f : Fixed) (op : ℕ) (operands : List ℤ) (w : World) → Straight a (w .state) → mixes a op ≡ false
     → linedSeen a (lineOf (fixedSeen a f) op operands (worldSeen a w)) ≡ linedSeen a (lineOf f op operands w)

@@ -1,6 +1,6 @@
 -- MDAP seen along an axis. The distance is that of the coordinate along it, the move is the state's and the distance's, and whether the point is
 -- there hangs on the zone's length. Assumes nothing.
-use mathlib.Core.Bool.{Bool, _&&_, cond, false, not, true}
+use mathlib.Core.Bool.{Bool, _&&_, cond, not}
 use mathlib.Core.List.{List}
 use mathlib.Core.Path.{_∙_, _≡_, ap, ap₂, refl, sym}
 use lib.ListN.{length}
@@ -29,7 +29,7 @@ use Rattle.outline.specs.Absolute.{mdapAt, mdapFrom, mdapIn, mdapOf, outsideMda
 use Rattle.moves.specs.Move.{moveOf}
 use Rattle.projection.specs.Projection.{projectOf}
 use Rattle.line.specs.Line.{refusedWith}
-use Rattle.axes.proofs.Seen.{apply-seen, fetch-seen, fetchedSeen, placeSeen, project-seen, x-again, y-again}
+use Rattle.axes.proofs.Seen.{apply-seen, fetch-seen, fetchedSeen, placeSeen, project-seen, x-again, y-again, seen-by-test}
 
 -- ---- one zone
 abbrev pub placedSeen : Axis → Placed → Placed
@@ -100,14 +100,9 @@ pub both-stay-seen : (a : Axis) (r : Stepped) (gx gy : List ℤ) (gflags : List 
     → bothSeen a (bothPlaced r (xSeen a gx) (ySeen a gy) gflags (xSeen a tx) (ySeen a ty) tflags) ≡ bothSeen a (bothPlaced r gx gy gflags tx ty tflags)
 both-stay-seen a r gx gy gflags tx ty tflags = glyph-seen a tx ty tflags (placed r (xSeen a gx) (ySeen a gy) gflags) (placed r gx gy gflags) (stay-seen a r gx gy gflags)
 
-pub both-by-test : (a : Axis) (t : Bool) (p p' q q' : BothPlaced) → bothSeen a p ≡ bothSeen a p' → bothSeen a q ≡ bothSeen a q'
-    → bothSeen a (cond t p q) ≡ bothSeen a (cond t p' q')
-both-by-test a true p p' q q' e d = e
-both-by-test a false p p' q q' e d = d
-
 pub mdap-seen : (a : Axis) (s : GraphicsState) → Straight a s → (op : ℕ) (operands gx gy : List ℤ) (gflags : List ℕ) (tx ty : List ℤ) (tflags : List ℕ)
     → bothSeen a (mdapOf s op operands (xSeen a gx) (ySeen a gy) gflags (xSeen a tx) (ySeen a ty) tflags) ≡ bothSeen a (mdapOf s op operands gx gy gflags tx ty tflags)
 unfolding mdapOf
 mdap-seen a s straight op operands gx gy gflags tx ty tflags =
-    both-by-test a (ltb (length operands) 1) _ _ _ _ (both-stay-seen a (refusedWith s Missing) gx gy gflags tx ty tflags)
+    seen-by-test (bothSeen a) (ltb (length operands) 1) (both-stay-seen a (refusedWith s Missing) gx gy gflags tx ty tflags)
     (in-seen a s straight op (indexAt operands 0) gx gy gflags tx ty tflags (s .pointers .zp0))

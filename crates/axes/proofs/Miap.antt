@@ -1,6 +1,5 @@
 -- MIAP seen along an axis: the control value is no coordinate, the point's own distance is read along the axis, and a twilight point is made by the
 -- control value and the freedom vector alone. Assumes nothing.
-use mathlib.Core.Bool.{Bool, cond, false, true}
 use mathlib.Core.List.{List}
 use mathlib.Core.Path.{_∙_, _≡_, ap, ap₂, sym}
 use lib.ListN.{getD, length, set}
@@ -25,7 +24,7 @@ use Rattle.places.specs.Lines.{indexAt, pair}
 use Rattle.miap.specs.Miap.{miapAt, miapFrom, miapIn, miapMade, miapOf, miapTwilight, withOriginals}
 use Rattle.outline.specs.Absolute.{placeBy}
 use Rattle.line.specs.Line.{refusedWith}
-use Rattle.axes.proofs.Seen.{fetch-seen, fetchedSeen, x-again, x-set, y-again, y-set}
+use Rattle.axes.proofs.Seen.{fetch-seen, fetchedSeen, x-again, x-set, y-again, y-set, seen-by-test}
 use Rattle.axes.proofs.Mdap.{from-origin-seen, place-by-seen, placedSeen, stay-seen}
 
 -- ---- one zone
@@ -99,11 +98,6 @@ pub all-stay-seen : (a : Axis) (r : Stepped) (gx gy : List ℤ) (gflags : List �
 all-stay-seen a r gx gy gflags ox oy tx ty tflags =
     all-glyph-seen a ox oy tx ty tflags (placed r (xSeen a gx) (ySeen a gy) gflags) (placed r gx gy gflags) (stay-seen a r gx gy gflags)
 
-pub all-by-test : (a : Axis) (t : Bool) (p p' q q' : AllPlaced) → allSeen a p ≡ allSeen a p' → allSeen a q ≡ allSeen a q'
-    → allSeen a (cond t p q) ≡ allSeen a (cond t p' q')
-all-by-test a true p p' q q' e d = e
-all-by-test a false p p' q q' e d = d
-
 in-seen : (a : Axis) (s : GraphicsState) → Straight a s → (op : ℕ) (control : ℤ) (at : ℕ) (gx gy : List ℤ) (gflags : List ℕ) (ox oy tx ty : List ℤ) (tflags : List ℕ) (z : ZonePointer)
     → allSeen a (miapIn s op control at (xSeen a gx) (ySeen a gy) gflags (xSeen a ox) (ySeen a oy) (xSeen a tx) (ySeen a ty) tflags z)
     ≡ allSeen a (miapIn s op control at gx gy gflags ox oy tx ty tflags z)
@@ -118,7 +112,7 @@ pub miap-seen : (a : Axis) (s : GraphicsState) → Straight a s → (op : ℕ) (
     ≡ allSeen a (miapOf s op operands controls gx gy gflags ox oy tx ty tflags)
 unfolding miapOf
 miap-seen a s straight op operands controls gx gy gflags ox oy tx ty tflags =
-    all-by-test a (ltb (length operands) 2) _ _ _ _ (all-stay-seen a (refusedWith s Missing) gx gy gflags ox oy tx ty tflags)
-    (all-by-test a (ltb (indexAt operands 0) (length controls)) _ _ _ _
+    seen-by-test (allSeen a) (ltb (length operands) 2) (all-stay-seen a (refusedWith s Missing) gx gy gflags ox oy tx ty tflags)
+    (seen-by-test (allSeen a) (ltb (indexAt operands 0) (length controls))
     (in-seen a s straight op (getD controls (indexAt operands 0) (pos 0)) (indexAt operands 1) gx gy gflags ox oy tx ty tflags (s .pointers .zp0))
     (all-stay-seen a (refusedWith s (ControlValue (indexAt operands 0))) gx gy gflags ox oy tx ty tflags))

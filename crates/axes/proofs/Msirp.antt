@@ -27,8 +27,8 @@ use Rattle.places.specs.Places.{placeIn}
 use Rattle.zone.specs.Zone.{placeOf}
 use Rattle.line.specs.Line.{refusedWith}
 use Rattle.int.specs.Word.{sub32}
-use Rattle.axes.proofs.Miap.{all-by-test, all-glyph-seen, all-stay-seen, all-twilight-seen, allSeen, twilightSeen}
-use Rattle.axes.proofs.Seen.{apply-seen, level-by, place-seen, placeSeen, project-seen, x-again, x-length, x-moved, x-set, y-again, y-moved, y-set}
+use Rattle.axes.proofs.Miap.{all-glyph-seen, all-stay-seen, all-twilight-seen, allSeen, twilightSeen}
+use Rattle.axes.proofs.Seen.{apply-seen, level-by, place-seen, placeSeen, project-seen, x-again, x-length, x-moved, x-set, y-again, y-moved, y-set, seen-by-test}
 use Rattle.axes.proofs.Mdap.{placedSeen}
 
 -- ---- the reference point
@@ -167,7 +167,7 @@ unfolding msirpOf
 msirp-seen a s straight op operands gx gy gflags ox oy tx ty tflags =
     let d = getD operands 0 (pos 0) in
     let at = indexAt operands 1 in
-    all-by-test a (ltb (length operands) 2) _ _ _ _ (all-stay-seen a (refusedWith s Missing) gx gy gflags ox oy tx ty tflags)
+    seen-by-test (allSeen a) (ltb (length operands) 2) (all-stay-seen a (refusedWith s Missing) gx gy gflags ox oy tx ty tflags)
     (ap₂
     (λ (n m : ℕ). allSeen a (msirpFrom s op d at (xSeen a gx) (ySeen a gy) gflags (xSeen a ox) (ySeen a oy) (xSeen a tx) (ySeen a ty) tflags (reachOf s at n m (s .pointers .zp1))))
     (x-length a gx)

@@ -37,6 +37,7 @@ use Rattle.shifts.specs.Shifts.{shcAt, shcOf, shzOf}
 use Rattle.spans.specs.Span.{pointsFrom, sameZone, shiftBut, shiftSpan, shiftSpanIn, spanBy, spanOf}
 use Rattle.zone.specs.Zone.{marked, onCurve, overPart, setOnCurveOf}
 use Rattle.axes.proofs.Inert.{Inert, PointsStill, inert-zp2, on-curve-apart, shift-by-still, shift-in-still, stays}
+use Rattle.int.proofs.Tests.{either}
 
 -- ---- the range flips: bit 0 alone
 curve-kept : (a : Axis) (on : Bool) (flag : ℕ) → bit (markAcross a) (onCurve on flag) ≡ bit (markAcross a) flag
@@ -76,21 +77,18 @@ set-still : (a : Axis) (flags : List ℕ) (start end : ℕ) (on : Bool) → mark
 unfolding setOnCurveOf
 set-still a flags start end on = set-by a flags start end on (leb start end && leb end (length flags)) refl
 
-flags-by-test : (a : Axis) (flags : List ℕ) (t : Bool) (p q : Went (List ℕ)) → marksAcross a (p .left) ≡ marksAcross a flags → marksAcross a (q .left) ≡ marksAcross a flags
-    → marksAcross a (cond t p q .left) ≡ marksAcross a flags
-flags-by-test a flags true p q u v = u
-flags-by-test a flags false p q u v = v
+abbrev MarksStill : Axis → List ℕ → Went (List ℕ) → Type 0
+MarksStill a flags g = marksAcross a (g .left) ≡ marksAcross a flags
 
 pub fliprg-still : (a : Axis) (s : GraphicsState) (op : ℕ) (operands : List ℤ) (flags : List ℕ) → marksAcross a (fliprgOf s op operands flags .left) ≡ marksAcross a flags
 unfolding fliprgOf
 fliprg-still a s op operands flags =
-    flags-by-test a flags (ltb (length operands) 2) _ _ refl
-    (flags-by-test a flags (pastBothIups (s .facts)) _ _ refl (set-still a flags (indexAt operands 1) (suc (indexAt operands 0)) (isOdd op)))
+    either (MarksStill a flags) (ltb (length operands) 2) refl
+    (either (MarksStill a flags) (pastBothIups (s .facts)) refl (set-still a flags (indexAt operands 1) (suc (indexAt operands 0)) (isOdd op)))
 
 -- ---- the shifts
-went-by-test : (a : Axis) (p : Points) (t : Bool) (g h : Went Zones) → PointsStill a p (g .left .glyph) → PointsStill a p (h .left .glyph) → PointsStill a p (cond t g h .left .glyph)
-went-by-test a p true g h u v = u
-went-by-test a p false g h u v = v
+abbrev GlyphStill : Axis → Points → Went Zones → Type 0
+GlyphStill a p g = PointsStill a p (g .left .glyph)
 
 same : (a : Axis) (p : Points) → PointsStill a p p
 same a p = stays a (p .xs) (p .ys) (p .flags)
@@ -108,7 +106,7 @@ amount-still a s e z (amount ∷ points) =
 
 pub shpix-still : (a : Axis) (s : GraphicsState) → Straight a s → (operands : List ℤ) (z : Zones) → PointsStill a (z .glyph) (shpixOf s operands z .left .glyph)
 unfolding shpixOf
-shpix-still a s e operands z = went-by-test a (z .glyph) (s .facts .«backward_compatibility») _ _ (same a (z .glyph)) (amount-still a s e z operands)
+shpix-still a s e operands z = either (GlyphStill a (z .glyph)) (s .facts .«backward_compatibility») (same a (z .glyph)) (amount-still a s e z operands)
 
 but-still : (a : Axis) (m : Move) → Inert a m → (p : Points) (keeps : Bool) (at : ℕ) (q : Points) → PointsStill a p q
     → PointsStill a p (cond keeps (pass at q) (shiftUnlessIdle m at q) .left)
@@ -146,12 +144,12 @@ pub shc-still : (a : Axis) (s : GraphicsState) → Straight a s → (op : ℕ) (
     → PointsStill a (z .glyph) (shcOf s op operands contours gox goy tox toy z .left .glyph)
 unfolding shcOf shcAt spanOf
 shc-still a s e op operands contours gox goy tox toy z =
-    went-by-test a (z .glyph) (ltb (length operands) 1) _ _ (same a (z .glyph))
-    (went-by-test a (z .glyph) (ltb (indexAt operands 0) (sizeOf (length contours) 1 (s .pointers .zp2))) _ _ (span-by-still a s e true _ _ z _) (same a (z .glyph)))
+    either (GlyphStill a (z .glyph)) (ltb (length operands) 1) (same a (z .glyph))
+    (either (GlyphStill a (z .glyph)) (ltb (indexAt operands 0) (sizeOf (length contours) 1 (s .pointers .zp2))) (span-by-still a s e true _ _ z _) (same a (z .glyph)))
 
 pub shz-still : (a : Axis) (s : GraphicsState) → Straight a s → (op : ℕ) (operands : List ℤ) (contours : List ℕ) (gox goy tox toy : List ℤ) (z : Zones)
     → PointsStill a (z .glyph) (shzOf s op operands contours gox goy tox toy z .left .glyph)
 unfolding shzOf spanOf
 shz-still a s e op operands contours gox goy tox toy z =
-    went-by-test a (z .glyph) (ltb (length operands) 1) _ _ (same a (z .glyph))
-    (went-by-test a (z .glyph) (ltb 1 (indexAt operands 0)) _ _ (same a (z .glyph)) (span-by-still a s e false _ _ z _))
+    either (GlyphStill a (z .glyph)) (ltb (length operands) 1) (same a (z .glyph))
+    (either (GlyphStill a (z .glyph)) (ltb 1 (indexAt operands 0)) (same a (z .glyph)) (span-by-still a s e false _ _ z _))

@@ -141,3 +141,9 @@ x-set Y xs at z = level-set (leveled xs) at z ∙ x-again Y xs ∙ sym (level-se
 pub y-set : (a : Axis) (ys : List ℤ) (at : ℕ) (z : ℤ) → ySeen a (set (ySeen a ys) at z) ≡ ySeen a (set ys at z)
 y-set X ys at z = level-set (leveled ys) at z ∙ y-again X ys ∙ sym (level-set ys at z)
 y-set Y ys at z = refl
+
+-- ---- by a test
+-- what is seen of either outcome of a test
+pub seen-by-test : {A B : Type 0} (f : A → B) (t : Bool) {p q p' q' : A} → f p ≡ f p' → f q ≡ f q' → f (cond t p q) ≡ f (cond t p' q')
+seen-by-test f true e d = e
+seen-by-test f false e d = d

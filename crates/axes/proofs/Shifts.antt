@@ -16,7 +16,7 @@ use Rattle.graphics.specs.declared.ZonePointer.the-variants.{Glyph, Twilight}
 use Rattle.graphics.specs.declared.ZonePointer.{ZonePointer}
 use Rattle.line.specs.Line.{refusedWith}
 use Rattle.looped.specs.Each.{ended, pass}
-use Rattle.looped.specs.Looped.{Points, Went, Zones, glyphLeft, resetAfter, shiftUnlessIdle, twilightLeft, went}
+use Rattle.looped.specs.Looped.{Points, Zones, glyphLeft, resetAfter, shiftUnlessIdle, twilightLeft, went}
 use Rattle.moves.specs.Displacement.{displacedIn, referenceOf}
 use Rattle.moves.specs.Move.{isIdle, zp2MoveOf}
 use Rattle.moves.specs.declared.Displaced.the-variants.{By, Refused as RefusedDisplacement}
@@ -29,11 +29,7 @@ use Rattle.shifts.specs.Shifts.{noContour, pointAfter, shcAt, shcOf, shzOf}
 use Rattle.spans.specs.Span.{keeping, pointsFrom, sameZone, shiftBut, shiftSpan, shiftSpanIn, spanBy, spanOf}
 use Rattle.axes.proofs.Each.{each-seen, endedSeen}
 use Rattle.axes.proofs.Looped.{displaced-seen, each-in-seen, points-again, pointsSeen, shift-by, wentSeen, zones-again, zonesSeen}
-use Rattle.axes.proofs.Seen.{x-length}
-
-went-by-test : (a : Axis) (t : Bool) (p q p' q' : Went Zones) → wentSeen a p ≡ wentSeen a p' → wentSeen a q ≡ wentSeen a q' → wentSeen a (cond t p q) ≡ wentSeen a (cond t p' q')
-went-by-test a true p q p' q' e f = e
-went-by-test a false p q p' q' e f = f
+use Rattle.axes.proofs.Seen.{x-length, seen-by-test}
 
 -- ---- SHPIX
 amount-seen : (a : Axis) (s : GraphicsState) (z : Zones) (operands : List ℤ) → wentSeen a (shiftByAmount s (zonesSeen a z) operands) ≡ wentSeen a (shiftByAmount s z operands)
@@ -44,7 +40,7 @@ amount-seen a s z (amount ∷ points) = ap (resetAfter s) (each-in-seen a (pixel
 pub shpix-seen : (a : Axis) (s : GraphicsState) (operands : List ℤ) (z : Zones) → wentSeen a (shpixOf s operands (zonesSeen a z)) ≡ wentSeen a (shpixOf s operands z)
 unfolding shpixOf
 shpix-seen a s operands z =
-    went-by-test a (s .facts .«backward_compatibility») _ _ _ _ (ap (went (refusedWith s Compatibility)) (zones-again a z)) (amount-seen a s z operands)
+    seen-by-test (wentSeen a) (s .facts .«backward_compatibility») (ap (went (refusedWith s Compatibility)) (zones-again a z)) (amount-seen a s z operands)
 
 -- ---- points in a row
 but-by : (a : Axis) (m : Move) (keeps : Bool) (at : ℕ) (p : Points)
@@ -96,8 +92,8 @@ module _ (a : Axis) (s : GraphicsState) (straight : Straight a s) (op : ℕ) (go
     unfolding shcOf shcAt
     shc-seen =
         let index = indexAt operands 0 in
-        went-by-test a (ltb (length operands) 1) _ _ _ _ (ap (went (refusedWith s Missing)) (zones-again a z))
-        (went-by-test a (ltb index (sizeOf (length contours) 1 (s .pointers .zp2))) _ _ _ _
+        seen-by-test (wentSeen a) (ltb (length operands) 1) (ap (went (refusedWith s Missing)) (zones-again a z))
+        (seen-by-test (wentSeen a) (ltb index (sizeOf (length contours) 1 (s .pointers .zp2)))
         (to-end-seen true (pointAfter contours index) (λ (n : ℕ). sizeOf (pointAfter contours (suc index)) n (s .pointers .zp2)))
         (ap (went (noContour s index)) (zones-again a z)))
 
@@ -105,6 +101,6 @@ module _ (a : Axis) (s : GraphicsState) (straight : Straight a s) (op : ℕ) (go
     unfolding shzOf
     shz-seen =
         let zone = indexAt operands 0 in
-        went-by-test a (ltb (length operands) 1) _ _ _ _ (ap (went (refusedWith s Missing)) (zones-again a z))
-        (went-by-test a (ltb 1 zone) _ _ _ _ (ap (went (refusedWith s (BadZone zone))) (zones-again a z))
+        seen-by-test (wentSeen a) (ltb (length operands) 1) (ap (went (refusedWith s Missing)) (zones-again a z))
+        (seen-by-test (wentSeen a) (ltb 1 zone) (ap (went (refusedWith s (BadZone zone))) (zones-again a z))
         (to-end-seen false 0 (λ (n : ℕ). sizeOf (pointAfter contours (length contours)) n (s .pointers .zp2))))

@@ -56,6 +56,7 @@ use Rattle.looped.specs.Each.{pass}
 use Rattle.axes.proofs.Inert.{Inert, PointsStill, apply-still, inert-move, inert-zp2, on-curve-apart, shift-in-still, stays, then}
 use Rattle.axes.proofs.Rows.{fliprg-still, shc-still, shpix-still, shz-still}
 use Rattle.axes.proofs.Lines.{isIntersection, lineNumber, no-intersection, or-left}
+use Rattle.int.proofs.Tests.{either}
 
 -- ---- the lines that place a point
 abbrev PlacedStill : Axis → List ℤ → List ℤ → List ℕ → Placed → Type 0
@@ -66,16 +67,6 @@ BothStill a gx gy gflags p = Still a gx gy gflags (p .gx) (p .gy) (p .gflags)
 
 abbrev AllStill : Axis → List ℤ → List ℤ → List ℕ → AllPlaced → Type 0
 AllStill a gx gy gflags p = Still a gx gy gflags (p .gx) (p .gy) (p .gflags)
-
-both-by-test : (a : Axis) (gx gy : List ℤ) (gflags : List ℕ) (t : Bool) (p q : BothPlaced) → BothStill a gx gy gflags p → BothStill a gx gy gflags q
-    → BothStill a gx gy gflags (cond t p q)
-both-by-test a gx gy gflags true p q u v = u
-both-by-test a gx gy gflags false p q u v = v
-
-all-by-test : (a : Axis) (gx gy : List ℤ) (gflags : List ℕ) (t : Bool) (p q : AllPlaced) → AllStill a gx gy gflags p → AllStill a gx gy gflags q
-    → AllStill a gx gy gflags (cond t p q)
-all-by-test a gx gy gflags true p q u v = u
-all-by-test a gx gy gflags false p q u v = v
 
 place-by-still : (a : Axis) (s : GraphicsState) → Straight a s → (d : ℤ) (at : ℕ) (xs ys : List ℤ) (flags : List ℕ) → PlacedStill a xs ys flags (placeBy s d at xs ys flags)
 unfolding placeBy
@@ -96,7 +87,7 @@ mdap-still : (a : Axis) (s : GraphicsState) → Straight a s → (op : ℕ) (ope
     → BothStill a gx gy gflags (mdapOf s op operands gx gy gflags tx ty tflags)
 unfolding mdapOf
 mdap-still a s e op operands gx gy gflags tx ty tflags =
-    both-by-test a gx gy gflags (ltb (length operands) 1) _ _ (stays a gx gy gflags)
+    either (BothStill a gx gy gflags) (ltb (length operands) 1) (stays a gx gy gflags)
     (mdap-in-still a s e op (indexAt operands 0) gx gy gflags tx ty tflags (s .pointers .zp0))
 
 miap-from-still : (a : Axis) (s : GraphicsState) → Straight a s → (op : ℕ) (c : ℤ) (at : ℕ) (xs ys : List ℤ) (flags : List ℕ) (here : Fetched)
@@ -114,8 +105,8 @@ miap-still : (a : Axis) (s : GraphicsState) → Straight a s → (op : ℕ) (ope
     → AllStill a gx gy gflags (miapOf s op operands controls gx gy gflags ox oy tx ty tflags)
 unfolding miapOf
 miap-still a s e op operands controls gx gy gflags ox oy tx ty tflags =
-    all-by-test a gx gy gflags (ltb (length operands) 2) _ _ (stays a gx gy gflags)
-    (all-by-test a gx gy gflags (ltb (indexAt operands 0) (length controls)) _ _
+    either (AllStill a gx gy gflags) (ltb (length operands) 2) (stays a gx gy gflags)
+    (either (AllStill a gx gy gflags) (ltb (indexAt operands 0) (length controls))
     (miap-in-still a s e op (getD controls (indexAt operands 0) (pos 0)) (indexAt operands 1) gx gy gflags ox oy tx ty tflags (s .pointers .zp0))
     (stays a gx gy gflags))
 
@@ -136,7 +127,7 @@ msirp-still : (a : Axis) (s : GraphicsState) → Straight a s → (op : ℕ) (op
     → AllStill a gx gy gflags (msirpOf s op operands gx gy gflags ox oy tx ty tflags)
 unfolding msirpOf
 msirp-still a s e op operands gx gy gflags ox oy tx ty tflags =
-    all-by-test a gx gy gflags (ltb (length operands) 2) _ _ (stays a gx gy gflags)
+    either (AllStill a gx gy gflags) (ltb (length operands) 2) (stays a gx gy gflags)
     (msirp-from-still a s e op (getD operands 0 (pos 0)) (indexAt operands 1) gx gy gflags ox oy tx ty tflags
     (reachOf s (indexAt operands 1) (length gx) (length tx) (s .pointers .zp1)))
 
@@ -220,16 +211,14 @@ walked-still X s ux uy ox oy gx gy flags contours false e = cc e
 walked-still Y s ux uy ox oy gx gy flags contours true e = cc e
 walked-still Y s ux uy ox oy gx gy flags contours false e = refl
 
-iup-by-test : (a : Axis) (gx gy : List ℤ) (t : Bool) (p q : Interpolated) → across a (p .gx) (p .gy) ≡ across a gx gy → across a (q .gx) (q .gy) ≡ across a gx gy
-    → across a (cond t p q .gx) (cond t p q .gy) ≡ across a gx gy
-iup-by-test a gx gy true p q u v = u
-iup-by-test a gx gy false p q u v = v
+abbrev AxesStill : Axis → List ℤ → List ℤ → Interpolated → Type 0
+AxesStill a gx gy i = across a (i .gx) (i .gy) ≡ across a gx gy
 
 iup-still : (a : Axis) (s : GraphicsState) (op : ℕ) (ux uy ox oy gx gy : List ℤ) (flags contours : List ℕ) → isOdd op ≡ alongIs a
     → across a (iupBy s op ux uy ox oy gx gy flags contours .gx) (iupBy s op ux uy ox oy gx gy flags contours .gy) ≡ across a gx gy
 unfolding iupBy
 iup-still a s op ux uy ox oy gx gy flags contours e =
-    iup-by-test a gx gy (pastBothIups (s .facts)) _ _ refl (walked-still a (markedFor s op) ux uy ox oy gx gy flags contours (isOdd op) e)
+    either (AxesStill a gx gy) (pastBothIups (s .facts)) refl (walked-still a (markedFor s op) ux uy ox oy gx gy flags contours (isOdd op) e)
 
 -- which of the two opcodes it is
 abbrev Truth : Bool → Type 0

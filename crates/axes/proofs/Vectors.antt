@@ -1,5 +1,5 @@
 -- Only the setters of vectors change them: every other line leaves all three, done or refused. By the line's cases. Assumes nothing.
-use mathlib.Core.Bool.{Bool, cond, false, true}
+use mathlib.Core.Bool.{Bool, false, true}
 use mathlib.Core.List.{List, [], _∷_}
 use mathlib.Core.Path.{_≡_, refl}
 use lib.ListN.{getD, length}
@@ -39,32 +39,41 @@ use Rattle.miap.specs.Numbers.{miapDistance}
 use Rattle.moves.specs.Move.{moveOf}
 use Rattle.relative.specs.Msirp.{msirpAt, msirpDistance, msirpFrom, msirpGlyph, msirpIn, msirpOf, msirpSettled, msirpTwilight, passedOver, reachOf, referencesAfter}
 use Rattle.graphics.specs.State.{pastBothIups}
+use Rattle.int.proofs.Tests.{either}
 
 -- the vectors are those of s
 abbrev pub Held : GraphicsState → GraphicsState → Type 0
 Held s t = t .vectors ≡ s .vectors
 
-by-test : (s : GraphicsState) (t : Bool) (x y : Stepped) → Held s (x .state) → Held s (y .state) → Held s (cond t x y .state)
-by-test s true x y p q = p
-by-test s false x y p q = q
+-- the same of what a line comes to
+abbrev LineHeld : GraphicsState → Stepped → Type 0
+LineHeld s r = Held s (r .state)
 
-state-by-test : (s : GraphicsState) (t : Bool) (x y : GraphicsState) → Held s x → Held s y → Held s (cond t x y)
-state-by-test s true x y p q = p
-state-by-test s false x y p q = q
+abbrev WentHeld : {S : Type 0} → GraphicsState → Went S → Type 0
+WentHeld s g = LineHeld s (g .stepped)
+
+abbrev BothHeld : GraphicsState → BothPlaced → Type 0
+BothHeld s p = LineHeld s (p .stepped)
+
+abbrev AllHeld : GraphicsState → AllPlaced → Type 0
+AllHeld s p = LineHeld s (p .stepped)
+
+abbrev AxesHeld : GraphicsState → Interpolated → Type 0
+AxesHeld s i = LineHeld s (i .stepped)
 
 -- ---- the setters of anything else
 zone-held : (s : GraphicsState) (op : ℕ) (word : ℤ) → Held s (zoneBy s op word .state)
 unfolding zoneBy pointerBy
-zone-held s op word = by-test s (eqZ word (pos 0)) _ _ refl (by-test s (eqZ word (pos 1)) _ _ refl refl)
+zone-held s op word = either (LineHeld s) (eqZ word (pos 0)) refl (either (LineHeld s) (eqZ word (pos 1)) refl refl)
 
 loop-held : (s : GraphicsState) (word : ℤ) → Held s (loopBy s word .state)
 unfolding loopBy
-loop-held s word = by-test s (nonNeg word) _ _ refl refl
+loop-held s word = either (LineHeld s) (nonNeg word) refl refl
 
 operand-held : (s : GraphicsState) (op : ℕ) (word : ℤ) → Held s (operandBy s op word .state)
 unfolding operandBy referenceBy
 operand-held s op word =
-    by-test s (ltb op 0x13) _ _ refl (by-test s (ltb op 0x17) _ _ (zone-held s op word) (by-test s (ltb op 0x18) _ _ (loop-held s word) refl))
+    either (LineHeld s) (ltb op 0x13) refl (either (LineHeld s) (ltb op 0x17) (zone-held s op word) (either (LineHeld s) (ltb op 0x18) (loop-held s word) refl))
 
 operands-held : (s : GraphicsState) (op : ℕ) (operands : List ℤ) → Held s (onOperand s (operandBy s op) operands .state)
 operands-held s op [] = refl
@@ -72,7 +81,7 @@ operands-held s op (word ∷ words) = operand-held s op word
 
 pub others-held : (s : GraphicsState) (op : ℕ) (operands : List ℤ) → ltb op 0x06 ≡ false → Held s (setBy s op operands .state)
 unfolding setBy
-others-held s op operands e = rw e (by-test s (takesOperand op) _ _ (operands-held s op operands) refl)
+others-held s op operands e = rw e (either (LineHeld s) (takesOperand op) (operands-held s op operands) refl)
 
 -- ---- the looped lines
 pub flippt-held : (s : GraphicsState) (operands : List ℤ) (flags : List ℕ) → Held s (flipptOf s operands flags .stepped .state)
@@ -93,13 +102,9 @@ unfolding shpOf
 shp-held s op operands gox goy tox toy z = shift-held s operands z _
 
 -- ---- the range flips, SHPIX, SHC and SHZ
-went-by-test : {S : Type 0} (s : GraphicsState) (t : Bool) (x y : Went S) → Held s (x .stepped .state) → Held s (y .stepped .state) → Held s (cond t x y .stepped .state)
-went-by-test s true x y p q = p
-went-by-test s false x y p q = q
-
 pub fliprg-held : (s : GraphicsState) (op : ℕ) (operands : List ℤ) (flags : List ℕ) → Held s (fliprgOf s op operands flags .stepped .state)
 unfolding fliprgOf
-fliprg-held s op operands flags = went-by-test s (ltb (length operands) 2) _ _ refl (went-by-test s (pastBothIups (s .facts)) _ _ refl refl)
+fliprg-held s op operands flags = either (WentHeld s) (ltb (length operands) 2) refl (either (WentHeld s) (pastBothIups (s .facts)) refl refl)
 
 amount-held : (s : GraphicsState) (z : Zones) (operands : List ℤ) → Held s (shiftByAmount s z operands .stepped .state)
 unfolding shiftByAmount
@@ -108,7 +113,7 @@ amount-held s z (amount ∷ points) = refl
 
 pub shpix-held : (s : GraphicsState) (operands : List ℤ) (z : Zones) → Held s (shpixOf s operands z .stepped .state)
 unfolding shpixOf
-shpix-held s operands z = went-by-test s (s .facts .«backward_compatibility») _ _ refl (amount-held s z operands)
+shpix-held s operands z = either (WentHeld s) (s .facts .«backward_compatibility») refl (amount-held s z operands)
 
 span-held : (s : GraphicsState) (touches : Bool) (start end : ℕ) (z : Zones) (d : Displaced) → Held s (spanBy s touches start end z d .stepped .state)
 unfolding spanBy
@@ -119,14 +124,14 @@ pub shc-held : (s : GraphicsState) (op : ℕ) (operands : List ℤ) (contours : 
     → Held s (shcOf s op operands contours gox goy tox toy z .stepped .state)
 unfolding shcOf shcAt spanOf
 shc-held s op operands contours gox goy tox toy z =
-    went-by-test s (ltb (length operands) 1) _ _ refl
-    (went-by-test s (ltb (indexAt operands 0) (sizeOf (length contours) 1 (s .pointers .zp2))) _ _ (span-held s true _ _ z _) (by-test s (s .facts .pedantic) _ _ refl refl))
+    either (WentHeld s) (ltb (length operands) 1) refl
+    (either (WentHeld s) (ltb (indexAt operands 0) (sizeOf (length contours) 1 (s .pointers .zp2))) (span-held s true _ _ z _) (either (LineHeld s) (s .facts .pedantic) refl refl))
 
 pub shz-held : (s : GraphicsState) (op : ℕ) (operands : List ℤ) (contours : List ℕ) (gox goy tox toy : List ℤ) (z : Zones)
     → Held s (shzOf s op operands contours gox goy tox toy z .stepped .state)
 unfolding shzOf spanOf
 shz-held s op operands contours gox goy tox toy z =
-    went-by-test s (ltb (length operands) 1) _ _ refl (went-by-test s (ltb 1 (indexAt operands 0)) _ _ refl (span-held s false _ _ z _))
+    either (WentHeld s) (ltb (length operands) 1) refl (either (WentHeld s) (ltb 1 (indexAt operands 0)) refl (span-held s false _ _ z _))
 
 -- ---- MDAP and MIAP
 settled-held : (s : GraphicsState) (at : ℕ) (call : Call) → Held s (settled s at call .state)
@@ -137,18 +142,10 @@ place-by-held : (s : GraphicsState) (d : ℤ) (at : ℕ) (xs ys : List ℤ) (fla
 unfolding placeBy
 place-by-held s d at xs ys flags = settled-held s at (applyOf (moveOf (s .vectors) (s .facts) d) at xs ys flags .call)
 
-both-by-test : (s : GraphicsState) (t : Bool) (x y : BothPlaced) → Held s (x .stepped .state) → Held s (y .stepped .state) → Held s (cond t x y .stepped .state)
-both-by-test s true x y p q = p
-both-by-test s false x y p q = q
-
-all-by-test : (s : GraphicsState) (t : Bool) (x y : AllPlaced) → Held s (x .stepped .state) → Held s (y .stepped .state) → Held s (cond t x y .stepped .state)
-all-by-test s true x y p q = p
-all-by-test s false x y p q = q
-
 mdap-from-held : (s : GraphicsState) (op at : ℕ) (xs ys : List ℤ) (flags : List ℕ) (here : Fetched) → Held s (mdapFrom s op at xs ys flags here .stepped .state)
 unfolding outsideMdap
 mdap-from-held s op at xs ys flags (At p) = place-by-held s (mdapDistance s op p) at xs ys flags
-mdap-from-held s op at xs ys flags (RefusedPlace why) = by-test s (s .facts .pedantic) _ _ refl refl
+mdap-from-held s op at xs ys flags (RefusedPlace why) = either (LineHeld s) (s .facts .pedantic) refl refl
 
 mdap-in-held : (s : GraphicsState) (op at : ℕ) (gx gy : List ℤ) (gflags : List ℕ) (tx ty : List ℤ) (tflags : List ℕ) (z : ZonePointer)
     → Held s (mdapIn s op at gx gy gflags tx ty tflags z .stepped .state)
@@ -160,7 +157,7 @@ pub mdap-held : (s : GraphicsState) (op : ℕ) (operands gx gy : List ℤ) (gfla
     → Held s (mdapOf s op operands gx gy gflags tx ty tflags .stepped .state)
 unfolding mdapOf
 mdap-held s op operands gx gy gflags tx ty tflags =
-    both-by-test s (ltb (length operands) 1) _ _ refl (mdap-in-held s op (indexAt operands 0) gx gy gflags tx ty tflags (s .pointers .zp0))
+    either (BothHeld s) (ltb (length operands) 1) refl (mdap-in-held s op (indexAt operands 0) gx gy gflags tx ty tflags (s .pointers .zp0))
 
 miap-from-held : (s : GraphicsState) (op : ℕ) (c : ℤ) (at : ℕ) (xs ys : List ℤ) (flags : List ℕ) (here : Fetched) → Held s (miapFrom s op c at xs ys flags here .stepped .state)
 miap-from-held s op c at xs ys flags (At p) = place-by-held s (miapDistance s op c (fromOrigin (s .vectors) p)) at xs ys flags
@@ -180,15 +177,15 @@ pub miap-held : (s : GraphicsState) (op : ℕ) (operands controls gx gy : List �
     → Held s (miapOf s op operands controls gx gy gflags ox oy tx ty tflags .stepped .state)
 unfolding miapOf
 miap-held s op operands controls gx gy gflags ox oy tx ty tflags =
-    all-by-test s (ltb (length operands) 2) _ _ refl
-    (all-by-test s (ltb (indexAt operands 0) (length controls)) _ _
+    either (AllHeld s) (ltb (length operands) 2) refl
+    (either (AllHeld s) (ltb (indexAt operands 0) (length controls))
     (miap-in-held s op (getD controls (indexAt operands 0) (pos 0)) (indexAt operands 1) gx gy gflags ox oy tx ty tflags (s .pointers .zp0))
     refl)
 
 -- ---- MSIRP
 references-held : (s : GraphicsState) (op at : ℕ) → Held s (referencesAfter s op at)
 unfolding referencesAfter
-references-held s op at = state-by-test s (isOdd op) _ _ refl refl
+references-held s op at = either (Held s) (isOdd op) refl refl
 
 msirp-settled-held : (s : GraphicsState) (op at : ℕ) (call : Call) → Held s (msirpSettled s op at call .state)
 msirp-settled-held s op at Done = references-held s op at
@@ -209,20 +206,20 @@ msirp-from-held : (s : GraphicsState) (op : ℕ) (d : ℤ) (at : ℕ) (gx gy : L
     → Held s (msirpFrom s op d at gx gy gflags ox oy tx ty tflags there .stepped .state)
 unfolding passedOver
 msirp-from-held s op d at gx gy gflags ox oy tx ty tflags Done = msirp-in-held s op d at gx gy gflags ox oy tx ty tflags (s .pointers .zp1)
-msirp-from-held s op d at gx gy gflags ox oy tx ty tflags (Refused why) = by-test s (s .facts .pedantic) _ _ refl refl
+msirp-from-held s op d at gx gy gflags ox oy tx ty tflags (Refused why) = either (LineHeld s) (s .facts .pedantic) refl refl
 
 pub msirp-held : (s : GraphicsState) (op : ℕ) (operands gx gy : List ℤ) (gflags : List ℕ) (ox oy tx ty : List ℤ) (tflags : List ℕ)
     → Held s (msirpOf s op operands gx gy gflags ox oy tx ty tflags .stepped .state)
 unfolding msirpOf
 msirp-held s op operands gx gy gflags ox oy tx ty tflags =
-    all-by-test s (ltb (length operands) 2) _ _ refl
+    either (AllHeld s) (ltb (length operands) 2) refl
     (msirp-from-held s op (getD operands 0 (pos 0)) (indexAt operands 1) gx gy gflags ox oy tx ty tflags
     (reachOf s (indexAt operands 1) (length gx) (length tx) (s .pointers .zp1)))
 
 -- ---- IUP
 marked-held : (s : GraphicsState) (op : ℕ) → Held s (markedFor s op)
 unfolding markedFor
-marked-held s op = state-by-test s (s .facts .«backward_compatibility») _ _ (state-by-test s (isOdd op) _ _ refl refl) refl
+marked-held s op = either (Held s) (s .facts .«backward_compatibility») (either (Held s) (isOdd op) refl refl) refl
 
 walked-held : (s t : GraphicsState) → Held s t → (ux uy ox oy gx gy : List ℤ) (flags contours : List ℕ) (odd : Bool)
     → Held s (walkedBy t ux uy ox oy gx gy flags contours odd .stepped .state)
@@ -230,11 +227,7 @@ unfolding iupOn
 walked-held s t e ux uy ox oy gx gy flags contours true = e
 walked-held s t e ux uy ox oy gx gy flags contours false = e
 
-iup-by-test : (s : GraphicsState) (t : Bool) (x y : Interpolated) → Held s (x .stepped .state) → Held s (y .stepped .state) → Held s (cond t x y .stepped .state)
-iup-by-test s true x y p q = p
-iup-by-test s false x y p q = q
-
 pub iup-held : (s : GraphicsState) (op : ℕ) (ux uy ox oy gx gy : List ℤ) (flags contours : List ℕ) → Held s (iupBy s op ux uy ox oy gx gy flags contours .stepped .state)
 unfolding iupBy
 iup-held s op ux uy ox oy gx gy flags contours =
-    iup-by-test s (pastBothIups (s .facts)) _ _ refl (walked-held s (markedFor s op) (marked-held s op) ux uy ox oy gx gy flags contours (isOdd op))
+    either (AxesHeld s) (pastBothIups (s .facts)) refl (walked-held s (markedFor s op) (marked-held s op) ux uy ox oy gx gy flags contours (isOdd op))

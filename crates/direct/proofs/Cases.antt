@@ -19,16 +19,9 @@ use Rattle.moves.specs.declared.Move.{Move}
 use Rattle.moves.specs.declared.Reference.{Reference}
 use Rattle.zone.proofs.Cases.{pair-length, placed-length, placed-pair}
 use Rattle.zone.specs.Sizes.{pairFits, placedFits}
+use Rattle.graphics.proofs.Laws.{and-left, and-right}
 
 -- ---- what the tests tell
-both-first : (a b : Bool) → a && b ≡ true → a ≡ true
-both-first true b e = refl
-both-first false b e = cc e
-
-both-second : (a b : Bool) → a && b ≡ true → b ≡ true
-both-second true b e = e
-both-second false b e = cc e
-
 entry-done : (fits ready : Bool) → entryBy fits ready ≡ Done → fits ≡ true
 entry-done true ready e = refl
 entry-done false ready e = cc e
@@ -44,19 +37,19 @@ begun-fits {fits} ready p q e = entry-done fits ready (sym (begun-is ready p q e
 pub pairs-lengths : (gx gy tx ty : List ℤ) → pairsFit gx gy tx ty ≡ true → (length gy ≡ length gx) × (length ty ≡ length tx)
 unfolding pairsFit
 pairs-lengths gx gy tx ty e =
-    (pair-length gx gy (both-first (pairFits gx gy) _ e), pair-length tx ty (both-second (pairFits gx gy) _ e))
+    (pair-length gx gy (and-left (pairFits gx gy) _ e), pair-length tx ty (and-right (pairFits gx gy) _ e))
 
 pub all-pairs-lengths : (gox goy gcx gcy tox toy tcx tcy : List ℤ) → pairsFit gox goy tox toy && pairsFit gcx gcy tcx tcy ≡ true → (length goy ≡ length gox) × (length gcy ≡ length gcx) × (length toy ≡ length tox) × (length tcy ≡ length tcx)
 all-pairs-lengths gox goy gcx gcy tox toy tcx tcy e =
-    let o = pairs-lengths gox goy tox toy (both-first (pairsFit gox goy tox toy) _ e) in
-    let k = pairs-lengths gcx gcy tcx tcy (both-second (pairsFit gox goy tox toy) _ e) in
+    let o = pairs-lengths gox goy tox toy (and-left (pairsFit gox goy tox toy) _ e) in
+    let k = pairs-lengths gcx gcy tcx tcy (and-right (pairsFit gox goy tox toy) _ e) in
     (o .0, k .0, o .1, k .1)
 
 pub zones-lengths : (gx gy : List ℤ) (gflags : List ℕ) (tx ty : List ℤ) (tflags : List ℕ) → zonesFit gx gy gflags tx ty tflags ≡ true → (length gy ≡ length gx) × (length gflags ≡ length gx) × (length ty ≡ length tx) × (length tflags ≡ length tx)
 unfolding zonesFit
 zones-lengths gx gy gflags tx ty tflags e =
-    let g : placedFits gx gy gflags ≡ true = both-first (placedFits gx gy gflags) _ e in
-    let t : placedFits tx ty tflags ≡ true = both-second (placedFits gx gy gflags) _ e in
+    let g : placedFits gx gy gflags ≡ true = and-left (placedFits gx gy gflags) _ e in
+    let t : placedFits tx ty tflags ≡ true = and-right (placedFits gx gy gflags) _ e in
     (pair-length gx gy (placed-pair gx gy gflags g), placed-length gx gy gflags g, pair-length tx ty (placed-pair tx ty tflags t), placed-length tx ty tflags t)
 
 -- ---- how each call goes on

@@ -1,7 +1,7 @@
 -- The graphics state: OpenType, "The graphics state" (tt_graphics_state) with its defaults, and the instructions SVTCA, SPVTCA, SFVTCA, RTG and
--- its kin, SROUND and S45ROUND, SLOOP, SRP0 to SRP2, SZP0 to SZP2 and SZPS, each of which sets a part of one group. The facts are those that FreeType 2.13.3 keeps
--- beside it (ttinterp.c: backward_compatibility, pedantic_hinting, iupx_called, iupy_called), and native ClearType x, which the host gives.
--- Document 01 gives a vector's range and the state that a glyph starts with. Assumes nothing.
+-- its kin, SROUND, S45ROUND, SLOOP, SRP0 to SRP2, SZP0 to SZP2 and SZPS, each of which sets a part of one group. The facts are those that FreeType
+-- 2.13.3 keeps beside it (ttinterp.c: backward_compatibility, pedantic_hinting, iupx_called, iupy_called), and native ClearType x, which the host
+-- gives. Document 01 gives a vector's range and the state that a glyph starts with. Assumes nothing.
 use mathlib.Core.Bool.{Bool, true, false, _&&_}
 use Prim.Native.Nat.{ℕ}
 use lib.IntN.{ℤ, pos, negℤ}

@@ -12,7 +12,7 @@ use Rattle.graphics.specs.declared.ZonePointer.the-variants.{Twilight, Glyph}
 use Rattle.zone.specs.declared.Fetched.{Fetched}
 use Rattle.zone.specs.declared.Fetched.the-variants.{At}
 use Rattle.zone.specs.declared.Fetched.the-variants.{Refused as RefusedPlace}
-use Rattle.zone.proofs.Cases.{either}
+use Rattle.int.proofs.Tests.{either}
 use Rattle.zone.proofs.Keeps.{change-length}
 use Rattle.places.specs.Lines.{indexAt}
 use Rattle.places.proofs.Keeps.{put-kept, Kept, kept, BothKept, both-kept, glyph-kept, twilight-kept}

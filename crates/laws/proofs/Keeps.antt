@@ -17,11 +17,11 @@ use Rattle.sheet.specs.declared.Decoded.the-variants.{Operands}
 use Rattle.onward.specs.Onward.{Ran, onCall, replayOf}
 use Rattle.replay.specs.Run.{entryOf, onEntry, runOf}
 use Rattle.world.specs.Sizes.{fits, worldFits}
-use Rattle.step.specs.Step.{onDecoded, placeAfter}
+use Rattle.step.specs.Step.{onDecoded, placeAfter, stepOf}
 use Rattle.align.proofs.Keeps.{alignrp-lengths}
 use Rattle.sheet.specs.Table.{decodeOf}
-use Rattle.zone.proofs.Cases.{either}
-use Rattle.onward.proofs.Loop.{same-sizes, still-alike}
+use Rattle.int.proofs.Tests.{either}
+use Rattle.onward.proofs.Loop.{same-sizes, still-alike, Sizes, mkSizes, sizes}
 use Rattle.replay.proofs.Entry.{entered-alike}
 use Rattle.looped.proofs.Keeps.{BothSame, flippt-length, shp-lengths}
 use Rattle.looped.specs.Looped.{Zones}
@@ -39,8 +39,6 @@ use Rattle.relative.proofs.Keeps.{msirp-lengths}
 use Rattle.step.proofs.Steps.{operands-inside}
 use Rattle.graphics.specs.State.{usableState}
 use Rattle.laws.proofs.Usable.{alignrp-usable, flippt-usable, fliprg-usable, isect-usable, iup-usable, mdap-usable, miap-usable, msirp-usable, set-usable, shc-usable, shp-usable, shpix-usable, shz-usable}
-use Rattle.onward.proofs.Loop.{Sizes, mkSizes, sizes}
-use Rattle.step.specs.Step.{stepOf}
 use Rattle.answer.specs.declared.Call.the-variants.{Refused as RefusedCall}
 use Rattle.sheet.specs.declared.Decoded.the-variants.{Refused as RefusedLine}
 

@@ -34,7 +34,7 @@ use Rattle.moves.specs.Apply.{applyOf}
 use Rattle.sheet.specs.Setters.{axisBy, loopBy, modeBy, onOperand, operandBy, pointerBy, referenceBy, setBy, takesOperand, vectorsBy, zoneBy}
 use Rattle.miap.specs.Numbers.{controlPlace, miapDistance}
 use Rattle.line.specs.Line.{doneWith}
-use Rattle.zone.proofs.Cases.{either}
+use Rattle.int.proofs.Tests.{either}
 use Rattle.int.specs.Word.{eqZ, indexOf}
 use Rattle.zone.specs.Zone.{fetchOf, placeOf}
 use Rattle.outline.specs.Numbers.{fromOrigin, mdapDistance}

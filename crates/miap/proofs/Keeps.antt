@@ -12,7 +12,7 @@ use Rattle.zone.specs.Zone.{fetchOf}
 use Rattle.zone.specs.declared.Fetched.{Fetched}
 use Rattle.zone.specs.declared.Fetched.the-variants.{At}
 use Rattle.zone.specs.declared.Fetched.the-variants.{Refused as RefusedPlace}
-use Rattle.zone.proofs.Cases.{either}
+use Rattle.int.proofs.Tests.{either}
 use Rattle.places.specs.Lines.{indexAt, putAt}
 use Rattle.places.proofs.Keeps.{put-kept, Kept, kept, TwilightKept, AllKept, all-kept, all-glyph-kept, all-twilight-kept}
 use Rattle.outline.specs.Numbers.{fromOrigin}

@@ -17,7 +17,7 @@ use Rattle.moves.specs.Move.{isNot0, stepOf, isExempt, moveOf, zp2MoveOf
 use Rattle.moves.specs.declared.Move.{Move}
 use Rattle.point.proofs.Bits.{or-keeps}
 use Rattle.point.specs.Flag.{bit}
-use Rattle.zone.proofs.Cases.{either}
+use Rattle.int.proofs.Tests.{either}
 use Rattle.zone.proofs.Keeps.{change-length, change-other, change-bit}
 
 -- ---- one axis

@@ -11,7 +11,7 @@ use Rattle.zone.specs.Zone.{fetchOf}
 use Rattle.zone.specs.declared.Fetched.{Fetched}
 use Rattle.zone.specs.declared.Fetched.the-variants.{At}
 use Rattle.zone.specs.declared.Fetched.the-variants.{Refused as RefusedPlace}
-use Rattle.zone.proofs.Cases.{either}
+use Rattle.int.proofs.Tests.{either}
 use Rattle.moves.specs.Move.{moveOf}
 use Rattle.moves.proofs.Keeps.{apply-lengths}
 use Rattle.places.specs.Lines.{indexAt}

@@ -5,7 +5,7 @@ use Rattle.graphics.specs.declared.GraphicsState.{GraphicsState}
 use Rattle.looped.proofs.Keeps.{BothSame, both-same, shift-in-same}
 use Rattle.looped.specs.Looped.{Went, Zones}
 use Rattle.pixels.specs.Pixels.{pixelMove, shiftByAmount, shpixOf}
-use Rattle.zone.proofs.Cases.{either}
+use Rattle.int.proofs.Tests.{either}
 
 shift-by-amount-lengths : (s : GraphicsState) (z : Zones) (operands : List ℤ) → BothSame (shiftByAmount s z operands .left) z
 unfolding shiftByAmount

@@ -9,7 +9,7 @@ use Rattle.graphics.specs.State.{pastBothIups}
 use Rattle.graphics.specs.declared.GraphicsState.{GraphicsState}
 use Rattle.looped.specs.Looped.{Went}
 use Rattle.places.specs.Lines.{indexAt, isOdd}
-use Rattle.zone.proofs.Cases.{either}
+use Rattle.int.proofs.Tests.{either}
 use Rattle.zone.proofs.Keeps.{set-on-curve-length}
 use Rattle.ranges.specs.Ranges.{fliprgOf}
 

@@ -13,7 +13,7 @@ use Rattle.graphics.specs.declared.Vectors.{Vectors}
 use Rattle.graphics.specs.declared.ZonePointer.{ZonePointer}
 use Rattle.graphics.specs.declared.ZonePointer.the-variants.{Twilight, Glyph}
 use Rattle.zone.specs.Zone.{placeOf}
-use Rattle.zone.proofs.Cases.{either}
+use Rattle.int.proofs.Tests.{either}
 use Rattle.moves.specs.Move.{moveOf, originalMoveOf}
 use Rattle.moves.proofs.Keeps.{moved-length, apply-lengths}
 use Rattle.places.specs.Lines.{indexAt}

@@ -3,7 +3,7 @@
 -- Assumes nothing.
 use mathlib.Core.Path.{_≡_, refl, ap, _∙_}
 use mathlib.Core.Logic.{⊎-elim}
-use mathlib.Core.Bool.{Bool, true, false, cond}
+use mathlib.Core.Bool.{true, false}
 use Prim.Native.Nat.{ℕ, zero, suc, _+_, _-_, _*_, _/_, _%_, _^_, _≤_, _<_}
 use native.Mathlib.Omega.{arith}
 use borrow.Author.Tests.{lt-leb}
@@ -19,6 +19,7 @@ use Rattle.int.specs.Word.{wrap32, add32, neg32, minZ, maxZ}
 use Rattle.math.proofs.Masks.{pad-pow}
 use Rattle.math.specs.Fixed.{multipleBelow, pixFloor, pixRound, pixCeil}
 use Rattle.round.specs.Round.{mirrored, grid, downToGrid, upToGrid, periodFloor}
+use Rattle.int.proofs.Tests.{either}
 
 -- a result from 0 up of a distance from 0 up, and one from 0 down of a distance below 0
 abbrev pub SameSide : ℤ → ℤ → Type 0
@@ -62,23 +63,19 @@ whole-neg : (z : ℤ) → Whole z → Whole (neg32 z)
 unfolding neg32
 whole-neg z m = whole-wrap (negℤ z) (record { whole = ap (λ (n : ℕ). n % 64) (abs-neg z) ∙ m .whole })
 
-whole-cond : (b : Bool) (x y : ℤ) → Whole x → Whole y → Whole (cond b x y)
-whole-cond true x y p q = p
-whole-cond false x y p q = q
-
 whole-zero : Whole (pos 0)
 whole-zero = record { whole = refl }
 
 whole-max : (z : ℤ) → Whole z → Whole (maxZ z (pos 0))
 unfolding maxZ
-whole-max z m = whole-cond (leZ z (pos 0)) (pos 0) z whole-zero m
+whole-max z m = either Whole (leZ z (pos 0)) whole-zero m
 
 whole-min : (z : ℤ) → Whole z → Whole (minZ z (pos 0))
 unfolding minZ
-whole-min z m = whole-cond (leZ z (pos 0)) z (pos 0) m whole-zero
+whole-min z m = either Whole (leZ z (pos 0)) m whole-zero
 
 whole-mirrored : (f : ℤ → ℤ) → ((z : ℤ) → Whole (f z)) → (d : ℤ) → Whole (mirrored f d)
-whole-mirrored f w d = whole-cond (nonNeg d) (maxZ (f d) (pos 0)) (minZ (neg32 (f (neg32 d))) (pos 0))
+whole-mirrored f w d = either Whole (nonNeg d)
     (whole-max (f d) (w d))
     (whole-min (neg32 (f (neg32 d))) (whole-neg (f (neg32 d)) (w (neg32 d))))
 

@@ -2,7 +2,7 @@
 -- never 0, and no selector makes a state that the state test refuses. Assumes nothing.
 use Prim.Native.Nat.{ℕ, _*_, _/_, _%_, _≤_}
 use native.Mathlib.Omega.{arith}
-use mathlib.Core.Bool.{Bool, true, false, cond, not}
+use mathlib.Core.Bool.{Bool, true, false, not}
 use mathlib.Core.Path.{_≡_, refl, ap}
 use lib.Dec.{eqb}
 use lib.IntN.{ℤ, pos, negsuc, natAbs}
@@ -10,20 +10,17 @@ use borrow.Author.Tests.{ne-eqb}
 use Rattle.int.specs.Word.{bitsOf, eqZ}
 use Rattle.round.specs.Round.{usable}
 use Rattle.selector.specs.Selector.{gridPeriod, periodBy, stateBy, superOf}
+use Rattle.int.proofs.Tests.{either}
 
 -- ---- the period
 pub grid-most : (diagonal : Bool) → gridPeriod diagonal ≤ 0x4000
 grid-most true = omega arith
 grid-most false = omega arith
 
-by-test : (P : ℕ → Type 0) (t : Bool) {a b : ℕ} → P a → P b → P (cond t a b)
-by-test P true p q = p
-by-test P false p q = q
-
 -- each of the three
 by-field : (P : ℕ → Type 0) (grid field : ℕ) → P (grid / 2) → P (grid * 2) → P grid → P (periodBy grid field)
 unfolding periodBy
-by-field P grid field half twice once = by-test P (eqb field 0) half (by-test P (eqb field 2) twice once)
+by-field P grid field half twice once = either P (eqb field 0) half (either P (eqb field 2) twice once)
 
 pub period-most : (diagonal : Bool) (field : ℕ) → periodBy (gridPeriod diagonal) field ≤ 0x8000
 period-most true field = by-field (λ p. p ≤ 0x8000) 0x2D41 field (omega arith) (omega arith) (omega arith)

@@ -28,7 +28,7 @@ periodBy grid field = cond (eqb field 0) (grid / 2) (cond (eqb field 2) (grid * 
 unfoldable pub phaseBy : ℕ → ℕ → ℕ
 phaseBy period field = period * field / 4
 
--- the largest number below the period, or so many eighths of it, less four, toward zero
+-- where the field is 0 the period less one, else field - 4 eighths of the period, toward zero
 unfoldable pub thresholdBy : ℕ → ℕ → ℤ
 thresholdBy period field = cond (eqb field 0) (pos period -ℤ pos 1) (quotZ ((pos field -ℤ pos 4) *ℤ pos period) (pos 8))
 

@@ -12,7 +12,7 @@ use Rattle.places.specs.Lines.{indexAt}
 use Rattle.places.specs.Places.{sizeOf}
 use Rattle.shifts.specs.Shifts.{pointAfter, shcAt, shcOf, shzOf}
 use Rattle.spans.proofs.Keeps.{span-lengths}
-use Rattle.zone.proofs.Cases.{either}
+use Rattle.int.proofs.Tests.{either}
 
 module _ (s : GraphicsState) (opcode : ℕ) (operands : List ℤ) (contours : List ℕ) (gox goy tox toy : List ℤ) (z : Zones) where
   abbrev Kept : Went Zones → Type 0

@@ -1,7 +1,7 @@
 -- What each definition says inside and outside, over plain lists: the functions' proofs cite these, and each is one test rewritten.
 -- Assumes nothing.
 use mathlib.Core.Path.{_≡_, refl, ap, _∙_}
-use mathlib.Core.Bool.{Bool, true, false, cond, _&&_}
+use mathlib.Core.Bool.{Bool, true}
 use mathlib.Core.List.{List, [], _∷_, _++_, map}
 use Prim.Native.Nat.{ℕ, zero, suc, _-_, _≤_, _<_}
 use native.Mathlib.Omega.{arith}
@@ -21,6 +21,7 @@ use Rattle.zone.specs.declared.Fetched.the-variants.{At}
 use Rattle.zone.specs.declared.Touched.the-variants.{Is}
 use Rattle.zone.specs.declared.Touched.the-variants.{Refused as RefusedMark}
 use Rattle.zone.specs.declared.Fetched.the-variants.{Refused as RefusedPlace}
+use Rattle.graphics.proofs.Laws.{and-left, and-right}
 
 module _ (xs ys : List ℤ) (at : ℕ) where
   pub fetched : at < length xs → {place : Vector} → place ≡ placeOf xs ys at → At place ≡ fetchOf xs ys at
@@ -75,28 +76,15 @@ module _ (flags : List ℕ) (start end : ℕ) (on : Bool) where
   unfolding setOnCurveOf
   range-out h k = rw (le-leb start end h, lt-leb end (length flags) k)
 
--- ---- what holds of both cases of a test
-pub either : {A : Type 0} (P : A → Type 0) (b : Bool) {x y : A} → P x → P y → P (cond b x y)
-either P true p q = p
-either P false p q = q
-
 -- ---- what the size tests tell
-both-first : (a b : Bool) → a && b ≡ true → a ≡ true
-both-first true b e = refl
-both-first false b e = cc e
-
-both-second : (a b : Bool) → a && b ≡ true → b ≡ true
-both-second true b e = e
-both-second false b e = cc e
-
 pub pair-length : (xs ys : List ℤ) → pairFits xs ys ≡ true → length ys ≡ length xs
 unfolding pairFits
-pair-length xs ys e = eqb-true (length ys) (length xs) (both-first (eqb (length ys) (length xs)) _ e)
+pair-length xs ys e = eqb-true (length ys) (length xs) (and-left (eqb (length ys) (length xs)) _ e)
 
 pub placed-length : (xs ys : List ℤ) (flags : List ℕ) → placedFits xs ys flags ≡ true → length flags ≡ length xs
 unfolding placedFits
-placed-length xs ys flags e = eqb-true (length flags) (length xs) (both-first (eqb (length flags) (length xs)) _ e)
+placed-length xs ys flags e = eqb-true (length flags) (length xs) (and-left (eqb (length flags) (length xs)) _ e)
 
 pub placed-pair : (xs ys : List ℤ) (flags : List ℕ) → placedFits xs ys flags ≡ true → pairFits xs ys ≡ true
 unfolding placedFits
-placed-pair xs ys flags e = both-second (eqb (length flags) (length xs)) _ e
+placed-pair xs ys flags e = and-right (eqb (length flags) (length xs)) _ e

@@ -14,9 +14,10 @@ use Rattle.int.proofs.Ints.{split}
 use Rattle.point.proofs.Bits.{or-keeps, and-keeps, xor-keeps}
 use Rattle.point.specs.Flag.{bit, cleared, touchBits}
 use Rattle.point.specs.declared.CoordAxis.{CoordAxis}
-use Rattle.zone.proofs.Cases.{range-in, range-reversed, range-out, either}
+use Rattle.zone.proofs.Cases.{range-in, range-reversed, range-out}
 use Rattle.zone.proofs.Each.{length-map}
 use Rattle.zone.specs.Zone.{Marked, changeAt, markedAt, orAt, onCurve, overPart, setOnCurveOf}
+use Rattle.int.proofs.Tests.{either}
 
 -- ---- one flag
 module _ (f : ℕ → ℕ) (flags : List ℕ) (at : ℕ) where
