@@ -234,6 +234,7 @@ pub fn sample() -> Vec<MathRow> {
     rows.extend(wrapped_sums());
     let mut random = Random::new(SEED);
     rows.extend((0..700).map(|_| random_row(&mut random)));
+    rows.extend(square_grid());
     without_repeats(rows)
 }
 
@@ -272,6 +273,25 @@ fn mul_div_corners() -> Vec<MathRow> {
                 }
                 arguments[place] = *corner;
                 rows.push(MathRow::new(MUL_DIV, arguments));
+            }
+        }
+    }
+    rows
+}
+
+/// Quotients by 1 as a 2.14 number, the divisor of a square grid: each pair of corners, each exact half, and 1, -1
+/// and their neighbours for a divisor too.
+fn square_grid() -> Vec<MathRow> {
+    const ONE: i32 = 0x4000;
+    const HALVES: [i32; 4] = [0x2000, -0x2000, 0x6000, -0x6000];
+    let mut rows = Vec::new();
+    for a in corners() {
+        for b in corners().into_iter().chain(HALVES) {
+            rows.push(MathRow::new(MUL_DIV, [a, b, ONE, 0]));
+        }
+        for c in [ONE - 1, ONE + 1, -ONE - 1, -ONE, -ONE + 1] {
+            for b in [ONE, -ONE] {
+                rows.push(MathRow::new(MUL_DIV, [a, b, c, 0]));
             }
         }
     }

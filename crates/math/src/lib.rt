@@ -4,6 +4,7 @@
 // FreeType. 26.6 numbers are 64ths of a pixel, 2.14 numbers 16,384ths, 16.16 numbers 65,536ths. Left out of math.rs: normalize14 and
 // mul_div_no_round, which nothing here uses.
 use int::bit_and;
+use int::equal;
 use int::less;
 use int::low32;
 use int::magnitude;
@@ -12,7 +13,9 @@ use int::wrapping_div;
 use int::wrapping_neg;
 ghost use mathlib.Core.Path.{_≡_};
 ghost use Prim.Native.Nat.{_≤_, _<_, _^_, _*_};
-ghost use lib.IntN.{pos, _*ℤ_};
+ghost use mathlib.Core.Bool.{_||_};
+ghost use lib.IntN.{pos, natAbs, _*ℤ_};
+ghost use Rattle.int.specs.Word.{eqZ};
 ghost use Rattle.math.specs.Fixed.{pixFloor, pixRound, pixCeil, padFloor, padRound, halfAway14, mulFix14, dotFix14, halfUp, oddSigns, withSign, mulDiv, mulFix, divFix};
 
 // x down to a whole pixel, toward minus infinity.
@@ -84,16 +87,12 @@ pub fn dot14(ax: i32, ay: i32, bx: i32, by: i32) -> i32
     low32(half14(p + q))
 }
 
-// a b / c of magnitudes, halves upward; 0x7FFFFFFF where c is 0.
+// a b / c of magnitudes, halves upward, where c is not 0.
 fn quotient(a: u64, b: u64, c: u64) -> u64
-    requires { ⌜ (a ≤ 2 ^ 31) × ((b ≤ 2 ^ 31) × (c ≤ 2 ^ 31)) ⌝ }
+    requires { ⌜ (a ≤ 2 ^ 31) × ((b ≤ 2 ^ 31) × ((0 < c) × (c ≤ 2 ^ 31))) ⌝ }
     ensures { λ r. ⌜ (r ≡ halfUp (a * b) c) × (r < 2 ^ 63) ⌝ }
 {
-    if c == 0 {
-        0x7fff_ffff
-    } else {
-        (a * b + c / 2) / c
-    }
+    (a * b + c / 2) / c
 }
 
 fn odd_signs(a: i32, b: i32, c: i32) -> bool
@@ -111,12 +110,55 @@ fn signed(below: bool, q: u64) -> i32
     if below { wrapping_neg(word) } else { word }
 }
 
-// a b / c, halves upward on magnitudes. Divisor 0 gives 0x7FFFFFFF, with the operands' signs.
-pub fn mul_div(a: i32, b: i32, c: i32) -> i32
+// 1 as a 2.14 number: the divisor of most moves, and often a factor too.
+const ONE: i32 = 0x4000;
+
+// Every bit but the one that 1 has.
+const OTHER_BITS: i32 = -0x4001;
+
+// Whether c is 0 or 1, by which nothing has to be divided. As one test this costs every other divisor no more than a test for 0 does.
+fn is_zero_or_one(c: i32) -> bool
+    ensures { λ r. ⌜ r ≡ (eqZ c (pos 0) || eqZ c (pos 0x4000)) ⌝ }
+{
+    equal(bit_and(c, OTHER_BITS), 0)
+}
+
+// a b / 1 of 2.14 numbers: their product, and a itself where b is 1 too.
+fn over_one(a: i32, b: i32) -> i32
+    ensures { λ r. ⌜ r ≡ mulDiv a b (pos 0x4000) ⌝ }
+{
+    if equal(b, ONE) { a } else { mul14(a, b) }
+}
+
+// a b / 0: 0x7FFFFFFF, with the operands' signs.
+fn over_zero(a: i32, b: i32) -> i32
+    ensures { λ r. ⌜ r ≡ mulDiv a b (pos 0) ⌝ }
+{
+    signed(odd_signs(a, b, 0), 0x7fff_ffff)
+}
+
+// a b / c on magnitudes, where c is not 0.
+fn divided(a: i32, b: i32, c: i32) -> i32
+    requires { ⌜ 0 < natAbs c ⌝ }
     ensures { λ r. ⌜ r ≡ mulDiv a b c ⌝ }
 {
     let q = quotient(magnitude(a), magnitude(b), magnitude(c));
     signed(odd_signs(a, b, c), q)
+}
+
+// a b / c, halves upward on magnitudes. Divisor 0 gives 0x7FFFFFFF, with the operands' signs.
+pub fn mul_div(a: i32, b: i32, c: i32) -> i32
+    ensures { λ r. ⌜ r ≡ mulDiv a b c ⌝ }
+{
+    if is_zero_or_one(c) {
+        if equal(c, ONE) {
+            over_one(a, b)
+        } else {
+            over_zero(a, b)
+        }
+    } else {
+        divided(a, b, c)
+    }
 }
 
 // a b of 16.16 numbers.

@@ -1,59 +1,59 @@
--- `math::mul_div` meets its contract: it is what its calls ensure, put together. Assumes nothing.
-use mathlib.Core.Path.{_≡_, ap, _∙_}
-use Prim.Native.Nat.{ℕ, _^_, _≤_}
-use native.Mathlib.Omega.{arith}
+-- `math::mul_div` meets its contract: it is what the one call made for the divisor ensures. Assumes nothing.
+use mathlib.Core.Path.{_≡_, _∙_, sym}
 use borrow.Author.Needs.{needs}
-use lib.IntN.{ℤ, natAbs}
-use lib.Signed.{natAbs-le}
+use lib.IntN.{pos}
 use mir.Syntax.{w32}
-use mir.Val.{SFits, toZ, ofZ}
+use mir.Val.{toZ, ofZ}
 use mir.Facts.{toZ-ofZ}
+use Rattle.int.proofs.Ints.{eqZ-true}
 use Rattle.int.proofs.Words.{back32}
-use Rattle.math.specs.Fixed.{mulDiv}
+use Rattle.math.proofs.Square.{neither, not-one}
 use Rattle.math.proofs.mul_div.Statement.{statement}
 use Rattle.math.proofs.mul_div.Tie as tie
 
--- a magnitude is at most 2 ^ 31
-most : (x : ℤ) (m : ℕ) → SFits w32 x → m ≡ natAbs (toZ w32 (ofZ w32 x)) → m ≤ 2 ^ 31
-most x m f e = omega (arith, e ∙ ap natAbs (toZ-ofZ f), natAbs-le x (f .sfits))
+is-zero-or-one-requires : tie.Need-is-zero-or-one-requires
+is-zero-or-one-requires c κs = search needs
 
-magnitude-requires : tie.Need-magnitude-requires
-magnitude-requires c κs = search needs
+equal-requires : tie.Need-equal-requires
+equal-requires c κs = search needs
 
-magnitude-requires-2 : tie.Need-magnitude-requires-2
-magnitude-requires-2 c κs = search needs
+over-one-requires : tie.Need-over-one-requires
+over-one-requires c κs = search needs
 
-magnitude-requires-3 : tie.Need-magnitude-requires-3
-magnitude-requires-3 c κs = search needs
+over-zero-requires : tie.Need-over-zero-requires
+over-zero-requires c κs = search needs
 
-quotient-requires : tie.Need-quotient-requires
-quotient-requires c κs = let s = c .before .before .before in (
-  most (s .args .a) (c .before .before .magnitude .result) (s .fits .a) (c .before .before .magnitude .ensures),
-  (
-    most (s .args .b) (c .before .magnitude2 .result) (s .fits .b) (c .before .magnitude2 .ensures),
-    most (s .args .c) (c .magnitude3 .result) (s .fits .c) (c .magnitude3 .ensures),
-  ),
-)
-
-odd-signs-requires : tie.Need-odd-signs-requires
-odd-signs-requires c κs = search needs
-
-signed-requires : tie.Need-signed-requires
-signed-requires c κs = search needs
+divided-requires : tie.Need-divided-requires
+divided-requires c κs = neither (toZ w32 (ofZ w32 (c .before .before .args .c))) (sym (c .before .is-zero-or-one .ensures) ∙ c .if1 .left)
 
 returns : tie.Need-returns
-unfolding mulDiv
-returns c = let s = c .before .before .before .before .before .before in
-    cc (toZ-ofZ (s .fits .a), toZ-ofZ (s .fits .b), toZ-ofZ (s .fits .c), back32 (c .signed .result) (c .signed .ok))
+returns c = let s = c .before .before .before .before .before in
+    let is-one : s .args .c ≡ pos 0x4000 = sym (toZ-ofZ (s .fits .c)) ∙ eqZ-true _ _ (sym (c .before .before .equal .ensures) ∙ c .before .if2 .taken) in
+    cc (back32 (c .over-one .result) (c .over-one .ok), toZ-ofZ (s .fits .a), toZ-ofZ (s .fits .b), is-one)
+
+returns-2 : tie.Need-returns-2
+returns-2 c =
+    let p = c .before .before .before .before in
+    let s = p .before in
+    let is-zero : s .args .c ≡ pos 0 =
+    sym (toZ-ofZ (s .fits .c))
+    ∙ not-one _ (sym (p .is-zero-or-one .ensures) ∙ c .before .before .before .if1 .taken) (sym (c .before .before .equal .ensures) ∙ c .before .if2 .left)
+    in
+    cc (back32 (c .over-zero .result) (c .over-zero .ok), toZ-ofZ (s .fits .a), toZ-ofZ (s .fits .b), is-zero)
+
+returns-3 : tie.Need-returns-3
+returns-3 c = let s = c .before .before .before in
+    cc (back32 (c .divided .result) (c .divided .ok), toZ-ofZ (s .fits .a), toZ-ofZ (s .fits .b), toZ-ofZ (s .fits .c))
 
 pub mul-div-spec : {M : Type 1} → statement M
 mul-div-spec =
     tie.close
     (tie.spec
-    magnitude-requires
-    magnitude-requires-2
-    magnitude-requires-3
-    quotient-requires
-    odd-signs-requires
-    signed-requires
-    returns)
+    is-zero-or-one-requires
+    equal-requires
+    over-one-requires
+    over-zero-requires
+    divided-requires
+    returns
+    returns-2
+    returns-3)
