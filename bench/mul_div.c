@@ -4,7 +4,6 @@
  * about 0.15 ms. Operands are read and never written, so nothing has to be restored between samples; each side has its own results. Before the
  * clock starts, both are called on every row, which warms the buffers, and all results are compared. */
 #define _POSIX_C_SOURCE 200809L
-#include <inttypes.h>
 #include <stdbool.h>
 #include <stdint.h>
 #include <stdio.h>
