@@ -1,7 +1,7 @@
 /* The time of mul_div before and after a change, by kind of operands; bench/mul_div builds and runs it.
  *
- * Both stand in one process and are called by the same loops, in turn and each first in every other round. A sample is as many calls as take
- * about 0.15 ms. Operands are read and never written, so nothing has to be restored between samples; each side has its own results. Before the
+ * Both stand in one process and are called by the same loops, in turn and each first in every other round. A sample of a side is as many calls as
+ * take it about 0.15 ms, and least and median of the rounds are printed, a line for each kind. Operands are read and never written, so nothing has to be restored between samples; each side has its own results. Before the
  * clock starts, both are called on every row, which warms the buffers, and all results are compared. */
 #define _POSIX_C_SOURCE 200809L
 #include <stdbool.h>
@@ -26,6 +26,7 @@ struct rows {
 struct side {
     call f;
     int32_t results[ROWS];
+    int turns;         /* through all rows, of a sample */
     double ns[ROUNDS]; /* of one call */
 };
 
@@ -97,7 +98,7 @@ static const struct kind KINDS[] = {
 };
 
 /* Calls that don't wait for each other: the processor has several under way. */
-static void call_freely(const struct rows *rows, struct side *side)
+__attribute__((noinline)) static void call_freely(const struct rows *rows, struct side *side)
 {
     call f = side->f;
     for (int i = 0; i < ROWS; i++)
@@ -105,7 +106,7 @@ static void call_freely(const struct rows *rows, struct side *side)
 }
 
 /* The same calls, each waiting for the last one's result: `none` is 0, which the compiler doesn't know. */
-static void call_in_turn(const struct rows *rows, struct side *side)
+__attribute__((noinline)) static void call_in_turn(const struct rows *rows, struct side *side)
 {
     static volatile int32_t zero = 0;
     call f = side->f;
@@ -123,23 +124,24 @@ static double now_ns(void)
     return (double)t.tv_sec * 1e9 + (double)t.tv_nsec;
 }
 
-static double sample_ns(manner call_all, const struct rows *rows, struct side *side, int turns)
+/* The time of one call, by a sample. */
+static double sample_ns(manner call_all, const struct rows *rows, struct side *side)
 {
     double start = now_ns();
-    for (int i = 0; i < turns; i++)
+    for (int i = 0; i < side->turns; i++)
         call_all(rows, side);
-    return now_ns() - start;
+    return (now_ns() - start) / ((double)side->turns * ROWS);
 }
 
-static int turns_for(manner call_all, const struct rows *rows, struct side *side)
+static void set_turns(manner call_all, const struct rows *rows, struct side *side)
 {
-    double once = sample_ns(call_all, rows, side, 1);
+    double least = SAMPLE_NS;
+    side->turns = 1;
     for (int i = 0; i < 20; i++) {
-        double ns = sample_ns(call_all, rows, side, 1);
-        if (ns < once)
-            once = ns;
+        double ns = sample_ns(call_all, rows, side) * ROWS;
+        least = ns < least ? ns : least;
     }
-    return once < SAMPLE_NS ? (int)(SAMPLE_NS / once) : 1;
+    side->turns = (int)(SAMPLE_NS / least);
 }
 
 static int by_size(const void *x, const void *y)
@@ -158,8 +160,8 @@ static int differing(manner call_all, const struct rows *rows, struct side *befo
     return count;
 }
 
-/* Prints a kind's times and gives how many of its results differ. */
-static int measure(manner call_all, const struct kind *kind)
+/* Prints a kind's times, least and median of each side, and gives how many of its results differ. */
+static int measure(const char *title, manner call_all, const struct kind *kind)
 {
     static struct rows rows;
     static struct side before, after;
@@ -171,64 +173,51 @@ static int measure(manner call_all, const struct kind *kind)
         rows.c[i] = kind->c();
     }
     int count = differing(call_all, &rows, &before, &after);
-    int turns = turns_for(call_all, &rows, &before);
-    double calls = (double)turns * ROWS;
+    set_turns(call_all, &rows, &before);
+    set_turns(call_all, &rows, &after);
     for (int round = 0; round < ROUNDS; round++) {
         struct side *first = round % 2 ? &after : &before;
         struct side *second = round % 2 ? &before : &after;
-        first->ns[round] = sample_ns(call_all, &rows, first, turns) / calls;
-        second->ns[round] = sample_ns(call_all, &rows, second, turns) / calls;
+        first->ns[round] = sample_ns(call_all, &rows, first);
+        second->ns[round] = sample_ns(call_all, &rows, second);
     }
     qsort(before.ns, ROUNDS, sizeof(double), by_size);
     qsort(after.ns, ROUNDS, sizeof(double), by_size);
-    double least = after.ns[0] / before.ns[0];
-    double median = after.ns[ROUNDS / 2] / before.ns[ROUNDS / 2];
-    printf("| %-30s | %6.2f, %6.2f | %6.2f, %6.2f | %5.2f, %5.2f |\n", kind->name, before.ns[0], before.ns[ROUNDS / 2], after.ns[0],
-           after.ns[ROUNDS / 2], least, median);
+    printf("%s|%s|%f|%f|%f|%f\n", title, kind->name, before.ns[0], before.ns[ROUNDS / 2], after.ns[0], after.ns[ROUNDS / 2]);
     return count;
 }
 
-/* Every triple of the numbers at which the arithmetic turns; gives how many results differ. */
+/* The numbers at which the arithmetic turns, and their neighbours. */
+static const int32_t TURNS[] = {
+    0, 1, -1, 2, -2, 0x1FFF, -0x1FFF, 0x2000, -0x2000, 0x2001, -0x2001, 0x3FFF, -0x3FFF, 0x4000, -0x4000, 0x4001, -0x4001,
+    0x3FFFFFFF, -0x3FFFFFFF, 0x40000000, -0x40000000, 0x40000001, -0x40000001, INT32_MAX - 1, -(INT32_MAX - 1), INT32_MAX, -INT32_MAX, INT32_MIN,
+};
+
+/* Calls both on every triple of them and gives how many results differ. */
 static int corners(int *asked)
 {
-    static const int32_t turns[] = {0, 1, 0x1FFF, 0x2000, 0x2001, ONE, 1 << 30, INT32_MAX};
-    enum { TURNS = sizeof turns / sizeof *turns };
-    int32_t at[6 * TURNS];
-    int n = 0, count = 0;
-    for (int i = 0; i < TURNS; i++)
-        for (int near = -1; near <= 1; near++) {
-            uint32_t number = (uint32_t)turns[i] + (uint32_t)near;
-            at[n++] = (int32_t)number;
-            at[n++] = (int32_t)(0u - number);
-        }
-    for (int i = 0; i < n; i++)
-        for (int j = 0; j < n; j++)
-            for (int k = 0; k < n; k++)
-                count += mul_div_before(at[i], at[j], at[k]) != mul_div_after(at[i], at[j], at[k]);
-    *asked = n * n * n;
-    return count;
-}
-
-/* Prints a table of all kinds and gives how many results differ. */
-static int table(manner call_all, const char *title, int *asked)
-{
+    enum { N = sizeof TURNS / sizeof *TURNS };
     int count = 0;
-    printf("\n%s: ns a call, least and median of %d rounds\n\n", title, ROUNDS);
-    printf("| %-30s | %-14s | %-14s | %-12s |\n", "operands", "before", "after", "after/before");
-    printf("|--------------------------------|----------------|----------------|--------------|\n");
-    for (size_t i = 0; i < sizeof KINDS / sizeof *KINDS; i++) {
-        *asked += KINDS[i].is_mul_div ? ROWS : 0;
-        count += measure(call_all, &KINDS[i]);
-        fflush(stdout);
-    }
+    for (int i = 0; i < N; i++)
+        for (int j = 0; j < N; j++)
+            for (int k = 0; k < N; k++)
+                count += mul_div_before(TURNS[i], TURNS[j], TURNS[k]) != mul_div_after(TURNS[i], TURNS[j], TURNS[k]);
+    *asked += N * N * N;
     return count;
 }
 
 int main(void)
 {
+    static const struct { const char *title; manner call_all; } manners[] = {
+        {"Calls that don't wait for each other", call_freely},
+        {"Each call waits for the last", call_in_turn},
+    };
     int asked = 0, count = corners(&asked);
-    count += table(call_freely, "Calls that don't wait for each other", &asked);
-    count += table(call_in_turn, "Each call waits for the last", &asked);
-    printf("\n%d results compared, %d differ\n", asked, count);
+    for (size_t m = 0; m < sizeof manners / sizeof *manners; m++)
+        for (size_t i = 0; i < sizeof KINDS / sizeof *KINDS; i++) {
+            asked += KINDS[i].is_mul_div ? ROWS : 0;
+            count += measure(manners[m].title, manners[m].call_all, &KINDS[i]);
+        }
+    printf("%d results compared, %d differ\n", asked, count);
     return count != 0;
 }
