@@ -13,9 +13,7 @@ use int::wrapping_div;
 use int::wrapping_neg;
 ghost use mathlib.Core.Path.{_≡_};
 ghost use Prim.Native.Nat.{_≤_, _<_, _^_, _*_};
-ghost use mathlib.Core.Bool.{_||_};
 ghost use lib.IntN.{pos, natAbs, _*ℤ_};
-ghost use Rattle.int.specs.Word.{eqZ};
 ghost use Rattle.math.specs.Fixed.{pixFloor, pixRound, pixCeil, padFloor, padRound, halfAway14, mulFix14, dotFix14, halfUp, oddSigns, withSign, mulDiv, mulFix, divFix};
 
 // x down to a whole pixel, toward minus infinity.
@@ -113,16 +111,6 @@ fn signed(below: bool, q: u64) -> i32
 // 1 as a 2.14 number: the divisor of most moves, and often a factor too.
 const ONE: i32 = 0x4000;
 
-// Every bit but the one that 1 has.
-const OTHER_BITS: i32 = -0x4001;
-
-// Whether c is 0 or 1, by which nothing has to be divided. As one test this costs every other divisor no more than a test for 0 does.
-fn is_zero_or_one(c: i32) -> bool
-    ensures { λ r. ⌜ r ≡ (eqZ c (pos 0) || eqZ c (pos 0x4000)) ⌝ }
-{
-    equal(bit_and(c, OTHER_BITS), 0)
-}
-
 // a b / 1 of 2.14 numbers: their product, and a itself where b is 1 too.
 fn over_one(a: i32, b: i32) -> i32
     ensures { λ r. ⌜ r ≡ mulDiv a b (pos 0x4000) ⌝ }
@@ -150,12 +138,10 @@ fn divided(a: i32, b: i32, c: i32) -> i32
 pub fn mul_div(a: i32, b: i32, c: i32) -> i32
     ensures { λ r. ⌜ r ≡ mulDiv a b c ⌝ }
 {
-    if is_zero_or_one(c) {
-        if equal(c, ONE) {
-            over_one(a, b)
-        } else {
-            over_zero(a, b)
-        }
+    if equal(c, ONE) {
+        over_one(a, b)
+    } else if equal(c, 0) {
+        over_zero(a, b)
     } else {
         divided(a, b, c)
     }
