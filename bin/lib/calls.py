@@ -31,6 +31,9 @@ def run(usage, work):
     except Bad as bad:
         say(bad)
         status = CANNOT
+    except OSError as bad:
+        say(f"{bad.filename or 'the system'}: {bad.strerror}")
+        status = CANNOT
     except Stopped as stopped:
         say("interrupted")
         status = 128 + stopped.args[0]
@@ -126,10 +129,15 @@ def refuse_terminal(how):
 
 def say(text):
     """A line on standard error."""
+    tell(f"{NAME}: {text}\n")
+
+
+def tell(text):
+    """Text on standard error, where that takes it: the exit status says how it ended too."""
     try:
-        write_all(2, encoded(f"{NAME}: {text}\n"))
+        write_all(2, encoded(text))
     except OSError:
-        pass  # the exit status says it too
+        pass
 
 
 def encoded(text):

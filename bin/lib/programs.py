@@ -11,7 +11,7 @@ import subprocess
 import time
 
 from . import record
-from .calls import NAME, ROOT, Bad, Stopped, encoded, say, write_all
+from .calls import NAME, ROOT, Bad, Stopped, encoded, say, tell, write_all
 
 RELEASE = ROOT / "release"
 TARGET = ROOT / "target"
@@ -188,7 +188,7 @@ def ask_rt(words, names, why):
     what = " and ".join(names)
     if not shutil.which("rt"):
         raise Bad(f"{why}, and no 'rt' to prove and build {what}: install the Rattle kit and put its 'rt' on the path")
-    say(f"{why}: proving and building {what}, which is done once and takes some minutes")
+    say(f"{why}: proving and building {what}; it takes some minutes where nothing is proved yet")
     log = TARGET / (names[0] + ".log")
     try:
         log.parent.mkdir(exist_ok=True)
@@ -248,7 +248,7 @@ class Progress:
     APART = 15  # seconds between lines where there is no terminal
 
     def __init__(self, crates, log):
-        self.crates, self.log, self.done = crates, log, 0
+        self.crates, self.log, self.done = crates, os.path.relpath(log), 0
         self.began = self.shown = time.monotonic()
         self.terminal = os.isatty(2)
 
@@ -266,11 +266,11 @@ class Progress:
         now = time.monotonic()
         text = f"{NAME}: {self.at()}, {now - self.began:.0f} s; log: {self.log}"
         if self.terminal:
-            write_all(2, encoded(f"\r\033[K{text}"))
+            tell(f"\r\033[K{text[: (os.get_terminal_size(2).columns or 80) - 1]}")
         elif now - self.shown >= self.APART:
-            write_all(2, encoded(text + "\n"))
+            tell(text + "\n")
             self.shown = now
 
     def close(self):
         if self.terminal:
-            write_all(2, b"\r\033[K")
+            tell("\r\033[K")
