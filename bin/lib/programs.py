@@ -45,7 +45,8 @@ def run(name, data):
         raise Bad(f"{shown} can't be started: {bad.strerror}") from None
     said = ran.stderr.decode(errors="replace").strip()
     if ran.returncode < 0:
-        raise Bad(f"{shown} was ended by {signal.Signals(-ran.returncode).name}")
+        stack = "; it needs a stack of 512 KiB (ulimit -s)" if ran.returncode == -signal.SIGSEGV else ""
+        raise Bad(f"{shown} was ended by {signal.Signals(-ran.returncode).name}{stack}")
     if ran.returncode or said:
         raise Bad(f"{shown} ended with status {ran.returncode}{': ' if said else ''}{said}")
     return ran.stdout
