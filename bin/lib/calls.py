@@ -89,7 +89,7 @@ def read(name, what, most):
         try:
             held = bytearray()
             while len(held) < most:
-                part = os.read(place, most - len(held))
+                part = os.read(place, min(most - len(held), 1 << 16))
                 if not part:
                     break
                 held += part
