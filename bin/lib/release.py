@@ -20,7 +20,7 @@ SUMS = """\
 
 def made():
     """Each file of the folder, by its path below it, as the sources build it: proved first where that isn't done."""
-    why = "what the sources build to"
+    why = "release/ is made of what is proved"
     programs.build(PROGRAMS, why)
     programs.ask_rt(["staticlib", LIBRARY], [LIBRARY], why)
     files = {f"bin/{name}": (TARGET / "bin" / name).read_bytes() for name in PROGRAMS}
