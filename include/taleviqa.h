@@ -1,8 +1,8 @@
 /* Taleviqa for C: one call that replays a sheet of TrueType hinting over a glyph and a twilight zone.
  *
- * Link with libexports.a, which `rt staticlib exports` writes to target/staticlib (x86-64 Linux):
+ * Link with release/lib/libtaleviqa.a (x86-64 Linux), which is what the proved sources build to:
  *
- *     gcc -Iinclude whole_run.c target/staticlib/libexports.a -o whole_run
+ *     gcc -Iinclude examples/whole_run.c release/lib/libtaleviqa.a -o whole_run
  *
  * A list is two arguments, a pointer and how many elements it has, in the order below. A list without elements may have any pointer, NULL too.
  * What is not const is changed in place. The lists that are changed must not overlap any other list. Nothing is kept after the call.

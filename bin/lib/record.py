@@ -1,0 +1,143 @@
+"""The form of a record (docs/RECORD.md tells it in prose), and what a proved program must have written about one."""
+import re
+import struct
+
+from .calls import Bad
+
+STATE_WORDS = 26
+TRAILER_WORDS = 8
+EDITION = 1
+MOST_BYTES = 24 * 1024
+# one byte more than a record may have, so that a longer one is seen to be too long
+READ_BYTES = MOST_BYTES + 1
+MOST_CONTOURS = 4096  # the other counts can't pass their limits within 24 KiB
+# glyph unscaled, original and current x and y, flags, contours; twilight original and current x and y, flags; control values; sheet
+LISTS = ["ux", "uy", "ox", "oy", "x", "y", "flag", "contours", "tox", "toy", "tx", "ty", "tflag", "controls", "sheet"]
+UNSIGNED = ("flag", "contours", "tflag")
+
+REFUSED = (15, 16, 17)
+MEANINGS = {
+    0: "all lines are done",
+    1: "the budget is used and words of the sheet remain",
+    2: "a size above its limit; nothing has changed",
+    3: "a vector out of range, or Super 45 with period 0; nothing has changed",
+    4: "an unknown opcode, or a count word that is missing, negative or past the end",
+    5: "more operands than the line takes",
+    6: "an operand is wanted and there is none left",
+    7: "a point outside its zone; the detail is its number",
+    8: "a control value outside the list; the detail is its number",
+    9: "a zone pointer that is neither 0 nor 1; the detail is the operand",
+    10: "a negative loop count; the detail is the operand",
+    11: "a range of points outside the zone; the detail is its start",
+    12: "a contour that zp2's zone doesn't have; the detail is its number. Correct the SHC line, or clear the fact pedantic: then such a line does nothing",
+    13: "SHPIX under backward compatibility. Take the line out, or clear that fact",
+    15: "the record is refused: its sum is not that of its words, so something in it has changed",
+    16: "the record is refused: its length, its trailer or a word is out of range, so this is no record of edition 1 or it is damaged",
+    17: "the record is refused: it has more than 24 KiB",
+}
+
+ANSWER = re.compile(rb"(\d+) (\d+) (\d+) (\d+)")
+POINT = re.compile(rb"-?\d+ -?\d+ \d+")
+
+
+class Refused(Exception):
+    """A record that is refused; its arguments are the number and the reason."""
+
+
+def meaning(number):
+    return f"{number}: {MEANINGS.get(number, 'a number that is in no list')}"
+
+
+def bits(value):
+    return value & 0xFFFFFFFF
+
+
+def signed(word):
+    return word - 2**32 if word >= 2**31 else word
+
+
+# ---- bytes and what they hold
+
+
+def fresh():
+    """What a record holds of a glyph that starts: the fresh state, no points and an empty sheet."""
+    return {
+        "vectors": [16384, 0] * 3, "round": [0, 0, 0, 64], "references": [0, 0, 0], "loop": 1, "pointers": [1, 1, 1],
+        "facts": [0] * 5, "cut-in": 68, **{name: [] for name in LISTS},
+    }
+
+
+def to_bytes(held):
+    words = held["vectors"] + held["round"]
+    for reference in held["references"]:
+        words += [reference & 0xFFFFFFFF, reference >> 32]
+    words = words + [held["loop"]] + held["pointers"] + held["facts"] + [held["cut-in"]]
+    for name in LISTS:
+        words = words + held[name]
+    back = 4 * len(words)
+    words += [len(held["x"]), len(held["contours"]), len(held["tx"]), len(held["controls"]), len(held["sheet"]), EDITION, back]
+    words = [bits(word) for word in words]
+    words.append(bits(sum(words)))
+    return struct.pack(f"<{len(words)}I", *words)
+
+
+def from_bytes(data):
+    """What a record holds; Refused in the order 17, 16, 15."""
+    if len(data) > MOST_BYTES:
+        raise Refused(17, "above 24 KiB")
+    if len(data) % 4 or len(data) < 4 * (STATE_WORDS + TRAILER_WORDS):
+        raise Refused(16, "no whole number of words, or too few")
+    words = list(struct.unpack(f"<{len(data) // 4}I", data))
+    n, contours, m, controls, sheet, edition, back, total = words[-TRAILER_WORDS:]
+    sizes = [n] * 7 + [contours] + [m] * 5 + [controls, sheet]
+    if contours > MOST_CONTOURS:
+        raise Refused(16, f"{contours} contours, and at most {MOST_CONTOURS} may be")
+    if STATE_WORDS + sum(sizes) + TRAILER_WORDS != len(words) or edition != EDITION or back != 4 * (len(words) - TRAILER_WORDS):
+        raise Refused(16, "the trailer's counts, edition or way back are not those of the record")
+    if words[6] > 7 or max(words[17:25]) > 1:
+        raise Refused(16, "a round mode above 7, or a zone pointer or fact above 1")
+    held = {
+        "vectors": [signed(word) for word in words[0:6]], "round": [words[6]] + [signed(word) for word in words[7:10]],
+        "references": [words[k] + (words[k + 1] << 32) for k in (10, 12, 14)], "loop": words[16],
+        "pointers": words[17:20], "facts": words[20:25], "cut-in": signed(words[25]),
+    }
+    at = STATE_WORDS
+    for name, size in zip(LISTS, sizes):
+        own = words[at : at + size]
+        held[name] = own if name in UNSIGNED else [signed(word) for word in own]
+        at += size
+    if any(flag > 255 for flag in held["flag"] + held["tflag"]) or any(end > 65535 for end in held["contours"]):
+        raise Refused(16, "a flag above 255, or a contour end above 65,535")
+    if bits(sum(words[:-1])) != total:
+        raise Refused(15, "the sum is not that of the words before it")
+    return held
+
+
+# ---- what a program wrote, held to the record: a program has no exit status, and a write of its may be cut short
+
+
+def points_in(data):
+    """How many glyph points a record has, by its trailer."""
+    return int.from_bytes(data[-4 * TRAILER_WORDS :][:4], "little")
+
+
+def answer_in(data, printed):
+    """The four numbers of a record's print, once it is seen to be the whole print: an answer, and a line for each glyph point if it isn't refused."""
+    lines = printed.split(b"\n")
+    first = ANSWER.fullmatch(lines[0])
+    if lines.pop() != b"" or not first:
+        raise Bad(f"the print is cut short: {len(printed)} bytes without a last or a first line")
+    answer = [int(word) for word in first.groups()]
+    refused = answer[0] in REFUSED
+    wanted = 0 if refused else points_in(data)
+    if len(lines) - 1 != wanted:
+        raise Bad(f"the print is cut short, or another record's: {len(lines) - 1} lines of points, and the record has {wanted}")
+    if refused and answer[1:] != [0, 0, 0] or not all(POINT.fullmatch(line) for line in lines[1:]):
+        raise Bad("the print is damaged: a line in it is none that a replay prints")
+    return answer
+
+
+def hold_rewritten(data, written):
+    """A record that is written has as many bytes as the one that was read."""
+    if len(written) != len(data):
+        raise Bad(f"the record is cut short, or another's: {len(written)} bytes were written, and the record has {len(data)}")
