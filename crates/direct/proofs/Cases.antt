@@ -21,6 +21,18 @@ use Rattle.zone.proofs.Cases.{pair-length, placed-length, placed-pair}
 use Rattle.zone.specs.Sizes.{pairFits, placedFits}
 use Rattle.graphics.proofs.Laws.{and-left, and-right}
 
+-- ---- the tests, by what their calls ensure
+pub pairs-are : (gx gy tx ty : List ℤ) {g t : Bool} → g ≡ pairFits gx gy → t ≡ pairFits tx ty → g && t ≡ pairsFit gx gy tx ty
+unfolding pairsFit
+pairs-are gx gy tx ty p q = ap₂ (λ (a b : Bool). a && b) p q
+
+pub zones-are : (gx gy : List ℤ) (gflags : List ℕ) (tx ty : List ℤ) (tflags : List ℕ) {g t : Bool} → g ≡ placedFits gx gy gflags → t ≡ placedFits tx ty tflags → g && t ≡ zonesFit gx gy gflags tx ty tflags
+unfolding zonesFit
+zones-are gx gy gflags tx ty tflags p q = ap₂ (λ (a b : Bool). a && b) p q
+
+pub entry-is : {fits ready f u v : Bool} → fits ≡ f → u ≡ ready → u ≡ v → entryBy f v ≡ entryBy fits ready
+entry-is p q e = ap₂ entryBy (sym p) (sym e ∙ q)
+
 -- ---- what the tests tell
 entry-done : (fits ready : Bool) → entryBy fits ready ≡ Done → fits ≡ true
 entry-done true ready e = refl

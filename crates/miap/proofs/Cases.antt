@@ -2,12 +2,16 @@
 -- ensure, or a test rewritten. Assumes nothing.
 use mathlib.Core.List.{List}
 use Prim.Native.Nat.{_<_, _≤_, ℕ}
-use mathlib.Core.Path.{_∙_, _≡_, ap, sym}
-use mathlib.Core.Bool.{false, true}
+use mathlib.Core.Path.{_∙_, _≡_, ap, refl, sym}
+use mathlib.Core.Bool.{Bool, false, true}
 use lib.ListN.{getD, length}
 use borrow.Author.Tests.{le-ltb, lt-ltb}
 use lib.Dec.{ltb}
 use lib.IntN.{pos, ℤ}
+use lib.Signed.{ltZ}
+use Rattle.int.specs.Word.{abs32, sub32}
+use Rattle.round.specs.Round.{roundOf}
+use Rattle.round.specs.declared.RoundState.{RoundState}
 use Rattle.answer.specs.declared.Refusal.the-variants.{ControlValue, Missing}
 use Rattle.answer.specs.declared.Refusal.{Refusal}
 use Rattle.graphics.specs.declared.GraphicsState.{GraphicsState}
@@ -18,12 +22,45 @@ use Rattle.zone.specs.declared.Fetched.the-variants.{Refused as RefusedPlace}
 use Rattle.zone.specs.declared.Fetched.{Fetched}
 use Rattle.line.specs.Line.{refusedWith}
 use Rattle.line.specs.declared.Stepped.{Stepped}
-use Rattle.places.specs.Lines.{Pair, indexAt, pair, putAt}
+use Rattle.places.specs.Lines.{Pair, indexAt, isOdd, pair, putAt}
 use Rattle.places.specs.Placed.{AllPlaced, Placed, allPlaced, placed, twilightPlaced}
 use Rattle.outline.specs.Absolute.{placeBy}
 use Rattle.outline.specs.Numbers.{fromOrigin}
 use Rattle.miap.specs.Miap.{miapAt, miapFrom, miapIn, miapMade, miapOf, miapOn, miapTwilight, withOriginals}
-use Rattle.miap.specs.Numbers.{controlPlace, miapDistance}
+use Rattle.miap.specs.Numbers.{chosenOf, controlPlace, cutInOf, miapDistance, roundedOf}
+
+-- ---- numbers
+module _ (cut control own : ℤ) {cut′ control′ own′ k k′ a a′ : ℤ} {t : Bool} (ec : cut′ ≡ cut) (en : control′ ≡ control) (eo : own′ ≡ own) (ek′ : k′ ≡ k) (ek : k ≡ sub32 control′ own′) (ea′ : a′ ≡ a) (ea : a ≡ abs32 k′) (et : t ≡ ltZ cut′ a′) where
+  far : {b : Bool} → t ≡ b → ltZ cut (abs32 (sub32 control own)) ≡ b
+  far h = rw (← ec, ← en, ← eo, ← ek, ← ek′, ← ea, ← ea′, ← et) h
+
+  pub chosen-own : t ≡ true → own′ ≡ chosenOf cut control own
+  unfolding chosenOf
+  chosen-own h = rw (far h) eo
+
+  pub chosen-control : t ≡ false → control′ ≡ chosenOf cut control own
+  unfolding chosenOf
+  chosen-control h = rw (far h) en
+
+module _ {native : Bool} (round : RoundState) (d : ℤ) {d′ : ℤ} (e : d′ ≡ d) where
+  pub rounded-native : native ≡ true → d′ ≡ roundedOf native round d
+  unfolding roundedOf
+  rounded-native h = rw h e
+
+  pub rounded-grid : {r r′ : ℤ} → native ≡ false → r′ ≡ r → r ≡ roundOf round d′ → r′ ≡ roundedOf native round d
+  unfolding roundedOf
+  rounded-grid h er′ er = rw (h, er′, er, e) refl
+
+module _ (s : GraphicsState) (opcode : ℕ) (control own : ℤ) {odd : Bool} {control′ own′ r r′ : ℤ} (q : odd ≡ isOdd opcode) (ec : control′ ≡ control) (eo : own′ ≡ own) (er′ : r′ ≡ r) where
+  pub distance-odd :
+      {cut k k′ n n′ d d′ : ℤ} → odd ≡ true → cut ≡ s .«cut_in» → k′ ≡ k → k ≡ cutInOf (s .facts .«native_clear_type_x») cut → n′ ≡ n → n ≡ chosenOf k′ control′ own′ →
+      d′ ≡ d → d ≡ roundedOf (s .facts .«native_clear_type_x») (s .round) n′ → r ≡ sub32 d′ own′ → r′ ≡ miapDistance s opcode control own
+  unfolding miapDistance
+  distance-odd t ecut ek′ ek en′ en ed′ ed er = rw (sym q ∙ t, er′, er, ed′, ed, en′, en, ek′, ek, ecut, ec, eo) refl
+
+  pub distance-even : odd ≡ false → r ≡ sub32 control′ own′ → r′ ≡ miapDistance s opcode control own
+  unfolding miapDistance
+  distance-even t er = rw (sym q ∙ t, er′, er, ec, eo) refl
 
 -- ---- one zone
 module _ (s : GraphicsState) (at : ℕ) (xs ys : List ℤ) (flags : List ℕ) where

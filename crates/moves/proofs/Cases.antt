@@ -1,6 +1,6 @@
 -- What each definition says in each of its cases, over plain lists: the functions' proofs cite these, and each is one or two tests rewritten.
 -- Assumes nothing.
-use mathlib.Core.Path.{_≡_, sym, ap, _∙_}
+use mathlib.Core.Path.{_≡_, refl, sym, ap, _∙_}
 use mathlib.Core.Bool.{Bool, true, false, not, _&&_}
 use mathlib.Core.List.{List}
 use Prim.Native.Nat.{ℕ, _≤_, _<_}
@@ -18,7 +18,7 @@ use Rattle.int.specs.Word.{add32, eqZ}
 use Rattle.math.specs.Fixed.{mulDiv}
 use Rattle.moves.specs.Apply.{shifted, shiftOf, moved, applyOf}
 use Rattle.moves.specs.Displacement.{displacementOf, displacement, displacedFrom, displacedAt}
-use Rattle.moves.specs.Move.{stepBy, stepOf, held, isSlanted, isExempt, moveOf, untouching, originalMoveOf, movedAt}
+use Rattle.moves.specs.Move.{bitsFor, stepBy, stepOf, held, isSlanted, isExempt, moveOf, untouching, originalMoveOf, zp2MoveOf, movedAt}
 use Rattle.moves.specs.declared.Displacement.{Displacement}
 use Rattle.moves.specs.declared.Move.{Move}
 use Rattle.moves.specs.declared.Reference.{Reference}
@@ -28,6 +28,10 @@ use Rattle.zone.specs.Zone.{fetchOf, orAt}
 use Rattle.zone.specs.declared.Fetched.{Fetched}
 
 -- ---- one axis
+-- a sum, as its parts were read
+pub sum-read : {a a′ b b′ r r′ : ℤ} → r′ ≡ r → r ≡ add32 a′ b′ → a′ ≡ a → b′ ≡ b → r′ ≡ add32 a b
+sum-read er′ er ea eb = rw (er′, er, ea, eb) refl
+
 module _ (l : List ℤ) (at : ℕ) (by : ℤ) {moves : Bool} where
   pub not-moved : moves ≡ false → l ≡ movedAt l at by moves
   not-moved e = rw e
@@ -79,6 +83,13 @@ original-from v distance e p q = rw (p, q) (ap untouching e)
 pub move-from : (v : Vectors) (f : Facts) (distance : ℤ) {m : Move} {slanted level past : Bool} → m ≡ stepOf v distance → slanted ≡ isSlanted (freedomAxisOf v) → level ≡ eqZ (v .projection .y) (pos 0) → past ≡ pastBothIups f → held m (f .«backward_compatibility» && not (slanted && level)) (past && not (slanted && level)) ≡ moveOf v f distance
 unfolding moveOf
 move-from v f distance e s l p = rw (s, l, p) (ap (λ (m : Move). held m (f .«backward_compatibility» && not (isExempt v)) (pastBothIups f && not (isExempt v))) e)
+
+pub zp2-from :
+    (v : Vectors) (f : Facts) (dx dy : ℤ) (touches : Bool) {fx fy dx′ dy′ : ℤ} {ex ey past : Bool} {t : ℕ} {m : Move} → fx ≡ v .freedom .x → fy ≡ v .freedom .y → dx′ ≡ dx → dy′ ≡ dy →
+    ex ≡ eqZ fx (pos 0) → ey ≡ eqZ fy (pos 0) → t ≡ bitsFor (not ex && touches) (not ey && touches) → past ≡ pastBothIups f →
+    m ≡ held (record { «moves_x» = not ex; dx = dx′; «moves_y» = not ey; dy = dy′; touch = t }) (f .«backward_compatibility») past → m ≡ zp2MoveOf v f dx dy touches
+unfolding zp2MoveOf
+zp2-from v f dx dy touches efx efy edx edy eex eey et ep em = rw (em, et, ep, eex, eey, efx, efy, edx, edy) refl
 
 abbrev pub vector : ℤ → ℤ → Vector
 vector x y = record { x = x; y = y }

@@ -1,12 +1,15 @@
 -- What each definition says in each of its cases, over plain lists: the functions' proofs cite these, and each is a chain of what the calls
 -- ensure, or a test rewritten. Assumes nothing.
-use mathlib.Core.Bool.{Bool, cond, false, true}
+use mathlib.Core.Bool.{Bool, cond, false, not, true, _&&_}
 use mathlib.Core.List.{List}
 use Prim.Native.Nat.{_<_, _≤_, ℕ}
-use mathlib.Core.Path.{_∙_, _≡_, ap, sym}
+use mathlib.Core.Path.{_∙_, _≡_, ap, refl, sym}
 use borrow.Author.Tests.{le-ltb, lt-ltb}
 use lib.ListN.{length}
-use lib.IntN.{ℤ}
+use lib.IntN.{pos, ℤ}
+use Rattle.int.specs.Word.{sub32}
+use Rattle.round.specs.Round.{roundOf}
+use Rattle.round.specs.declared.RoundState.{RoundState}
 use Rattle.answer.specs.declared.Call.{Call}
 use Rattle.answer.specs.declared.Refusal.the-variants.{Missing}
 use Rattle.answer.specs.declared.Refusal.{Refusal}
@@ -21,10 +24,28 @@ use Rattle.moves.specs.Move.{moveOf}
 use Rattle.moves.specs.declared.Move.{Move}
 use Rattle.line.specs.Line.{doneWith, refusedWith}
 use Rattle.line.specs.declared.Stepped.{Stepped}
-use Rattle.places.specs.Lines.{indexAt}
+use Rattle.places.specs.Lines.{indexAt, isOdd}
 use Rattle.places.specs.Placed.{BothPlaced, Placed, bothPlaced, placed}
 use Rattle.outline.specs.Absolute.{mdapAt, mdapFrom, mdapIn, mdapOf, onBoth, outsideMdap, placeBy, settled, settledOn}
-use Rattle.outline.specs.Numbers.{mdapDistance}
+use Rattle.outline.specs.Numbers.{fromOrigin, mdapDistance, roundingStep}
+
+-- ---- numbers
+pub step-from : (round : RoundState) (d : ℤ) {d′ q q′ r r′ : ℤ} → d′ ≡ d → q′ ≡ q → q ≡ roundOf round d′ → r′ ≡ r → r ≡ sub32 q′ d′ → r′ ≡ roundingStep round d
+unfolding roundingStep
+step-from round d ed eq′ eq er′ er = rw (er′, er, eq′, eq, ed) refl
+
+module _ (s : GraphicsState) (opcode : ℕ) (place : Vector) {odd : Bool} (q : odd ≡ isOdd opcode) where
+  rounds : {b : Bool} → odd && not (s .facts .«native_clear_type_x») ≡ b → isOdd opcode && not (s .facts .«native_clear_type_x») ≡ b
+  rounds t = sym (ap (λ (o : Bool). o && not (s .facts .«native_clear_type_x»)) q) ∙ t
+
+  pub distance-rounds :
+      odd && not (s .facts .«native_clear_type_x») ≡ true → {o o′ r r′ : ℤ} → o′ ≡ o → o ≡ fromOrigin (s .vectors) place → r′ ≡ r → r ≡ roundingStep (s .round) o′ → r′ ≡ mdapDistance s opcode place
+  unfolding mdapDistance
+  distance-rounds t eo′ eo er′ er = rw (rounds t, er′, er, eo′, eo) refl
+
+  pub distance-none : odd && not (s .facts .«native_clear_type_x») ≡ false → pos 0 ≡ mdapDistance s opcode place
+  unfolding mdapDistance
+  distance-none t = rw (rounds t) refl
 
 -- ---- the point outside its zone: by whether the state is pedantic
 module _ (s : GraphicsState) (at : ℕ) (why : Refusal) {r : Stepped} where

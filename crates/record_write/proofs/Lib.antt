@@ -1,3 +1,4 @@
 pub mod Placing
 pub mod Joined
 pub mod Cases
+mod Steps

@@ -3,10 +3,11 @@
 use mathlib.Core.Bool.{Bool, cond, false, true}
 use mathlib.Core.List.{List}
 use Prim.Native.Nat.{_<_, _≤_, ℕ}
-use mathlib.Core.Path.{_∙_, _≡_, ap, sym}
+use mathlib.Core.Path.{_∙_, _≡_, ap, refl, sym}
 use lib.ListN.{getD, length}
 use borrow.Author.Tests.{le-ltb, lt-ltb}
 use lib.IntN.{pos, ℤ}
+use Rattle.int.specs.Word.{sub32}
 use Rattle.answer.specs.declared.Call.the-variants.{Done, Refused}
 use Rattle.answer.specs.declared.Call.{Call}
 use Rattle.answer.specs.declared.Refusal.the-variants.{Missing, Point}
@@ -15,6 +16,7 @@ use Rattle.graphics.specs.State.{rp0At, rp1At, rp2At, withReferences}
 use Rattle.graphics.specs.declared.GraphicsState.{GraphicsState}
 use Rattle.graphics.specs.declared.Vector.{Vector}
 use Rattle.graphics.specs.declared.Vectors.{Vectors}
+use Rattle.projection.specs.Projection.{projectOf}
 use Rattle.zone.specs.Zone.{placeOf}
 use Rattle.moves.specs.Apply.{applyOf, moved}
 use Rattle.moves.specs.Move.{moveOf, movedAt, originalMoveOf}
@@ -48,6 +50,13 @@ module _ (s : GraphicsState) (why : Refusal) {r : Stepped} where
   pub over-lenient : s .facts .pedantic ≡ false → r ≡ doneWith s → r ≡ passedOver s why
   unfolding passedOver
   over-lenient e q = q ∙ sym (ap (λ (b : Bool). cond b (refusedWith s why) (doneWith s)) e)
+
+-- ---- the distance
+pub distance-from :
+    (v : Vectors) (distance : ℤ) (place reference : Vector) {d p p′ r r′ : ℤ} → d ≡ distance → p′ ≡ p → p ≡ projectOf v place reference → r′ ≡ r → r ≡ sub32 d p′ →
+    r′ ≡ msirpDistance v distance place reference
+unfolding msirpDistance
+distance-from v distance place reference ed ep′ ep er′ er = rw (er′, er, ed, ep′, ep) refl
 
 -- ---- the references
 module _ (s : GraphicsState) (opcode at : ℕ) where

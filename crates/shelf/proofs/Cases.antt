@@ -18,6 +18,13 @@ use Rattle.after.specs.After.{shelved, shelvedFor}
 use Rattle.shelf.specs.Shelf.{onRead, refusedAs, shelfOf}
 
 -- ---- the lists that were loaded
+-- a count as it is read, within a bound and within a list of that length
+pub read-within : {n m k : ℕ} → n ≡ m → m ≤ k → n ≤ k
+read-within e h = omega arith
+
+pub held-within : {n m k l : ℕ} → k ≡ l → n ≡ m → m ≤ k → n ≤ l
+held-within f e h = omega arith
+
 pub same-world : {s s′ : GraphicsState} {gx gx′ gy gy′ : List ℤ} {gflags gflags′ : List ℕ} {tox tox′ toy toy′ tx tx′ ty ty′ : List ℤ} {tflags tflags′ : List ℕ}
     → s ≡ s′ → gx ≡ gx′ → gy ≡ gy′ → gflags ≡ gflags′ → tox ≡ tox′ → toy ≡ toy′ → tx ≡ tx′ → ty ≡ ty′ → tflags ≡ tflags′
     → world s gx gy gflags tox toy tx ty tflags ≡ world s′ gx′ gy′ gflags′ tox′ toy′ tx′ ty′ tflags′

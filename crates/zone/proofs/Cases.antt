@@ -1,27 +1,49 @@
 -- What each definition says inside and outside, over plain lists: the functions' proofs cite these, and each is one test rewritten.
 -- Assumes nothing.
-use mathlib.Core.Path.{_≡_, refl, ap, _∙_}
-use mathlib.Core.Bool.{Bool, true}
+use mathlib.Core.Path.{_≡_, refl, ap, ap₂, _∙_}
+use mathlib.Core.Bool.{Bool, true, _&&_}
 use mathlib.Core.List.{List, [], _∷_, _++_, map}
 use Prim.Native.Nat.{ℕ, zero, suc, _-_, _≤_, _<_}
 use native.Mathlib.Omega.{arith}
 use borrow.Author.Tests.{eqb-true, lt-ltb, le-ltb, le-leb, lt-leb}
-use lib.Dec.{eqb}
+use lib.Dec.{eqb, leb}
 use lib.IntN.{ℤ}
 use lib.ListN.{length, take, drop, getD}
 use borrow.Rule.Slice.PartMut.{putMid, post-is}
 use Rattle.answer.specs.declared.Call.the-variants.{Refused, Done}
 use Rattle.answer.specs.declared.Refusal.the-variants.{Point, Range}
 use Rattle.graphics.specs.declared.Vector.{Vector}
+use Rattle.limits.specs.Limits.{mostContours}
 use Rattle.point.specs.Flag.{hasAny, touchBits}
 use Rattle.point.specs.declared.CoordAxis.{CoordAxis}
-use Rattle.zone.specs.Sizes.{pairFits, placedFits}
+use Rattle.zone.specs.Sizes.{glyphFits, pairFits, placedFits, twilightFits}
 use Rattle.zone.specs.Zone.{placeOf, fetchOf, marked, changeAt, markedAt, touchedOf, onCurve, overPart, setOnCurveOf}
 use Rattle.zone.specs.declared.Fetched.the-variants.{At}
 use Rattle.zone.specs.declared.Touched.the-variants.{Is}
 use Rattle.zone.specs.declared.Touched.the-variants.{Refused as RefusedMark}
 use Rattle.zone.specs.declared.Fetched.the-variants.{Refused as RefusedPlace}
 use Rattle.graphics.proofs.Laws.{and-left, and-right}
+
+-- ---- the tests of a zone's lists, by what their calls ensure
+pub placed-are : (xs ys : List ℤ) (flags : List ℕ) {p : Bool} → p ≡ pairFits xs ys → eqb (length flags) (length xs) && p ≡ placedFits xs ys flags
+unfolding placedFits
+placed-are xs ys flags e = ap (λ (b : Bool). eqb (length flags) (length xs) && b) e
+
+module _ (ox oy cx cy : List ℤ) (flags : List ℕ) where
+  pub twilight-are : {o p : Bool} → o ≡ pairFits ox oy → p ≡ placedFits cx cy flags → eqb (length ox) (length cx) && o && p ≡ twilightFits ox oy cx cy flags
+  unfolding twilightFits
+  twilight-are e f = ap₂ (λ (a b : Bool). eqb (length ox) (length cx) && a && b) e f
+
+  pub glyph-are :
+      (ux uy : List ℤ) (contours : List ℕ) {u t c : Bool} → u ≡ pairFits ux uy → t ≡ twilightFits ox oy cx cy flags → c ≡ leb (length contours) mostContours →
+      eqb (length ux) (length cx) && u && t && c ≡ glyphFits ux uy ox oy cx cy flags contours
+  unfolding glyphFits
+  glyph-are ux uy contours e f g = rw (e, f, g) refl
+
+-- ---- one point
+-- two coordinates, as they were read
+pub read-as : {x x′ x″ y y′ y″ : ℤ} → x″ ≡ x′ → x′ ≡ x → y″ ≡ y′ → y′ ≡ y → _≡_ {A = Vector} (record { x = x″; y = y″ }) (record { x = x; y = y })
+read-as ex′ ex ey′ ey = rw (ex′, ex, ey′, ey) refl
 
 module _ (xs ys : List ℤ) (at : ℕ) where
   pub fetched : at < length xs → {place : Vector} → place ≡ placeOf xs ys at → At place ≡ fetchOf xs ys at

@@ -1,5 +1,4 @@
 -- `align::alignrp` meets its contract: the loop is what `align_each` ensures, and then the counter is put back. Assumes nothing.
-use borrow.Author.Needs.{needs}
 use Rattle.align.specs.Align.{alignrpOf}
 use Rattle.looped.proofs.Cases.{reset-after}
 use Rattle.align.proofs.alignrp.Statement.{statement}
@@ -9,7 +8,7 @@ align-each-requires : tie.Need-align-each-requires
 align-each-requires c κs = c .before .before .before .before .before .before .before .before .pre
 
 reset-loop-counter-requires : tie.Need-reset-loop-counter-requires
-reset-loop-counter-requires c κs = search needs
+reset-loop-counter-requires c κs = tt
 
 same-length : tie.Need-same-length
 same-length c = c .before .before .before .before .before .before .before .before .before .align-each .kept .1 .1 .1 .0

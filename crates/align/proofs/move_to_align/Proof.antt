@@ -12,28 +12,28 @@ fetch-in-requires : tie.Need-fetch-in-requires
 fetch-in-requires c κs = search needs
 
 enum-known-here : tie.Need-enum-known-here
-enum-known-here c = search needs
+enum-known-here c = c .match .keys1
 
 enum-known-here-2 : tie.Need-enum-known-here-2
-enum-known-here-2 c = search needs
+enum-known-here-2 c = c .match .keys2
 
 fetch-in-requires-2 : tie.Need-fetch-in-requires-2
 fetch-in-requires-2 c κs = search needs
 
 enum-known-there : tie.Need-enum-known-there
-enum-known-there c = search needs
+enum-known-there c = c .match2 .keys1
 
 enum-known-there-2 : tie.Need-enum-known-there-2
-enum-known-there-2 c = search needs
+enum-known-there-2 c = c .match2 .keys2
 
 project-requires : tie.Need-project-requires
-project-requires c κs = search needs
+project-requires c κs = tt
 
 wrapping-neg-requires : tie.Need-wrapping-neg-requires
-wrapping-neg-requires c κs = search needs
+wrapping-neg-requires c κs = tt
 
 move-of-requires : tie.Need-move-of-requires
-move-of-requires c κs = search needs
+move-of-requires c κs = tt
 
 returns : tie.Need-returns
 returns c = let h = c .before in let f = h .before .before in let a = f .before .before .before .before .before .args in

@@ -1,18 +1,18 @@
 -- `direct::pairs_fit` meets its contract: it is the two tests. Assumes nothing.
-use borrow.Author.Needs.{needs}
-use Rattle.direct.specs.Direct.{pairsFit}
+use denote.Ref.{now}
+use Rattle.direct.proofs.Cases.{pairs-are}
 use Rattle.direct.proofs.pairs_fit.Statement.{statement}
 use Rattle.direct.proofs.pairs_fit.Tie as tie
 
 pair-fits-requires : tie.Need-pair-fits-requires
-pair-fits-requires c κs = search needs
+pair-fits-requires c κs = tt
 
 pair-fits-requires-2 : tie.Need-pair-fits-requires-2
-pair-fits-requires-2 c κs = search needs
+pair-fits-requires-2 c κs = tt
 
 returns : tie.Need-returns
-unfolding pairsFit
-returns c = cc
+returns c = let g = c .before in let a = g .before .args in
+    pairs-are (now (a .gx)) (now (a .gy)) (now (a .tx)) (now (a .ty)) (g .pair-fits .ensures) (c .pair-fits2 .ensures)
 
 pub pairs-fit-spec : {M : Type 1} → statement M
 pairs-fit-spec = tie.close (tie.spec pair-fits-requires pair-fits-requires-2 returns)

@@ -1,7 +1,6 @@
 -- `direct::try_point_displacement` meets its contract: by what the entry says, and then by what the leaf ensures. Assumes nothing.
 use mathlib.Core.Path.{refl, ap₂, _∙_}
 use mathlib.Core.Bool.{Bool, _&&_}
-use borrow.Author.Needs.{needs}
 use denote.Ref.{now}
 use Rattle.direct.proofs.Cases.{begun-fits, all-pairs-lengths, displacement-begun}
 use Rattle.graphics.specs.State.{usableState}
@@ -9,22 +8,22 @@ use Rattle.direct.proofs.try_point_displacement.Statement.{statement}
 use Rattle.direct.proofs.try_point_displacement.Tie as tie
 
 pairs-fit-requires : tie.Need-pairs-fit-requires
-pairs-fit-requires c κs = search needs
+pairs-fit-requires c κs = tt
 
 pairs-fit-requires-2 : tie.Need-pairs-fit-requires-2
-pairs-fit-requires-2 c κs = search needs
+pairs-fit-requires-2 c κs = tt
 
 entry-requires : tie.Need-entry-requires
-entry-requires c κs = search needs
+entry-requires c κs = tt
 
 enum-known-begun : tie.Need-enum-known-begun
-enum-known-begun c = search needs
+enum-known-begun c = c .match .keys1
 
 enum-told : tie.Need-enum-told
-enum-told c = search needs
+enum-told c = c .match .keys2
 
 reference-of-requires : tie.Need-reference-of-requires
-reference-of-requires c κs = search needs
+reference-of-requires c κs = tt
 
 displaced-in-requires : tie.Need-displaced-in-requires
 displaced-in-requires c κs = let e = c .before .before .before in let k = e .before in let a = k .before .before .before .args in

@@ -9,19 +9,19 @@ fetch-in-requires : tie.Need-fetch-in-requires
 fetch-in-requires c κs = search needs
 
 enum-known-start : tie.Need-enum-known-start
-enum-known-start c = search needs
+enum-known-start c = c .match .keys1
 
 enum-known-start-2 : tie.Need-enum-known-start-2
-enum-known-start-2 c = search needs
+enum-known-start-2 c = c .match .keys2
 
 fetch-in-requires-2 : tie.Need-fetch-in-requires-2
 fetch-in-requires-2 c κs = search needs
 
 enum-known-end : tie.Need-enum-known-end
-enum-known-end c = search needs
+enum-known-end c = c .match2 .keys1
 
 enum-known-end-2 : tie.Need-enum-known-end-2
-enum-known-end-2 c = search needs
+enum-known-end-2 c = c .match2 .keys2
 
 returns : tie.Need-returns
 returns c = let s = c .before in let f = s .before .before in let k = f .before in

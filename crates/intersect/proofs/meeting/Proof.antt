@@ -11,22 +11,22 @@ ends-in-requires : tie.Need-ends-in-requires
 ends-in-requires c κs = search needs
 
 enum-known-one : tie.Need-enum-known-one
-enum-known-one c = search needs
+enum-known-one c = c .match .keys1
 
 enum-known-one-2 : tie.Need-enum-known-one-2
-enum-known-one-2 c = search needs
+enum-known-one-2 c = c .match .keys2
 
 ends-in-requires-2 : tie.Need-ends-in-requires-2
 ends-in-requires-2 c κs = search needs
 
 enum-known-other : tie.Need-enum-known-other
-enum-known-other c = search needs
+enum-known-other c = c .match2 .keys1
 
 enum-known-other-2 : tie.Need-enum-known-other-2
-enum-known-other-2 c = search needs
+enum-known-other-2 c = c .match2 .keys2
 
 crossing-requires : tie.Need-crossing-requires
-crossing-requires c κs = search needs
+crossing-requires c κs = tt
 
 returns : tie.Need-returns
 returns c = let o = c .before in let e = o .before .before in let s = e .before in

@@ -1,6 +1,5 @@
 -- `intersect::put_in` meets its contract: by the pointer. Assumes nothing.
 use mathlib.Core.Path.{sym, ap, _∙_}
-use borrow.Author.Needs.{needs}
 use denote.Ref.{now}
 use Rattle.places.specs.Placed.{placedGlyph, placedTwilight}
 use Rattle.intersect.specs.Intersection.{putIn}
@@ -8,25 +7,25 @@ use Rattle.intersect.proofs.put_in.Statement.{statement}
 use Rattle.intersect.proofs.put_in.Tie as tie
 
 enum-told : tie.Need-enum-told
-enum-told c = search needs
+enum-told c = c .match .keys1
 
 put-touched-requires : tie.Need-put-touched-requires
-put-touched-requires c κs = search needs
+put-touched-requires c κs = tt
 
 enum-told-2 : tie.Need-enum-told-2
-enum-told-2 c = search needs
+enum-told-2 c = c .match .keys2
 
 put-touched-requires-2 : tie.Need-put-touched-requires-2
-put-touched-requires-2 c κs = search needs
+put-touched-requires-2 c κs = tt
 
 same-length : tie.Need-same-length
-same-length c = search needs
+same-length c = c .before .before .before .before .put-touched .kept .1 .1 .1 .0
 
 same-length-2 : tie.Need-same-length-2
-same-length-2 c = search needs
+same-length-2 c = c .before .before .before .before .put-touched .kept .1 .1 .1 .1 .0
 
 same-length-3 : tie.Need-same-length-3
-same-length-3 c = search needs
+same-length-3 c = c .before .before .before .before .put-touched .kept .1 .1 .1 .1 .1 .0
 
 returns : tie.Need-returns
 unfolding putIn
@@ -35,13 +34,13 @@ returns c = let p = c .before .before .before .before in let e = p .before .befo
     ∙ sym (ap (putIn (s .args .s) (s .args .place) (s .args .at) (now (s .args .gx)) (now (s .args .gy)) (now (s .args .gflags)) (now (s .args .tx)) (now (s .args .ty)) (now (s .args .tflags))) (e .enum-told .given .1))
 
 same-length-4 : tie.Need-same-length-4
-same-length-4 c = search needs
+same-length-4 c = c .before .before .before .before .put-touched2 .kept .1 .1 .1 .0
 
 same-length-5 : tie.Need-same-length-5
-same-length-5 c = search needs
+same-length-5 c = c .before .before .before .before .put-touched2 .kept .1 .1 .1 .1 .0
 
 same-length-6 : tie.Need-same-length-6
-same-length-6 c = search needs
+same-length-6 c = c .before .before .before .before .put-touched2 .kept .1 .1 .1 .1 .1 .0
 
 returns-2 : tie.Need-returns-2
 unfolding putIn

@@ -1,6 +1,5 @@
 -- `miap::control_place` meets its contract: each coordinate is what its call ensures. Assumes nothing.
 use native.Mathlib.Omega.{arith}
-use borrow.Author.Needs.{needs}
 use mir.Facts.{toZ-ofZ}
 use Rattle.int.proofs.Words.{back32}
 use Rattle.miap.specs.Numbers.{controlPlace}
@@ -8,10 +7,10 @@ use Rattle.miap.proofs.control_place.Statement.{statement}
 use Rattle.miap.proofs.control_place.Tie as tie
 
 mul14-requires : tie.Need-mul14-requires
-mul14-requires c κs = search needs
+mul14-requires c κs = tt
 
 mul14-requires-2 : tie.Need-mul14-requires-2
-mul14-requires-2 c κs = search needs
+mul14-requires-2 c κs = tt
 
 returns : tie.Need-returns
 unfolding controlPlace

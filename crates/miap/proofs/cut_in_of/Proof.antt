@@ -1,5 +1,4 @@
 -- `miap::cut_in_of` meets its contract: by the native ClearType fact. Assumes nothing.
-use borrow.Author.Needs.{needs}
 use mir.Facts.{toZ-ofZ}
 use Rattle.int.proofs.Words.{back32}
 use Rattle.miap.specs.Numbers.{cutInOf}
@@ -7,7 +6,7 @@ use Rattle.miap.proofs.cut_in_of.Statement.{statement}
 use Rattle.miap.proofs.cut_in_of.Tie as tie
 
 shift-right-requires : tie.Need-shift-right-requires
-shift-right-requires c κs = search needs
+shift-right-requires c κs = tt
 
 returns : tie.Need-returns
 unfolding cutInOf

@@ -10,25 +10,25 @@ use Rattle.miap.proofs.miap_in.Statement.{statement}
 use Rattle.miap.proofs.miap_in.Tie as tie
 
 enum-told : tie.Need-enum-told
-enum-told c = search needs
+enum-told c = c .match .keys1
 
 miap-at-requires : tie.Need-miap-at-requires
 miap-at-requires c κs = search needs
 
 enum-told-2 : tie.Need-enum-told-2
-enum-told-2 c = search needs
+enum-told-2 c = c .match .keys2
 
 miap-twilight-requires : tie.Need-miap-twilight-requires
 miap-twilight-requires c κs = search needs
 
 same-length : tie.Need-same-length
-same-length c = search needs
+same-length c = c .before .before .before .before .miap-at .kept .1 .1 .1 .1 .0
 
 same-length-2 : tie.Need-same-length-2
-same-length-2 c = search needs
+same-length-2 c = c .before .before .before .before .miap-at .kept .1 .1 .1 .1 .1 .0
 
 same-length-3 : tie.Need-same-length-3
-same-length-3 c = search needs
+same-length-3 c = c .before .before .before .before .miap-at .kept .1 .1 .1 .1 .1 .1 .0
 
 returns : tie.Need-returns
 unfolding miapIn
@@ -37,19 +37,19 @@ returns c = let m = c .before .before .before .before in let e = m .before .befo
     ∙ sym (ap (miapIn (s .args .s) (s .args .opcode) (s .args .control) (s .args .at) (now (s .args .gx)) (now (s .args .gy)) (now (s .args .gflags)) (now (s .args .ox)) (now (s .args .oy)) (now (s .args .tx)) (now (s .args .ty)) (now (s .args .tflags))) (e .enum-told .given .1))
 
 same-length-4 : tie.Need-same-length-4
-same-length-4 c = search needs
+same-length-4 c = c .before .before .before .before .before .before .miap-twilight .kept .1 .1 .1 .1 .0
 
 same-length-5 : tie.Need-same-length-5
-same-length-5 c = search needs
+same-length-5 c = c .before .before .before .before .before .before .miap-twilight .kept .1 .1 .1 .1 .1 .0
 
 same-length-6 : tie.Need-same-length-6
-same-length-6 c = search needs
+same-length-6 c = c .before .before .before .before .before .before .miap-twilight .kept .1 .1 .1 .1 .1 .1 .0
 
 same-length-7 : tie.Need-same-length-7
-same-length-7 c = search needs
+same-length-7 c = c .before .before .before .before .before .before .miap-twilight .kept .1 .1 .1 .1 .1 .1 .1 .0
 
 same-length-8 : tie.Need-same-length-8
-same-length-8 c = search needs
+same-length-8 c = c .before .before .before .before .before .before .miap-twilight .kept .1 .1 .1 .1 .1 .1 .1 .1 .0
 
 returns-2 : tie.Need-returns-2
 unfolding miapIn

@@ -7,13 +7,13 @@ use Rattle.miap.proofs.miap_twilight.Statement.{statement}
 use Rattle.miap.proofs.miap_twilight.Tie as tie
 
 control-place-requires : tie.Need-control-place-requires
-control-place-requires c κs = search needs
+control-place-requires c κs = tt
 
 put-at-requires : tie.Need-put-at-requires
-put-at-requires c κs = search needs
+put-at-requires c κs = tt
 
 put-at-requires-2 : tie.Need-put-at-requires-2
-put-at-requires-2 c κs = search needs
+put-at-requires-2 c κs = tt
 
 miap-at-requires : tie.Need-miap-at-requires
 miap-at-requires c κs = search needs
@@ -31,7 +31,7 @@ same-length-4 : tie.Need-same-length-4
 same-length-4 c = search needs
 
 same-length-5 : tie.Need-same-length-5
-same-length-5 c = search needs
+same-length-5 c = c .before .before .before .before .miap-at .kept .1 .1 .1 .1 .1 .1 .0
 
 returns : tie.Need-returns
 returns c = let m = c .before .before .before .before in let p = m .before .before .before .before .before .before in let k = p .before .before .before .before .before in let q = k .before .before .before in let s = q .before .before .before in

@@ -2,7 +2,6 @@
 use mathlib.Core.Path.{ap, _∙_}
 use Prim.Native.Nat.{_^_, _<_}
 use native.Mathlib.Omega.{arith}
-use borrow.Author.Needs.{needs}
 use lib.IntN.{ℤ}
 use lib.Signed.{mag}
 use denote.Ref.{now}
@@ -16,22 +15,22 @@ returns : tie.Need-returns
 returns c = let a = c .before .before .args in apply-out (a .m) (a .at) (now (a .xs)) (now (a .ys)) (now (a .flags)) (c .if1 .taken)
 
 move-at-requires : tie.Need-move-at-requires
-move-at-requires c κs = search needs
+move-at-requires c κs = tt
 
 move-at-requires-2 : tie.Need-move-at-requires-2
-move-at-requires-2 c κs = search needs
+move-at-requires-2 c κs = tt
 
 or-at-requires : tie.Need-or-at-requires
-or-at-requires c κs = search needs
+or-at-requires c κs = tt
 
 same-length : tie.Need-same-length
-same-length c = search needs
+same-length c = c .before .before .before .before .before .before .before .before .before .move-at .kept .0
 
 same-length-2 : tie.Need-same-length-2
-same-length-2 c = search needs
+same-length-2 c = c .before .before .before .before .before .move-at2 .kept .0
 
 same-length-3 : tie.Need-same-length-3
-same-length-3 c = search needs
+same-length-3 c = c .before .before .or-at .kept .0
 
 returns-2 : tie.Need-returns-2
 returns-2 c = let f = c .before .before in let y = f .before .before .before in let x = y .before .before .before .before in let i = x .before .before .before in let a = i .before .before .args in let m = a .m in

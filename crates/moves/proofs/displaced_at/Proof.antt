@@ -1,7 +1,6 @@
 -- `moves::displaced_at` meets its contract: by what the two reads give. Assumes nothing.
 use mathlib.Core.Path.{ap, _∙_}
 use native.Mathlib.Omega.{arith}
-use borrow.Author.Needs.{needs}
 use denote.Ref.{now}
 use Rattle.int.proofs.Words.{back32}
 use Rattle.moves.proofs.Cases.{current-is, both-are, displaced-by}
@@ -10,25 +9,25 @@ use Rattle.moves.proofs.displaced_at.Statement.{statement}
 use Rattle.moves.proofs.displaced_at.Tie as tie
 
 fetch-requires : tie.Need-fetch-requires
-fetch-requires c κs = search needs
+fetch-requires c κs = c .pre .1
 
 enum-known-here : tie.Need-enum-known-here
-enum-known-here c = search needs
+enum-known-here c = c .match .keys1
 
 enum-known-here-2 : tie.Need-enum-known-here-2
-enum-known-here-2 c = search needs
+enum-known-here-2 c = c .match .keys2
 
 fetch-requires-2 : tie.Need-fetch-requires-2
-fetch-requires-2 c κs = search needs
+fetch-requires-2 c κs = c .before .before .before .before .pre .0
 
 enum-known-there : tie.Need-enum-known-there
-enum-known-there c = search needs
+enum-known-there c = c .match2 .keys1
 
 enum-known-there-2 : tie.Need-enum-known-there-2
-enum-known-there-2 c = search needs
+enum-known-there-2 c = c .match2 .keys2
 
 displacement-of-requires : tie.Need-displacement-of-requires
-displacement-of-requires c κs = search needs
+displacement-of-requires c κs = tt
 
 returns : tie.Need-returns
 returns c = let h = c .before in let f = h .before .before in let a = f .before .args in

@@ -1,22 +1,21 @@
 -- `moves::displaced_in` meets its contract: by the reference's pointer. Assumes nothing.
 use mathlib.Core.Path.{sym, ap, _∙_}
-use borrow.Author.Needs.{needs}
 use denote.Ref.{now}
 use Rattle.moves.specs.Displacement.{displacedIn}
 use Rattle.moves.proofs.displaced_in.Statement.{statement}
 use Rattle.moves.proofs.displaced_in.Tie as tie
 
 enum-told : tie.Need-enum-told
-enum-told c = search needs
+enum-told c = c .match .keys1
 
 displaced-at-requires : tie.Need-displaced-at-requires
-displaced-at-requires c κs = search needs
+displaced-at-requires c κs = (c .before .before .pre .0, c .before .before .pre .1)
 
 enum-told-2 : tie.Need-enum-told-2
-enum-told-2 c = search needs
+enum-told-2 c = c .match .keys2
 
 displaced-at-requires-2 : tie.Need-displaced-at-requires-2
-displaced-at-requires-2 c κs = search needs
+displaced-at-requires-2 c κs = (c .before .before .pre .2, c .before .before .pre .3)
 
 returns : tie.Need-returns
 unfolding displacedIn

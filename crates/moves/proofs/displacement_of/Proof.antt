@@ -1,23 +1,22 @@
 -- `moves::displacement_of` meets its contract: each number is what its call ensures. Assumes nothing.
 use mathlib.Core.Path.{_∙_}
 use native.Mathlib.Omega.{arith}
-use borrow.Author.Needs.{needs}
 use Rattle.int.proofs.Words.{back32}
 use Rattle.moves.proofs.Cases.{displacement-from}
 use Rattle.moves.proofs.displacement_of.Statement.{statement}
 use Rattle.moves.proofs.displacement_of.Tie as tie
 
 derive-requires : tie.Need-derive-requires
-derive-requires c κs = search needs
+derive-requires c κs = tt
 
 project-requires : tie.Need-project-requires
-project-requires c κs = search needs
+project-requires c κs = tt
 
 mul-div-requires : tie.Need-mul-div-requires
-mul-div-requires c κs = search needs
+mul-div-requires c κs = tt
 
 mul-div-requires-2 : tie.Need-mul-div-requires-2
-mul-div-requires-2 c κs = search needs
+mul-div-requires-2 c κs = tt
 
 returns : tie.Need-returns
 returns c = let x = c .before .before .before in let p = x .before .before .before in let d = p .before in let s = d .before .before in let v = s .args .v in

@@ -6,7 +6,7 @@ use lib.ListN.{getD}
 use denote.Ref.{now}
 use mir.Facts.{toZ-ofZ}
 use Rattle.int.proofs.Words.{back32}
-use Rattle.moves.proofs.Cases.{not-moved, moved-outside, moved-inside}
+use Rattle.moves.proofs.Cases.{not-moved, moved-outside, moved-inside, sum-read}
 use Rattle.moves.proofs.move_at.Statement.{statement}
 use Rattle.moves.proofs.move_at.Tie as tie
 
@@ -23,7 +23,7 @@ slice-copy-out-wrapping-add : tie.Need-slice-copy-out-wrapping-add
 slice-copy-out-wrapping-add c = search needs
 
 wrapping-add-requires : tie.Need-wrapping-add-requires
-wrapping-add-requires c κs = search needs
+wrapping-add-requires c κs = tt
 
 mul-t11 : tie.Need-mul-t11
 mul-t11 c = search needs
@@ -37,7 +37,7 @@ same-length c = search needs
 returns-3 : tie.Need-returns-3
 returns-3 c = let s = c .before .before .before .before in let a = s .args in
     moved-inside (now (a .list)) (a .at) (a .by) (not-false (a .moves) (c .before .before .before .if1 .left))
-    (cc (back32 (c .wrapping-add .result) (c .wrapping-add .ok), toZ-ofZ (s .fits .by), back32 (getD (now (a .list)) (a .at) (pos 0)) (c .before .wrapping-add-arg .given)))
+    (sum-read (back32 (c .wrapping-add .result) (c .wrapping-add .ok)) (c .wrapping-add .ensures) (back32 (getD (now (a .list)) (a .at) (pos 0)) (c .before .wrapping-add-arg .given)) (toZ-ofZ (s .fits .by)))
 
 pub move-at-spec : {M : Type 1} → statement M
 move-at-spec =

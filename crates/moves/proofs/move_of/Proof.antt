@@ -1,7 +1,6 @@
 -- `moves::move_of` meets its contract: the step and the two tests are what the calls ensure. Assumes nothing.
 use mathlib.Core.Path.{ap, _∙_}
 use native.Mathlib.Omega.{arith}
-use borrow.Author.Needs.{needs}
 use lib.IntN.{ℤ, pos}
 use mir.Facts.{toZ-ofZ}
 use Rattle.int.proofs.Words.{back32}
@@ -13,22 +12,22 @@ use Rattle.moves.proofs.move_of.Statement.{statement}
 use Rattle.moves.proofs.move_of.Tie as tie
 
 derive-requires : tie.Need-derive-requires
-derive-requires c κs = search needs
+derive-requires c κs = tt
 
 step-by-requires : tie.Need-step-by-requires
-step-by-requires c κs = search needs
+step-by-requires c κs = tt
 
 is-slanted-requires : tie.Need-is-slanted-requires
-is-slanted-requires c κs = search needs
+is-slanted-requires c κs = tt
 
 equal-requires : tie.Need-equal-requires
-equal-requires c κs = search needs
+equal-requires c κs = tt
 
 past-both-iups-requires : tie.Need-past-both-iups-requires
-past-both-iups-requires c κs = search needs
+past-both-iups-requires c κs = tt
 
 held-requires : tie.Need-held-requires
-held-requires c κs = search needs
+held-requires c κs = tt
 
 returns : tie.Need-returns
 returns c = let e = c .before .before .before in let l = e .before .before in let t = l .before in let d = t .before .before in let s = d .before .before .before in let v = s .args .v in

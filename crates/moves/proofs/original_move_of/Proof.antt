@@ -1,7 +1,6 @@
 -- `moves::original_move_of` meets its contract: the step is what `step_of` ensures. Assumes nothing.
 use mathlib.Core.Path.{ap, _∙_}
 use native.Mathlib.Omega.{arith}
-use borrow.Author.Needs.{needs}
 use mir.Facts.{toZ-ofZ}
 use Rattle.int.proofs.Words.{back32}
 use Rattle.moves.proofs.Cases.{original-from}
@@ -10,7 +9,7 @@ use Rattle.moves.proofs.original_move_of.Statement.{statement}
 use Rattle.moves.proofs.original_move_of.Tie as tie
 
 step-of-requires : tie.Need-step-of-requires
-step-of-requires c κs = search needs
+step-of-requires c κs = tt
 
 returns : tie.Need-returns
 returns c = let d = c .before in let s = d .before in let m = d .step-of .result in

@@ -1,7 +1,6 @@
 -- `moves::step_of` meets its contract: the axis and fdotp are what `derive` ensures. Assumes nothing.
 use mathlib.Core.Path.{_∙_}
 use native.Mathlib.Omega.{arith}
-use borrow.Author.Needs.{needs}
 use mir.Facts.{toZ-ofZ}
 use Rattle.int.proofs.Words.{back32}
 use Rattle.moves.proofs.Cases.{step-from}
@@ -9,10 +8,10 @@ use Rattle.moves.proofs.step_of.Statement.{statement}
 use Rattle.moves.proofs.step_of.Tie as tie
 
 derive-requires : tie.Need-derive-requires
-derive-requires c κs = search needs
+derive-requires c κs = tt
 
 step-by-requires : tie.Need-step-by-requires
-step-by-requires c κs = search needs
+step-by-requires c κs = tt
 
 returns : tie.Need-returns
 returns c = let d = c .before .before in let s = d .before .before in

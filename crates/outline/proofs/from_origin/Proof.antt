@@ -1,13 +1,12 @@
 -- `outline::from_origin` meets its contract: it is what `project` ensures. Assumes nothing.
 use mathlib.Core.Path.{_∙_}
-use borrow.Author.Needs.{needs}
 use Rattle.int.proofs.Words.{back32}
 use Rattle.outline.specs.Numbers.{fromOrigin}
 use Rattle.outline.proofs.from_origin.Statement.{statement}
 use Rattle.outline.proofs.from_origin.Tie as tie
 
 project-requires : tie.Need-project-requires
-project-requires c κs = search needs
+project-requires c κs = tt
 
 returns : tie.Need-returns
 unfolding fromOrigin

@@ -8,25 +8,25 @@ use Rattle.outline.proofs.mdap_in.Statement.{statement}
 use Rattle.outline.proofs.mdap_in.Tie as tie
 
 enum-told : tie.Need-enum-told
-enum-told c = search needs
+enum-told c = c .match .keys1
 
 mdap-at-requires : tie.Need-mdap-at-requires
 mdap-at-requires c κs = search needs
 
 enum-told-2 : tie.Need-enum-told-2
-enum-told-2 c = search needs
+enum-told-2 c = c .match .keys2
 
 mdap-at-requires-2 : tie.Need-mdap-at-requires-2
 mdap-at-requires-2 c κs = search needs
 
 same-length : tie.Need-same-length
-same-length c = search needs
+same-length c = c .before .before .before .before .mdap-at .kept .1 .1 .1 .0
 
 same-length-2 : tie.Need-same-length-2
-same-length-2 c = search needs
+same-length-2 c = c .before .before .before .before .mdap-at .kept .1 .1 .1 .1 .0
 
 same-length-3 : tie.Need-same-length-3
-same-length-3 c = search needs
+same-length-3 c = c .before .before .before .before .mdap-at .kept .1 .1 .1 .1 .1 .0
 
 returns : tie.Need-returns
 unfolding mdapIn
@@ -35,13 +35,13 @@ returns c = let m = c .before .before .before .before in let e = m .before .befo
     ∙ sym (ap (mdapIn (s .args .s) (s .args .opcode) (s .args .at) (now (s .args .gx)) (now (s .args .gy)) (now (s .args .gflags)) (now (s .args .tx)) (now (s .args .ty)) (now (s .args .tflags))) (e .enum-told .given .1))
 
 same-length-4 : tie.Need-same-length-4
-same-length-4 c = search needs
+same-length-4 c = c .before .before .before .before .mdap-at2 .kept .1 .1 .1 .0
 
 same-length-5 : tie.Need-same-length-5
-same-length-5 c = search needs
+same-length-5 c = c .before .before .before .before .mdap-at2 .kept .1 .1 .1 .1 .0
 
 same-length-6 : tie.Need-same-length-6
-same-length-6 c = search needs
+same-length-6 c = c .before .before .before .before .mdap-at2 .kept .1 .1 .1 .1 .1 .0
 
 returns-2 : tie.Need-returns-2
 unfolding mdapIn

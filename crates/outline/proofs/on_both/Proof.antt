@@ -1,16 +1,15 @@
 -- `outline::on_both` meets its contract: one reference set, and then the other. Assumes nothing.
 use mathlib.Core.Path.{ap, _∙_}
-use borrow.Author.Needs.{needs}
 use Rattle.graphics.specs.State.{rp1At, withReferences}
 use Rattle.graphics.specs.declared.GraphicsState.{GraphicsState}
 use Rattle.outline.proofs.on_both.Statement.{statement}
 use Rattle.outline.proofs.on_both.Tie as tie
 
 with-rp0-requires : tie.Need-with-rp0-requires
-with-rp0-requires c κs = search needs
+with-rp0-requires c κs = tt
 
 with-rp1-requires : tie.Need-with-rp1-requires
-with-rp1-requires c κs = search needs
+with-rp1-requires c κs = tt
 
 returns : tie.Need-returns
 returns c = let w = c .before in let s = w .before in

@@ -1,19 +1,18 @@
 -- `outline::outside_mdap` meets its contract: by whether the state is pedantic. Assumes nothing.
 use mathlib.Core.Path.{ap, _∙_}
-use borrow.Author.Needs.{needs}
 use Rattle.line.specs.Line.{doneWith}
 use Rattle.outline.proofs.Cases.{outside-pedantic, outside-lenient}
 use Rattle.outline.proofs.outside_mdap.Statement.{statement}
 use Rattle.outline.proofs.outside_mdap.Tie as tie
 
 refused-requires : tie.Need-refused-requires
-refused-requires c κs = search needs
+refused-requires c κs = tt
 
 on-both-requires : tie.Need-on-both-requires
-on-both-requires c κs = search needs
+on-both-requires c κs = tt
 
 done-requires : tie.Need-done-requires
-done-requires c κs = search needs
+done-requires c κs = tt
 
 returns : tie.Need-returns
 returns c = let i = c .before in let s = i .before .before in

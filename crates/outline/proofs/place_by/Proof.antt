@@ -7,22 +7,22 @@ use Rattle.outline.proofs.place_by.Statement.{statement}
 use Rattle.outline.proofs.place_by.Tie as tie
 
 move-of-requires : tie.Need-move-of-requires
-move-of-requires c κs = search needs
+move-of-requires c κs = tt
 
 apply-requires : tie.Need-apply-requires
 apply-requires c κs = search needs
 
 settle-requires : tie.Need-settle-requires
-settle-requires c κs = search needs
+settle-requires c κs = tt
 
 same-length : tie.Need-same-length
-same-length c = search needs
+same-length c = c .before .before .before .before .before .apply .kept .1 .1 .0
 
 same-length-2 : tie.Need-same-length-2
-same-length-2 c = search needs
+same-length-2 c = c .before .before .before .before .before .apply .kept .1 .1 .1 .0
 
 same-length-3 : tie.Need-same-length-3
-same-length-3 c = search needs
+same-length-3 c = c .before .before .before .before .before .apply .kept .1 .1 .1 .1 .0
 
 returns : tie.Need-returns
 returns c = let a = c .before .before .before .before .before in let m = a .before .before .before .before in let s = m .before .before in

@@ -1,25 +1,24 @@
 -- `outline::settle` meets its contract: by what the move said. Assumes nothing.
 use mathlib.Core.Path.{sym, ap, _∙_}
-use borrow.Author.Needs.{needs}
 use Rattle.line.specs.Line.{doneWith}
 use Rattle.outline.specs.Absolute.{settled}
 use Rattle.outline.proofs.settle.Statement.{statement}
 use Rattle.outline.proofs.settle.Tie as tie
 
 enum-told : tie.Need-enum-told
-enum-told c = search needs
+enum-told c = c .match .keys1
 
 on-both-requires : tie.Need-on-both-requires
-on-both-requires c κs = search needs
+on-both-requires c κs = tt
 
 done-requires : tie.Need-done-requires
-done-requires c κs = search needs
+done-requires c κs = tt
 
 enum-known-call : tie.Need-enum-known-call
-enum-known-call c = search needs
+enum-known-call c = c .match .keys2
 
 refused-requires : tie.Need-refused-requires
-refused-requires c κs = search needs
+refused-requires c κs = tt
 
 returns : tie.Need-returns
 returns c = let o = c .before in let e = o .before in let s = e .before .before in

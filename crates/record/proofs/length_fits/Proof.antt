@@ -7,7 +7,7 @@ add-result : tie.Need-add-result
 add-result c = search needs
 
 word-count-requires : tie.Need-word-count-requires
-word-count-requires c κs = search needs
+word-count-requires c κs = tt
 
 returns : tie.Need-returns
 returns c = cc

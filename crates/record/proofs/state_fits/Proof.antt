@@ -1,5 +1,7 @@
 -- `record::state_fits` meets its contract. Assumes nothing.
 use borrow.Author.Needs.{needs}
+use mathlib.Core.Path.{ap, _∙_}
+use Rattle.state_words.specs.Words.{isState}
 use Rattle.record.proofs.state_fits.Statement.{statement}
 use Rattle.record.proofs.state_fits.Tie as tie
 
@@ -7,16 +9,16 @@ slice-aggregate-load-words : tie.Need-slice-aggregate-load-words
 slice-aggregate-load-words c = search needs
 
 load-words-requires : tie.Need-load-words-requires
-load-words-requires c κs = search needs
+load-words-requires c κs = tt
 
 slice-aggregate-is-state : tie.Need-slice-aggregate-is-state
 slice-aggregate-is-state c = search needs
 
 is-state-requires : tie.Need-is-state-requires
-is-state-requires c κs = search needs
+is-state-requires c κs = tt
 
 returns : tie.Need-returns
-returns c = cc
+returns c = c .is-state .ensures ∙ ap isState (c .before .before .before .load-words .ensures)
 
 pub state-fits-spec : {M : Type 1} → statement M
 state-fits-spec =

@@ -7,22 +7,22 @@ use Rattle.record_write.proofs.store.Statement.{statement}
 use Rattle.record_write.proofs.store.Tie as tie
 
 store-state-requires : tie.Need-store-state-requires
-store-state-requires c κs = search needs
+store-state-requires c κs = tt
 
 store-originals-requires : tie.Need-store-originals-requires
-store-originals-requires c κs = search needs
+store-originals-requires c κs = tt
 
 store-currents-requires : tie.Need-store-currents-requires
-store-currents-requires c κs = search needs
+store-currents-requires c κs = tt
 
 store-twilight-requires : tie.Need-store-twilight-requires
-store-twilight-requires c κs = search needs
+store-twilight-requires c κs = tt
 
 store-sources-requires : tie.Need-store-sources-requires
-store-sources-requires c κs = search needs
+store-sources-requires c κs = tt
 
 store-trailer-requires : tie.Need-store-trailer-requires
-store-trailer-requires c κs = search needs
+store-trailer-requires c κs = tt
 
 same-length : tie.Need-same-length
 same-length c = search needs

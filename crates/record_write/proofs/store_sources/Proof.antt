@@ -1,27 +1,30 @@
 -- `record_write::store_sources` meets its contract: each list is stored over what the ones before it left. Assumes nothing.
-use borrow.Author.Needs.{needs}
+use mathlib.Core.Path.{refl, _∙_}
 use Rattle.record_write.specs.Stored.{withSources}
+use Rattle.record_write.proofs.Steps.{stored}
 use Rattle.record_write.proofs.store_sources.Statement.{statement}
 use Rattle.record_write.proofs.store_sources.Tie as tie
 
 at-controls-requires : tie.Need-at-controls-requires
-at-controls-requires c κs = search needs
+at-controls-requires c κs = tt
 
 store-numbers-requires : tie.Need-store-numbers-requires
-store-numbers-requires c κs = search needs
+store-numbers-requires c κs = tt
 
 at-sheet-requires : tie.Need-at-sheet-requires
-at-sheet-requires c κs = search needs
+at-sheet-requires c κs = tt
 
 store-numbers-requires-2 : tie.Need-store-numbers-requires-2
-store-numbers-requires-2 c κs = search needs
+store-numbers-requires-2 c κs = tt
 
 same-length : tie.Need-same-length
-same-length c = search needs
+same-length c = c .before .before .store-numbers2 .kept .1 .1 .0 ∙ c .before .before .before .before .before .before .before .store-numbers .kept .1 .1 .0
 
 returns : tie.Need-returns
 unfolding withSources
-returns c = cc
+returns c = let p0 = c .before .before in let a0 = p0 .before .before in let p1 = a0 .before .before .before in let a1 = p1 .before .before in
+    stored _ (a0 .at-sheet .ensures) (p0 .store-numbers2 .ensures)
+    (stored _ (a1 .at-controls .ensures) (p1 .store-numbers .ensures) refl)
 
 pub store-sources-spec : {M : Type 1} → statement M
 store-sources-spec =

@@ -1,6 +1,5 @@
 -- `record_write::write` meets its contract: by its three tests nothing is written, or the stores leave the record. Assumes nothing.
 use mathlib.Core.Path.{_∙_, sym}
-use borrow.Author.Needs.{needs}
 use borrow.Author.Tests.{not-false, not-true}
 use denote.Ref.{now}
 use Rattle.world.specs.World.{fixed, world}
@@ -49,7 +48,7 @@ store-requires : tie.Need-store-requires
 store-requires c κs = tt
 
 same-length : tie.Need-same-length
-same-length c = search needs
+same-length c = c .before .before .store .kept .1 .1 .1 .1 .1 .1 .1 .1 .1 .1 .1 .1 .1 .1 .1 .1 .1 .0
 
 returns-4 : tie.Need-returns-4
 returns-4 c =

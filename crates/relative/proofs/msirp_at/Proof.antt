@@ -9,28 +9,28 @@ use Rattle.relative.proofs.msirp_at.Statement.{statement}
 use Rattle.relative.proofs.msirp_at.Tie as tie
 
 place-at-requires : tie.Need-place-at-requires
-place-at-requires c κs = search needs
+place-at-requires c κs = tt
 
 msirp-distance-requires : tie.Need-msirp-distance-requires
-msirp-distance-requires c κs = search needs
+msirp-distance-requires c κs = tt
 
 move-of-requires : tie.Need-move-of-requires
-move-of-requires c κs = search needs
+move-of-requires c κs = tt
 
 apply-requires : tie.Need-apply-requires
 apply-requires c κs = search needs
 
 msirp-settle-requires : tie.Need-msirp-settle-requires
-msirp-settle-requires c κs = search needs
+msirp-settle-requires c κs = tt
 
 same-length : tie.Need-same-length
-same-length c = search needs
+same-length c = c .before .before .before .before .before .apply .kept .1 .1 .0
 
 same-length-2 : tie.Need-same-length-2
-same-length-2 c = search needs
+same-length-2 c = c .before .before .before .before .before .apply .kept .1 .1 .1 .0
 
 same-length-3 : tie.Need-same-length-3
-same-length-3 c = search needs
+same-length-3 c = c .before .before .before .before .before .apply .kept .1 .1 .1 .1 .0
 
 returns : tie.Need-returns
 returns c = let a = c .before .before .before .before .before in let m = a .before .before .before .before in let k = m .before in let p = k .before in let s = p .before .before .before .before in

@@ -7,19 +7,19 @@ use Rattle.relative.proofs.msirp_glyph.Statement.{statement}
 use Rattle.relative.proofs.msirp_glyph.Tie as tie
 
 place-in-requires : tie.Need-place-in-requires
-place-in-requires c κs = search needs
+place-in-requires c κs = tt
 
 msirp-at-requires : tie.Need-msirp-at-requires
 msirp-at-requires c κs = search needs
 
 same-length : tie.Need-same-length
-same-length c = search needs
+same-length c = c .before .before .before .before .msirp-at .kept .1 .1 .1 .1 .1 .0
 
 same-length-2 : tie.Need-same-length-2
-same-length-2 c = search needs
+same-length-2 c = c .before .before .before .before .msirp-at .kept .1 .1 .1 .1 .1 .1 .0
 
 same-length-3 : tie.Need-same-length-3
-same-length-3 c = search needs
+same-length-3 c = c .before .before .before .before .msirp-at .kept .1 .1 .1 .1 .1 .1 .1 .0
 
 returns : tie.Need-returns
 returns c = let m = c .before .before .before .before in let p = m .before .before .before .before in let s = p .before .before .before .before .before .before in

@@ -1,25 +1,24 @@
 -- `relative::msirp_settle` meets its contract: by what the move said. Assumes nothing.
 use mathlib.Core.Path.{sym, ap, _∙_}
-use borrow.Author.Needs.{needs}
 use Rattle.line.specs.Line.{doneWith}
 use Rattle.relative.specs.Msirp.{msirpSettled}
 use Rattle.relative.proofs.msirp_settle.Statement.{statement}
 use Rattle.relative.proofs.msirp_settle.Tie as tie
 
 enum-told : tie.Need-enum-told
-enum-told c = search needs
+enum-told c = c .match .keys1
 
 references-after-requires : tie.Need-references-after-requires
-references-after-requires c κs = search needs
+references-after-requires c κs = tt
 
 done-requires : tie.Need-done-requires
-done-requires c κs = search needs
+done-requires c κs = tt
 
 enum-known-call : tie.Need-enum-known-call
-enum-known-call c = search needs
+enum-known-call c = c .match .keys2
 
 refused-requires : tie.Need-refused-requires
-refused-requires c κs = search needs
+refused-requires c κs = tt
 
 returns : tie.Need-returns
 returns c = let r = c .before in let e = r .before in let s = e .before .before in

@@ -1,4 +1,5 @@
 -- `relative::msirp_twilight` meets its contract: by what `make_twilight`, `place_in` and `msirp_at` ensure. Assumes nothing.
+use mathlib.Core.Path.{_∙_}
 use borrow.Author.Needs.{needs}
 use denote.Ref.{now}
 use mir.Facts.{toZ-ofZ}
@@ -7,28 +8,28 @@ use Rattle.relative.proofs.msirp_twilight.Statement.{statement}
 use Rattle.relative.proofs.msirp_twilight.Tie as tie
 
 make-twilight-requires : tie.Need-make-twilight-requires
-make-twilight-requires c κs = search needs
+make-twilight-requires c κs = tt
 
 place-in-requires : tie.Need-place-in-requires
-place-in-requires c κs = search needs
+place-in-requires c κs = tt
 
 msirp-at-requires : tie.Need-msirp-at-requires
 msirp-at-requires c κs = search needs
 
 same-length : tie.Need-same-length
-same-length c = search needs
+same-length c = c .before .before .before .before .before .before .before .before .before .before .before .before .before .before .before .make-twilight .kept .1 .1 .1 .0
 
 same-length-2 : tie.Need-same-length-2
-same-length-2 c = search needs
+same-length-2 c = c .before .before .before .before .before .before .before .before .before .before .before .before .before .before .before .make-twilight .kept .1 .1 .1 .1 .0
 
 same-length-3 : tie.Need-same-length-3
-same-length-3 c = search needs
+same-length-3 c = c .before .before .before .before .msirp-at .kept .1 .1 .1 .1 .1 .0 ∙ c .before .before .before .before .before .before .before .before .before .before .before .before .before .before .before .make-twilight .kept .1 .1 .1 .1 .1 .0
 
 same-length-4 : tie.Need-same-length-4
-same-length-4 c = search needs
+same-length-4 c = c .before .before .before .before .msirp-at .kept .1 .1 .1 .1 .1 .1 .0 ∙ c .before .before .before .before .before .before .before .before .before .before .before .before .before .before .before .make-twilight .kept .1 .1 .1 .1 .1 .1 .0
 
 same-length-5 : tie.Need-same-length-5
-same-length-5 c = search needs
+same-length-5 c = c .before .before .before .before .msirp-at .kept .1 .1 .1 .1 .1 .1 .1 .0
 
 returns : tie.Need-returns
 returns c = let m = c .before .before .before .before in let p = m .before .before .before .before in let k = p .before .before .before .before .before .before .before in let s = k .before .before .before .before .before .before .before .before in

@@ -1,14 +1,13 @@
 -- `relative::pass_over` meets its contract: by whether the state is pedantic. Assumes nothing.
-use borrow.Author.Needs.{needs}
 use Rattle.relative.proofs.Cases.{over-pedantic, over-lenient}
 use Rattle.relative.proofs.pass_over.Statement.{statement}
 use Rattle.relative.proofs.pass_over.Tie as tie
 
 refused-requires : tie.Need-refused-requires
-refused-requires c κs = search needs
+refused-requires c κs = tt
 
 done-requires : tie.Need-done-requires
-done-requires c κs = search needs
+done-requires c κs = tt
 
 returns : tie.Need-returns
 returns c = let i = c .before in let s = i .before .before in

@@ -1,25 +1,24 @@
 -- `relative::reach` meets its contract: by the point's pointer. Assumes nothing.
 use mathlib.Core.Path.{sym, ap, _∙_}
 use Prim.Native.Nat.{ℕ}
-use borrow.Author.Needs.{needs}
 use Rattle.relative.specs.Msirp.{bothThere, reachOf}
 use Rattle.relative.proofs.reach.Statement.{statement}
 use Rattle.relative.proofs.reach.Tie as tie
 
 size-of-requires : tie.Need-size-of-requires
-size-of-requires c κs = search needs
+size-of-requires c κs = tt
 
 enum-told : tie.Need-enum-told
-enum-told c = search needs
+enum-told c = c .match .keys1
 
 both-there-requires : tie.Need-both-there-requires
-both-there-requires c κs = search needs
+both-there-requires c κs = tt
 
 enum-told-2 : tie.Need-enum-told-2
-enum-told-2 c = search needs
+enum-told-2 c = c .match .keys2
 
 both-there-requires-2 : tie.Need-both-there-requires-2
-both-there-requires-2 c κs = search needs
+both-there-requires-2 c κs = tt
 
 returns : tie.Need-returns
 returns c = let e = c .before in let s = e .before .before in let k = s .before .before .before in

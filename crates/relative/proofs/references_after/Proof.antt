@@ -1,20 +1,19 @@
 -- `relative::references_after` meets its contract: by whether the opcode is odd. Assumes nothing.
-use borrow.Author.Needs.{needs}
 use Rattle.relative.proofs.Cases.{after-odd, after-even}
 use Rattle.relative.proofs.references_after.Statement.{statement}
 use Rattle.relative.proofs.references_after.Tie as tie
 
 with-rp1-requires : tie.Need-with-rp1-requires
-with-rp1-requires c κs = search needs
+with-rp1-requires c κs = tt
 
 with-rp2-requires : tie.Need-with-rp2-requires
-with-rp2-requires c κs = search needs
+with-rp2-requires c κs = tt
 
 is-odd-requires : tie.Need-is-odd-requires
-is-odd-requires c κs = search needs
+is-odd-requires c κs = tt
 
 with-rp0-requires : tie.Need-with-rp0-requires
-with-rp0-requires c κs = search needs
+with-rp0-requires c κs = tt
 
 returns : tie.Need-returns
 returns c = let i = c .before in let k = i .before in let w = k .before in let p = w .before in let s = p .before .before in

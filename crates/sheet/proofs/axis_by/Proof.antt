@@ -1,16 +1,15 @@
 -- `sheet::axis_by` meets its contract: by whether the opcode is odd. Assumes nothing.
 use Prim.Native.Nat.{_%_}
-use borrow.Author.Needs.{needs}
 use borrow.Author.Tests.{eq-eqb, ne-eqb}
 use Rattle.sheet.specs.Setters.{axisBy}
 use Rattle.sheet.proofs.axis_by.Statement.{statement}
 use Rattle.sheet.proofs.axis_by.Tie as tie
 
 x-axis-requires : tie.Need-x-axis-requires
-x-axis-requires c κs = search needs
+x-axis-requires c κs = tt
 
 y-axis-requires : tie.Need-y-axis-requires
-y-axis-requires c κs = search needs
+y-axis-requires c κs = tt
 
 returns : tie.Need-returns
 unfolding axisBy

@@ -46,7 +46,7 @@ shared-slice-copy-out-as-index : tie.Need-shared-slice-copy-out-as-index
 shared-slice-copy-out-as-index c = search needs
 
 as-index-requires : tie.Need-as-index-requires
-as-index-requires c κs = search needs
+as-index-requires c κs = tt
 
 returns-2 : tie.Need-returns-2
 returns-2 c = let o = c .before in let s = o .before .before .before in
@@ -76,7 +76,7 @@ shared-slice-copy-out-as-index-2 : tie.Need-shared-slice-copy-out-as-index-2
 shared-slice-copy-out-as-index-2 c = search needs
 
 as-index-requires-2 : tie.Need-as-index-requires-2
-as-index-requires-2 c κs = search needs
+as-index-requires-2 c κs = tt
 
 sub-if5 : tie.Need-sub-if5
 sub-if5 c = search needs
@@ -86,7 +86,7 @@ returns-5 c = let k = c .before in let g = k .before .before in let o = g .befor
     sym (too-long (now (s .args .sheet)) (s .args .loop-counter) (s .args .at) (o .as-index .result) (o .before .before .if1 .left) (op-is o) (g .before .before .before .if2 .left) (known (g .before)) (k .as-index2 .result) (g .if4 .left) (count-is k) (c .if5 .taken))
 
 takes-operands-requires : tie.Need-takes-operands-requires
-takes-operands-requires c κs = search needs
+takes-operands-requires c κs = tt
 
 returns-6 : tie.Need-returns-6
 returns-6 c = let k = c .before .before .before in let g = k .before .before in let o = g .before .before .before .before in let s = o .before .before .before in

@@ -1,6 +1,5 @@
 -- `sheet::set_by_operand` meets its contract: by the opcode it is what the call ensures. Assumes nothing.
 use mathlib.Core.Path.{ap, _∙_}
-use borrow.Author.Needs.{needs}
 use borrow.Author.Tests.{lt-ltb, le-ltb}
 use mir.Facts.{toZ-ofZ}
 use lib.Dec.{eqb}
@@ -13,28 +12,28 @@ use Rattle.sheet.proofs.set_by_operand.Statement.{statement}
 use Rattle.sheet.proofs.set_by_operand.Tie as tie
 
 as-index-requires : tie.Need-as-index-requires
-as-index-requires c κs = search needs
+as-index-requires c κs = tt
 
 set-reference-requires : tie.Need-set-reference-requires
-set-reference-requires c κs = search needs
+set-reference-requires c κs = tt
 
 done-requires : tie.Need-done-requires
-done-requires c κs = search needs
+done-requires c κs = tt
 
 set-zone-requires : tie.Need-set-zone-requires
-set-zone-requires c κs = search needs
+set-zone-requires c κs = tt
 
 set-loop-requires : tie.Need-set-loop-requires
-set-loop-requires c κs = search needs
+set-loop-requires c κs = tt
 
 super-round-requires : tie.Need-super-round-requires
-super-round-requires c κs = search needs
+super-round-requires c κs = tt
 
 with-round-requires : tie.Need-with-round-requires
-with-round-requires c κs = search needs
+with-round-requires c κs = tt
 
 done-requires-2 : tie.Need-done-requires-2
-done-requires-2 c κs = search needs
+done-requires-2 c κs = tt
 
 returns : tie.Need-returns
 unfolding operandBy

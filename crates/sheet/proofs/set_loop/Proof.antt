@@ -1,52 +1,58 @@
 -- `sheet::set_loop` meets its contract: by the operand's sign. Assumes nothing.
-use mathlib.Core.Path.{_≡_, ap, _∙_}
-use mathlib.Core.Bool.{true, false}
+use mathlib.Core.Path.{_≡_, refl, ap, sym, _∙_}
+use mathlib.Core.Bool.{Bool, true, false}
 use Prim.Native.Nat.{ℕ, min}
-use borrow.Author.Needs.{needs}
-use lib.IntN.{natAbs}
+use lib.IntN.{ℤ, natAbs}
 use lib.Signed.{nonNeg}
 use mir.Facts.{toZ-ofZ}
 use Rattle.answer.specs.declared.Refusal.the-variants.{LoopCount}
 use Rattle.graphics.specs.State.{withLoopCounter}
+use Rattle.graphics.specs.declared.GraphicsState.{GraphicsState}
 use Rattle.int.specs.Word.{indexOf}
 use Rattle.line.specs.Line.{doneWith, refusedWith}
+use Rattle.line.specs.declared.Stepped.{Stepped}
 use Rattle.sheet.specs.Setters.{loopBy}
 use Rattle.sheet.proofs.set_loop.Statement.{statement}
 use Rattle.sheet.proofs.set_loop.Tie as tie
 
+-- the outcome by the operand's sign, over plain values
+module _ (s : GraphicsState) (w : ℤ) {w′ : ℤ} {b : Bool} {r : Stepped} (e : w′ ≡ w) (eb : b ≡ nonNeg w′) where
+  counted : {m k : ℕ} {t : GraphicsState} → b ≡ true → m ≡ natAbs w′ → k ≡ min m 65535 → t ≡ withLoopCounter s k → r ≡ doneWith t → r ≡ loopBy s w
+  unfolding loopBy
+  counted h em ek et er = rw (ap nonNeg (sym e) ∙ sym eb ∙ h, er, et, ek, em, e) refl
+
+  refuses : {n : ℕ} → b ≡ false → n ≡ indexOf w′ → r ≡ refusedWith s (LoopCount n) → r ≡ loopBy s w
+  unfolding loopBy
+  refuses h en er = rw (ap nonNeg (sym e) ∙ sym eb ∙ h, er, en, e) refl
+
 non-negative-requires : tie.Need-non-negative-requires
-non-negative-requires c κs = search needs
+non-negative-requires c κs = tt
 
 magnitude-requires : tie.Need-magnitude-requires
-magnitude-requires c κs = search needs
+magnitude-requires c κs = tt
 
 capped-requires : tie.Need-capped-requires
-capped-requires c κs = search needs
+capped-requires c κs = tt
 
 with-loop-counter-requires : tie.Need-with-loop-counter-requires
-with-loop-counter-requires c κs = search needs
+with-loop-counter-requires c κs = tt
 
 done-requires : tie.Need-done-requires
-done-requires c κs = search needs
+done-requires c κs = tt
 
 as-index-requires : tie.Need-as-index-requires
-as-index-requires c κs = search needs
+as-index-requires c κs = tt
 
 refused-requires : tie.Need-refused-requires
-refused-requires c κs = search needs
+refused-requires c κs = tt
 
 returns : tie.Need-returns
-unfolding loopBy
-returns c = let s = c .before .before .before .before .before .before in
-    let t : nonNeg (s .args .word) ≡ true = cc (toZ-ofZ (s .fits .word)) in
-    let e : c .before .before .capped .result ≡ min (natAbs (s .args .word)) 65535 = cc (toZ-ofZ (s .fits .word)) in
-    rw t (c .done .ensures ∙ ap doneWith (c .before .with-loop-counter .ensures ∙ ap (withLoopCounter (s .args .s)) e))
+returns c = let t = c .before in let k = t .before in let m = k .before in let i = m .before in let n = i .before in let s = n .before in
+    counted (s .args .s) (s .args .word) (toZ-ofZ (s .fits .word)) (n .non-negative .ensures) (i .if1 .taken) (m .magnitude .ensures) (k .capped .ensures) (t .with-loop-counter .ensures) (c .done .ensures)
 
 returns-2 : tie.Need-returns-2
-unfolding loopBy
-returns-2 c = let s = c .before .before .before .before in
-    let t : nonNeg (s .args .word) ≡ false = cc (toZ-ofZ (s .fits .word)) in
-    rw t (c .refused .ensures ∙ ap (λ (n : ℕ). refusedWith (s .args .s) (LoopCount n)) (c .before .as-index .ensures ∙ ap indexOf (toZ-ofZ (s .fits .word))))
+returns-2 c = let o = c .before in let i = o .before in let n = i .before in let s = n .before in
+    refuses (s .args .s) (s .args .word) (toZ-ofZ (s .fits .word)) (n .non-negative .ensures) (i .if1 .left) (o .as-index .ensures) (c .refused .ensures)
 
 pub set-loop-spec : {M : Type 1} → statement M
 set-loop-spec =

@@ -1,21 +1,20 @@
 -- `sheet::set_pointer` meets its contract: by the tests that led there. Assumes nothing.
-use borrow.Author.Needs.{needs}
 use borrow.Author.Tests.{eq-eqb, ne-eqb}
 use Rattle.sheet.specs.Setters.{pointerBy}
 use Rattle.sheet.proofs.set_pointer.Statement.{statement}
 use Rattle.sheet.proofs.set_pointer.Tie as tie
 
 with-zp0-requires : tie.Need-with-zp0-requires
-with-zp0-requires c κs = search needs
+with-zp0-requires c κs = tt
 
 with-zp1-requires : tie.Need-with-zp1-requires
-with-zp1-requires c κs = search needs
+with-zp1-requires c κs = tt
 
 with-zp2-requires : tie.Need-with-zp2-requires
-with-zp2-requires c κs = search needs
+with-zp2-requires c κs = tt
 
 with-all-pointers-requires : tie.Need-with-all-pointers-requires
-with-all-pointers-requires c κs = search needs
+with-all-pointers-requires c κs = tt
 
 returns : tie.Need-returns
 unfolding pointerBy

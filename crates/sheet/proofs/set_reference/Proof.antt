@@ -1,18 +1,17 @@
 -- `sheet::set_reference` meets its contract: by the tests that led there. Assumes nothing.
-use borrow.Author.Needs.{needs}
 use borrow.Author.Tests.{eq-eqb, ne-eqb}
 use Rattle.sheet.specs.Setters.{referenceBy}
 use Rattle.sheet.proofs.set_reference.Statement.{statement}
 use Rattle.sheet.proofs.set_reference.Tie as tie
 
 with-rp0-requires : tie.Need-with-rp0-requires
-with-rp0-requires c κs = search needs
+with-rp0-requires c κs = tt
 
 with-rp1-requires : tie.Need-with-rp1-requires
-with-rp1-requires c κs = search needs
+with-rp1-requires c κs = tt
 
 with-rp2-requires : tie.Need-with-rp2-requires
-with-rp2-requires c κs = search needs
+with-rp2-requires c κs = tt
 
 returns : tie.Need-returns
 unfolding referenceBy

@@ -21,10 +21,10 @@ operand-taken : (c : tie.Else2) → takesOperand (c .before .before .before .arg
 operand-taken c = sym (c .before .takes-operand .ensures) ∙ not-false _ (c .if2 .left)
 
 set-vectors-requires : tie.Need-set-vectors-requires
-set-vectors-requires c κs = search needs
+set-vectors-requires c κs = tt
 
 done-requires : tie.Need-done-requires
-done-requires c κs = search needs
+done-requires c κs = tt
 
 returns : tie.Need-returns
 unfolding setBy
@@ -32,16 +32,16 @@ returns c = let s = c .before .before .before in
     rw (lt-ltb (s .args .opcode) 0x06 (c .before .before .if1 .taken)) (c .done .ensures ∙ ap doneWith (c .before .set-vectors .ensures))
 
 takes-operand-requires : tie.Need-takes-operand-requires
-takes-operand-requires c κs = search needs
+takes-operand-requires c κs = tt
 
 mode-by-requires : tie.Need-mode-by-requires
-mode-by-requires c κs = search needs
+mode-by-requires c κs = tt
 
 with-round-mode-requires : tie.Need-with-round-mode-requires
-with-round-mode-requires c κs = search needs
+with-round-mode-requires c κs = tt
 
 done-requires-2 : tie.Need-done-requires-2
-done-requires-2 c κs = search needs
+done-requires-2 c κs = tt
 
 returns-2 : tie.Need-returns-2
 unfolding setBy
@@ -49,7 +49,7 @@ returns-2 c = let s = c .before .before .before .before .before .before in
     rw (le-ltb (s .args .opcode) 0x06 (c .before .before .before .before .before .if1 .left), no-operand-taken (c .before .before .before)) (c .done2 .ensures ∙ ap doneWith (c .before .with-round-mode .ensures ∙ ap (λ (m : RoundMode). withRound (s .args .s) (inMode (s .args .s .round) m)) (c .before .before .mode-by .ensures)))
 
 refused-requires : tie.Need-refused-requires
-refused-requires c κs = search needs
+refused-requires c κs = tt
 
 returns-3 : tie.Need-returns-3
 unfolding setBy
@@ -60,7 +60,7 @@ shared-slice-copy-out-set-by-operand : tie.Need-shared-slice-copy-out-set-by-ope
 shared-slice-copy-out-set-by-operand c = search needs
 
 set-by-operand-requires : tie.Need-set-by-operand-requires
-set-by-operand-requires c κs = search needs
+set-by-operand-requires c κs = tt
 
 returns-4 : tie.Need-returns-4
 unfolding setBy

@@ -1,6 +1,5 @@
 -- `sheet::set_vectors` meets its contract: by the tests that led there. Assumes nothing.
 use mathlib.Core.Path.{ap, _∙_}
-use borrow.Author.Needs.{needs}
 use borrow.Author.Tests.{lt-ltb, le-ltb}
 use Rattle.graphics.specs.State.{allAlong, measuredAlong, movedAlong, withVectors}
 use Rattle.graphics.specs.declared.Vector.{Vector}
@@ -9,16 +8,16 @@ use Rattle.sheet.proofs.set_vectors.Statement.{statement}
 use Rattle.sheet.proofs.set_vectors.Tie as tie
 
 axis-by-requires : tie.Need-axis-by-requires
-axis-by-requires c κs = search needs
+axis-by-requires c κs = tt
 
 with-all-vectors-requires : tie.Need-with-all-vectors-requires
-with-all-vectors-requires c κs = search needs
+with-all-vectors-requires c κs = tt
 
 with-projection-vectors-requires : tie.Need-with-projection-vectors-requires
-with-projection-vectors-requires c κs = search needs
+with-projection-vectors-requires c κs = tt
 
 with-freedom-vector-requires : tie.Need-with-freedom-vector-requires
-with-freedom-vector-requires c κs = search needs
+with-freedom-vector-requires c κs = tt
 
 returns : tie.Need-returns
 unfolding vectorsBy

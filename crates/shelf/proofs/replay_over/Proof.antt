@@ -1,13 +1,12 @@
 -- `shelf::replay_over` meets its contract: each list that is lent is the part of the record that it was loaded from. Assumes nothing.
 use mathlib.Core.Path.{_∙_, ap, ap₂, sym}
-use native.Mathlib.Omega.{arith}
 use denote.Ref.{now}
 use lib.Seq.{length-take-le}
 use Rattle.world.specs.World.{fixed}
 use Rattle.word_lists.specs.Lists.{flagsOf, numbersOf, part}
 use Rattle.record.specs.Format.{held}
 use Rattle.after.specs.After.{shelvedFor}
-use Rattle.shelf.proofs.Cases.{same-world}
+use Rattle.shelf.proofs.Cases.{held-within, read-within, same-world}
 use Rattle.shelf.proofs.replay_over.Statement.{statement}
 use Rattle.shelf.proofs.replay_over.Tie as tie
 
@@ -24,7 +23,7 @@ numbers-at-requires : tie.Need-numbers-at-requires
 numbers-at-requires c κs =
     let wide = c .before .before in
     let args = wide .before .before .before .before in
-    omega (arith, wide .wide .ensures, args .pre .0)
+    read-within (wide .wide .ensures) (args .pre .0)
 
 at-current-y-requires : tie.Need-at-current-y-requires
 at-current-y-requires c κs = tt
@@ -33,7 +32,7 @@ numbers-at-requires-2 : tie.Need-numbers-at-requires-2
 numbers-at-requires-2 c κs =
     let wide = c .before .before .before .before in
     let args = wide .before .before .before .before in
-    omega (arith, wide .wide .ensures, args .pre .0)
+    read-within (wide .wide .ensures) (args .pre .0)
 
 at-flags-requires : tie.Need-at-flags-requires
 at-flags-requires c κs = tt
@@ -42,7 +41,7 @@ flags-at-requires : tie.Need-flags-at-requires
 flags-at-requires c κs =
     let wide = c .before .before .before .before .before .before in
     let args = wide .before .before .before .before in
-    omega (arith, wide .wide .ensures, args .pre .0)
+    read-within (wide .wide .ensures) (args .pre .0)
 
 at-twilight-original-x-requires : tie.Need-at-twilight-original-x-requires
 at-twilight-original-x-requires c κs = tt
@@ -51,7 +50,7 @@ numbers-at-requires-3 : tie.Need-numbers-at-requires-3
 numbers-at-requires-3 c κs =
     let wide2 = c .before .before .before .before .before .before .before in
     let args = wide2 .before .before .before .before .before in
-    omega (arith, wide2 .wide2 .ensures, args .pre .1)
+    read-within (wide2 .wide2 .ensures) (args .pre .1)
 
 at-twilight-original-y-requires : tie.Need-at-twilight-original-y-requires
 at-twilight-original-y-requires c κs = tt
@@ -60,7 +59,7 @@ numbers-at-requires-4 : tie.Need-numbers-at-requires-4
 numbers-at-requires-4 c κs =
     let wide2 = c .before .before .before .before .before .before .before .before .before in
     let args = wide2 .before .before .before .before .before in
-    omega (arith, wide2 .wide2 .ensures, args .pre .1)
+    read-within (wide2 .wide2 .ensures) (args .pre .1)
 
 at-twilight-x-requires : tie.Need-at-twilight-x-requires
 at-twilight-x-requires c κs = tt
@@ -69,7 +68,7 @@ numbers-at-requires-5 : tie.Need-numbers-at-requires-5
 numbers-at-requires-5 c κs =
     let wide2 = c .before .before .before .before .before .before .before .before .before .before .before in
     let args = wide2 .before .before .before .before .before in
-    omega (arith, wide2 .wide2 .ensures, args .pre .1)
+    read-within (wide2 .wide2 .ensures) (args .pre .1)
 
 at-twilight-y-requires : tie.Need-at-twilight-y-requires
 at-twilight-y-requires c κs = tt
@@ -78,7 +77,7 @@ numbers-at-requires-6 : tie.Need-numbers-at-requires-6
 numbers-at-requires-6 c κs =
     let wide2 = c .before .before .before .before .before .before .before .before .before .before .before .before .before in
     let args = wide2 .before .before .before .before .before in
-    omega (arith, wide2 .wide2 .ensures, args .pre .1)
+    read-within (wide2 .wide2 .ensures) (args .pre .1)
 
 at-twilight-flags-requires : tie.Need-at-twilight-flags-requires
 at-twilight-flags-requires c κs = tt
@@ -87,7 +86,7 @@ flags-at-requires-2 : tie.Need-flags-at-requires-2
 flags-at-requires-2 c κs =
     let wide2 = c .before .before .before .before .before .before .before .before .before .before .before .before .before .before .before in
     let args = wide2 .before .before .before .before .before in
-    omega (arith, wide2 .wide2 .ensures, args .pre .1)
+    read-within (wide2 .wide2 .ensures) (args .pre .1)
 
 load-state-requires : tie.Need-load-state-requires
 load-state-requires c κs = tt
@@ -97,112 +96,112 @@ array-borrow-prefix-gx c =
     let numbersat = c .before .before .before .before .before .before .before .before .before .before .before .before .before .before .before in
     let wide = numbersat .before .before .before in
     let args = wide .before .before .before .before in
-    omega (arith, numbersat .numbers-at .ensures .0, wide .wide .ensures, args .pre .0)
+    held-within (numbersat .numbers-at .ensures .0) (wide .wide .ensures) (args .pre .0)
 
 slice-aggregate-run-and-write : tie.Need-slice-aggregate-run-and-write
 slice-aggregate-run-and-write c =
     let numbersat = c .before .before .before .before .before .before .before .before .before .before .before .before .before .before .before .before in
     let wide = numbersat .before .before .before in
     let args = wide .before .before .before .before in
-    sym (length-take-le _ _ (omega (arith, numbersat .numbers-at .ensures .0, wide .wide .ensures, args .pre .0)))
+    sym (length-take-le _ _ (held-within (numbersat .numbers-at .ensures .0) (wide .wide .ensures) (args .pre .0)))
 
 array-borrow-prefix-gy : tie.Need-array-borrow-prefix-gy
 array-borrow-prefix-gy c =
     let numbersat2 = c .before .before .before .before .before .before .before .before .before .before .before .before .before .before in
     let wide = numbersat2 .before .before .before .before .before in
     let args = wide .before .before .before .before in
-    omega (arith, numbersat2 .numbers-at2 .ensures .0, wide .wide .ensures, args .pre .0)
+    held-within (numbersat2 .numbers-at2 .ensures .0) (wide .wide .ensures) (args .pre .0)
 
 slice-aggregate-run-and-write-2 : tie.Need-slice-aggregate-run-and-write-2
 slice-aggregate-run-and-write-2 c =
     let numbersat2 = c .before .before .before .before .before .before .before .before .before .before .before .before .before .before .before in
     let wide = numbersat2 .before .before .before .before .before in
     let args = wide .before .before .before .before in
-    sym (length-take-le _ _ (omega (arith, numbersat2 .numbers-at2 .ensures .0, wide .wide .ensures, args .pre .0)))
+    sym (length-take-le _ _ (held-within (numbersat2 .numbers-at2 .ensures .0) (wide .wide .ensures) (args .pre .0)))
 
 array-borrow-prefix-gflags : tie.Need-array-borrow-prefix-gflags
 array-borrow-prefix-gflags c =
     let flagsat = c .before .before .before .before .before .before .before .before .before .before .before .before .before in
     let wide = flagsat .before .before .before .before .before .before .before in
     let args = wide .before .before .before .before in
-    omega (arith, flagsat .flags-at .ensures .0, wide .wide .ensures, args .pre .0)
+    held-within (flagsat .flags-at .ensures .0) (wide .wide .ensures) (args .pre .0)
 
 slice-aggregate-run-and-write-3 : tie.Need-slice-aggregate-run-and-write-3
 slice-aggregate-run-and-write-3 c =
     let flagsat = c .before .before .before .before .before .before .before .before .before .before .before .before .before .before in
     let wide = flagsat .before .before .before .before .before .before .before in
     let args = wide .before .before .before .before in
-    sym (length-take-le _ _ (omega (arith, flagsat .flags-at .ensures .0, wide .wide .ensures, args .pre .0)))
+    sym (length-take-le _ _ (held-within (flagsat .flags-at .ensures .0) (wide .wide .ensures) (args .pre .0)))
 
 array-borrow-prefix-tox : tie.Need-array-borrow-prefix-tox
 array-borrow-prefix-tox c =
     let numbersat3 = c .before .before .before .before .before .before .before .before .before .before .before .before in
     let wide2 = numbersat3 .before .before .before .before .before .before .before .before in
     let args = wide2 .before .before .before .before .before in
-    omega (arith, numbersat3 .numbers-at3 .ensures .0, wide2 .wide2 .ensures, args .pre .1)
+    held-within (numbersat3 .numbers-at3 .ensures .0) (wide2 .wide2 .ensures) (args .pre .1)
 
 slice-aggregate-run-and-write-4 : tie.Need-slice-aggregate-run-and-write-4
 slice-aggregate-run-and-write-4 c =
     let numbersat3 = c .before .before .before .before .before .before .before .before .before .before .before .before .before in
     let wide2 = numbersat3 .before .before .before .before .before .before .before .before in
     let args = wide2 .before .before .before .before .before in
-    sym (length-take-le _ _ (omega (arith, numbersat3 .numbers-at3 .ensures .0, wide2 .wide2 .ensures, args .pre .1)))
+    sym (length-take-le _ _ (held-within (numbersat3 .numbers-at3 .ensures .0) (wide2 .wide2 .ensures) (args .pre .1)))
 
 array-borrow-prefix-toy : tie.Need-array-borrow-prefix-toy
 array-borrow-prefix-toy c =
     let numbersat4 = c .before .before .before .before .before .before .before .before .before .before .before in
     let wide2 = numbersat4 .before .before .before .before .before .before .before .before .before .before in
     let args = wide2 .before .before .before .before .before in
-    omega (arith, numbersat4 .numbers-at4 .ensures .0, wide2 .wide2 .ensures, args .pre .1)
+    held-within (numbersat4 .numbers-at4 .ensures .0) (wide2 .wide2 .ensures) (args .pre .1)
 
 slice-aggregate-run-and-write-5 : tie.Need-slice-aggregate-run-and-write-5
 slice-aggregate-run-and-write-5 c =
     let numbersat4 = c .before .before .before .before .before .before .before .before .before .before .before .before in
     let wide2 = numbersat4 .before .before .before .before .before .before .before .before .before .before in
     let args = wide2 .before .before .before .before .before in
-    sym (length-take-le _ _ (omega (arith, numbersat4 .numbers-at4 .ensures .0, wide2 .wide2 .ensures, args .pre .1)))
+    sym (length-take-le _ _ (held-within (numbersat4 .numbers-at4 .ensures .0) (wide2 .wide2 .ensures) (args .pre .1)))
 
 array-borrow-prefix-tx : tie.Need-array-borrow-prefix-tx
 array-borrow-prefix-tx c =
     let numbersat5 = c .before .before .before .before .before .before .before .before .before .before in
     let wide2 = numbersat5 .before .before .before .before .before .before .before .before .before .before .before .before in
     let args = wide2 .before .before .before .before .before in
-    omega (arith, numbersat5 .numbers-at5 .ensures .0, wide2 .wide2 .ensures, args .pre .1)
+    held-within (numbersat5 .numbers-at5 .ensures .0) (wide2 .wide2 .ensures) (args .pre .1)
 
 slice-aggregate-run-and-write-6 : tie.Need-slice-aggregate-run-and-write-6
 slice-aggregate-run-and-write-6 c =
     let numbersat5 = c .before .before .before .before .before .before .before .before .before .before .before in
     let wide2 = numbersat5 .before .before .before .before .before .before .before .before .before .before .before .before in
     let args = wide2 .before .before .before .before .before in
-    sym (length-take-le _ _ (omega (arith, numbersat5 .numbers-at5 .ensures .0, wide2 .wide2 .ensures, args .pre .1)))
+    sym (length-take-le _ _ (held-within (numbersat5 .numbers-at5 .ensures .0) (wide2 .wide2 .ensures) (args .pre .1)))
 
 array-borrow-prefix-ty : tie.Need-array-borrow-prefix-ty
 array-borrow-prefix-ty c =
     let numbersat6 = c .before .before .before .before .before .before .before .before .before in
     let wide2 = numbersat6 .before .before .before .before .before .before .before .before .before .before .before .before .before .before in
     let args = wide2 .before .before .before .before .before in
-    omega (arith, numbersat6 .numbers-at6 .ensures .0, wide2 .wide2 .ensures, args .pre .1)
+    held-within (numbersat6 .numbers-at6 .ensures .0) (wide2 .wide2 .ensures) (args .pre .1)
 
 slice-aggregate-run-and-write-7 : tie.Need-slice-aggregate-run-and-write-7
 slice-aggregate-run-and-write-7 c =
     let numbersat6 = c .before .before .before .before .before .before .before .before .before .before in
     let wide2 = numbersat6 .before .before .before .before .before .before .before .before .before .before .before .before .before .before in
     let args = wide2 .before .before .before .before .before in
-    sym (length-take-le _ _ (omega (arith, numbersat6 .numbers-at6 .ensures .0, wide2 .wide2 .ensures, args .pre .1)))
+    sym (length-take-le _ _ (held-within (numbersat6 .numbers-at6 .ensures .0) (wide2 .wide2 .ensures) (args .pre .1)))
 
 array-borrow-prefix-tflags : tie.Need-array-borrow-prefix-tflags
 array-borrow-prefix-tflags c =
     let flagsat2 = c .before .before .before .before .before .before .before .before in
     let wide2 = flagsat2 .before .before .before .before .before .before .before .before .before .before .before .before .before .before .before .before in
     let args = wide2 .before .before .before .before .before in
-    omega (arith, flagsat2 .flags-at2 .ensures .0, wide2 .wide2 .ensures, args .pre .1)
+    held-within (flagsat2 .flags-at2 .ensures .0) (wide2 .wide2 .ensures) (args .pre .1)
 
 slice-aggregate-run-and-write-8 : tie.Need-slice-aggregate-run-and-write-8
 slice-aggregate-run-and-write-8 c =
     let flagsat2 = c .before .before .before .before .before .before .before .before .before in
     let wide2 = flagsat2 .before .before .before .before .before .before .before .before .before .before .before .before .before .before .before .before in
     let args = wide2 .before .before .before .before .before in
-    sym (length-take-le _ _ (omega (arith, flagsat2 .flags-at2 .ensures .0, wide2 .wide2 .ensures, args .pre .1)))
+    sym (length-take-le _ _ (held-within (flagsat2 .flags-at2 .ensures .0) (wide2 .wide2 .ensures) (args .pre .1)))
 
 run-and-write-requires : tie.Need-run-and-write-requires
 run-and-write-requires c κs = tt

@@ -1,11 +1,10 @@
 -- `shelf::replay_whole` meets its contract: each list that is lent is the part of the record that it was loaded from. Assumes nothing.
 use mathlib.Core.Path.{_∙_, ap₂, refl, sym}
-use native.Mathlib.Omega.{arith}
 use denote.Ref.{now}
 use lib.Seq.{length-take-le}
 use Rattle.word_lists.specs.Lists.{endsOf, numbersOf, part}
 use Rattle.record.specs.Read.{worldIn}
-use Rattle.shelf.proofs.Cases.{same-fixed, whole-held}
+use Rattle.shelf.proofs.Cases.{held-within, read-within, same-fixed, whole-held}
 use Rattle.shelf.proofs.replay_whole.Statement.{statement}
 use Rattle.shelf.proofs.replay_whole.Tie as tie
 
@@ -28,7 +27,7 @@ numbers-at-requires : tie.Need-numbers-at-requires
 numbers-at-requires c κs =
     let wide = c .before .before .before .before in
     let args = wide .before .before .before in
-    omega (arith, wide .wide .ensures, args .pre .1 .1 .1 .1)
+    read-within (wide .wide .ensures) (args .pre .1 .1 .1 .1)
 
 at-controls-requires : tie.Need-at-controls-requires
 at-controls-requires c κs = tt
@@ -37,7 +36,7 @@ numbers-at-requires-2 : tie.Need-numbers-at-requires-2
 numbers-at-requires-2 c κs =
     let wide2 = c .before .before .before .before .before in
     let args = wide2 .before .before .before .before in
-    omega (arith, wide2 .wide2 .ensures, args .pre .1 .1 .1 .0)
+    read-within (wide2 .wide2 .ensures) (args .pre .1 .1 .1 .0)
 
 at-unscaled-x-requires : tie.Need-at-unscaled-x-requires
 at-unscaled-x-requires c κs = tt
@@ -46,7 +45,7 @@ numbers-at-requires-3 : tie.Need-numbers-at-requires-3
 numbers-at-requires-3 c κs =
     let wide3 = c .before .before .before .before .before .before in
     let args = wide3 .before .before .before .before .before in
-    omega (arith, wide3 .wide3 .ensures, args .pre .0)
+    read-within (wide3 .wide3 .ensures) (args .pre .0)
 
 at-unscaled-y-requires : tie.Need-at-unscaled-y-requires
 at-unscaled-y-requires c κs = tt
@@ -55,7 +54,7 @@ numbers-at-requires-4 : tie.Need-numbers-at-requires-4
 numbers-at-requires-4 c κs =
     let wide3 = c .before .before .before .before .before .before .before .before in
     let args = wide3 .before .before .before .before .before in
-    omega (arith, wide3 .wide3 .ensures, args .pre .0)
+    read-within (wide3 .wide3 .ensures) (args .pre .0)
 
 at-original-x-requires : tie.Need-at-original-x-requires
 at-original-x-requires c κs = tt
@@ -64,7 +63,7 @@ numbers-at-requires-5 : tie.Need-numbers-at-requires-5
 numbers-at-requires-5 c κs =
     let wide3 = c .before .before .before .before .before .before .before .before .before .before in
     let args = wide3 .before .before .before .before .before in
-    omega (arith, wide3 .wide3 .ensures, args .pre .0)
+    read-within (wide3 .wide3 .ensures) (args .pre .0)
 
 at-original-y-requires : tie.Need-at-original-y-requires
 at-original-y-requires c κs = tt
@@ -73,7 +72,7 @@ numbers-at-requires-6 : tie.Need-numbers-at-requires-6
 numbers-at-requires-6 c κs =
     let wide3 = c .before .before .before .before .before .before .before .before .before .before .before .before in
     let args = wide3 .before .before .before .before .before in
-    omega (arith, wide3 .wide3 .ensures, args .pre .0)
+    read-within (wide3 .wide3 .ensures) (args .pre .0)
 
 at-ends-requires : tie.Need-at-ends-requires
 at-ends-requires c κs = tt
@@ -82,105 +81,105 @@ ends-at-requires : tie.Need-ends-at-requires
 ends-at-requires c κs =
     let wide4 = c .before .before .before .before .before .before .before .before .before .before .before .before .before in
     let args = wide4 .before .before .before .before .before .before in
-    omega (arith, wide4 .wide4 .ensures, args .pre .1 .0)
+    read-within (wide4 .wide4 .ensures) (args .pre .1 .0)
 
 array-share-prefix-sheet : tie.Need-array-share-prefix-sheet
 array-share-prefix-sheet c =
     let numbersat = c .before .before .before .before .before .before .before .before .before .before .before .before in
     let wide = numbersat .before .before .before .before .before in
     let args = wide .before .before .before in
-    omega (arith, numbersat .numbers-at .ensures .0, wide .wide .ensures, args .pre .1 .1 .1 .1)
+    held-within (numbersat .numbers-at .ensures .0) (wide .wide .ensures) (args .pre .1 .1 .1 .1)
 
 slice-aggregate-replay-over : tie.Need-slice-aggregate-replay-over
 slice-aggregate-replay-over c =
     let numbersat = c .before .before .before .before .before .before .before .before .before .before .before .before .before in
     let wide = numbersat .before .before .before .before .before in
     let args = wide .before .before .before in
-    sym (length-take-le _ _ (omega (arith, numbersat .numbers-at .ensures .0, wide .wide .ensures, args .pre .1 .1 .1 .1)))
+    sym (length-take-le _ _ (held-within (numbersat .numbers-at .ensures .0) (wide .wide .ensures) (args .pre .1 .1 .1 .1)))
 
 array-share-prefix-controls : tie.Need-array-share-prefix-controls
 array-share-prefix-controls c =
     let numbersat2 = c .before .before .before .before .before .before .before .before .before .before .before in
     let wide2 = numbersat2 .before .before .before .before .before .before in
     let args = wide2 .before .before .before .before in
-    omega (arith, numbersat2 .numbers-at2 .ensures .0, wide2 .wide2 .ensures, args .pre .1 .1 .1 .0)
+    held-within (numbersat2 .numbers-at2 .ensures .0) (wide2 .wide2 .ensures) (args .pre .1 .1 .1 .0)
 
 slice-aggregate-replay-over-2 : tie.Need-slice-aggregate-replay-over-2
 slice-aggregate-replay-over-2 c =
     let numbersat2 = c .before .before .before .before .before .before .before .before .before .before .before .before in
     let wide2 = numbersat2 .before .before .before .before .before .before in
     let args = wide2 .before .before .before .before in
-    sym (length-take-le _ _ (omega (arith, numbersat2 .numbers-at2 .ensures .0, wide2 .wide2 .ensures, args .pre .1 .1 .1 .0)))
+    sym (length-take-le _ _ (held-within (numbersat2 .numbers-at2 .ensures .0) (wide2 .wide2 .ensures) (args .pre .1 .1 .1 .0)))
 
 array-share-prefix-gux : tie.Need-array-share-prefix-gux
 array-share-prefix-gux c =
     let numbersat3 = c .before .before .before .before .before .before .before .before .before .before in
     let wide3 = numbersat3 .before .before .before .before .before .before .before in
     let args = wide3 .before .before .before .before .before in
-    omega (arith, numbersat3 .numbers-at3 .ensures .0, wide3 .wide3 .ensures, args .pre .0)
+    held-within (numbersat3 .numbers-at3 .ensures .0) (wide3 .wide3 .ensures) (args .pre .0)
 
 slice-aggregate-replay-over-3 : tie.Need-slice-aggregate-replay-over-3
 slice-aggregate-replay-over-3 c =
     let numbersat3 = c .before .before .before .before .before .before .before .before .before .before .before in
     let wide3 = numbersat3 .before .before .before .before .before .before .before in
     let args = wide3 .before .before .before .before .before in
-    sym (length-take-le _ _ (omega (arith, numbersat3 .numbers-at3 .ensures .0, wide3 .wide3 .ensures, args .pre .0)))
+    sym (length-take-le _ _ (held-within (numbersat3 .numbers-at3 .ensures .0) (wide3 .wide3 .ensures) (args .pre .0)))
 
 array-share-prefix-guy : tie.Need-array-share-prefix-guy
 array-share-prefix-guy c =
     let numbersat4 = c .before .before .before .before .before .before .before .before .before in
     let wide3 = numbersat4 .before .before .before .before .before .before .before .before .before in
     let args = wide3 .before .before .before .before .before in
-    omega (arith, numbersat4 .numbers-at4 .ensures .0, wide3 .wide3 .ensures, args .pre .0)
+    held-within (numbersat4 .numbers-at4 .ensures .0) (wide3 .wide3 .ensures) (args .pre .0)
 
 slice-aggregate-replay-over-4 : tie.Need-slice-aggregate-replay-over-4
 slice-aggregate-replay-over-4 c =
     let numbersat4 = c .before .before .before .before .before .before .before .before .before .before in
     let wide3 = numbersat4 .before .before .before .before .before .before .before .before .before in
     let args = wide3 .before .before .before .before .before in
-    sym (length-take-le _ _ (omega (arith, numbersat4 .numbers-at4 .ensures .0, wide3 .wide3 .ensures, args .pre .0)))
+    sym (length-take-le _ _ (held-within (numbersat4 .numbers-at4 .ensures .0) (wide3 .wide3 .ensures) (args .pre .0)))
 
 array-share-prefix-gox : tie.Need-array-share-prefix-gox
 array-share-prefix-gox c =
     let numbersat5 = c .before .before .before .before .before .before .before .before in
     let wide3 = numbersat5 .before .before .before .before .before .before .before .before .before .before .before in
     let args = wide3 .before .before .before .before .before in
-    omega (arith, numbersat5 .numbers-at5 .ensures .0, wide3 .wide3 .ensures, args .pre .0)
+    held-within (numbersat5 .numbers-at5 .ensures .0) (wide3 .wide3 .ensures) (args .pre .0)
 
 slice-aggregate-replay-over-5 : tie.Need-slice-aggregate-replay-over-5
 slice-aggregate-replay-over-5 c =
     let numbersat5 = c .before .before .before .before .before .before .before .before .before in
     let wide3 = numbersat5 .before .before .before .before .before .before .before .before .before .before .before in
     let args = wide3 .before .before .before .before .before in
-    sym (length-take-le _ _ (omega (arith, numbersat5 .numbers-at5 .ensures .0, wide3 .wide3 .ensures, args .pre .0)))
+    sym (length-take-le _ _ (held-within (numbersat5 .numbers-at5 .ensures .0) (wide3 .wide3 .ensures) (args .pre .0)))
 
 array-share-prefix-goy : tie.Need-array-share-prefix-goy
 array-share-prefix-goy c =
     let numbersat6 = c .before .before .before .before .before .before .before in
     let wide3 = numbersat6 .before .before .before .before .before .before .before .before .before .before .before .before .before in
     let args = wide3 .before .before .before .before .before in
-    omega (arith, numbersat6 .numbers-at6 .ensures .0, wide3 .wide3 .ensures, args .pre .0)
+    held-within (numbersat6 .numbers-at6 .ensures .0) (wide3 .wide3 .ensures) (args .pre .0)
 
 slice-aggregate-replay-over-6 : tie.Need-slice-aggregate-replay-over-6
 slice-aggregate-replay-over-6 c =
     let numbersat6 = c .before .before .before .before .before .before .before .before in
     let wide3 = numbersat6 .before .before .before .before .before .before .before .before .before .before .before .before .before in
     let args = wide3 .before .before .before .before .before in
-    sym (length-take-le _ _ (omega (arith, numbersat6 .numbers-at6 .ensures .0, wide3 .wide3 .ensures, args .pre .0)))
+    sym (length-take-le _ _ (held-within (numbersat6 .numbers-at6 .ensures .0) (wide3 .wide3 .ensures) (args .pre .0)))
 
 array-share-prefix-contours : tie.Need-array-share-prefix-contours
 array-share-prefix-contours c =
     let endsat = c .before .before .before .before .before .before in
     let wide4 = endsat .before .before .before .before .before .before .before .before .before .before .before .before .before .before in
     let args = wide4 .before .before .before .before .before .before in
-    omega (arith, endsat .ends-at .ensures .0, wide4 .wide4 .ensures, args .pre .1 .0)
+    held-within (endsat .ends-at .ensures .0) (wide4 .wide4 .ensures) (args .pre .1 .0)
 
 slice-aggregate-replay-over-7 : tie.Need-slice-aggregate-replay-over-7
 slice-aggregate-replay-over-7 c =
     let endsat = c .before .before .before .before .before .before .before in
     let wide4 = endsat .before .before .before .before .before .before .before .before .before .before .before .before .before .before in
     let args = wide4 .before .before .before .before .before .before in
-    sym (length-take-le _ _ (omega (arith, endsat .ends-at .ensures .0, wide4 .wide4 .ensures, args .pre .1 .0)))
+    sym (length-take-le _ _ (held-within (endsat .ends-at .ensures .0) (wide4 .wide4 .ensures) (args .pre .1 .0)))
 
 replay-over-requires : tie.Need-replay-over-requires
 replay-over-requires c κs =

@@ -1,17 +1,16 @@
 -- `shifts::no_contour` meets its contract: by whether the engine is pedantic. Assumes nothing.
 use mathlib.Core.Path.{sym, ap, _∙_}
 use mathlib.Core.Bool.{Bool, cond}
-use borrow.Author.Needs.{needs}
 use Rattle.answer.specs.declared.Refusal.the-variants.{Contour}
 use Rattle.line.specs.Line.{doneWith, refusedWith}
 use Rattle.shifts.proofs.no_contour.Statement.{statement}
 use Rattle.shifts.proofs.no_contour.Tie as tie
 
 refused-requires : tie.Need-refused-requires
-refused-requires c κs = search needs
+refused-requires c κs = tt
 
 done-requires : tie.Need-done-requires
-done-requires c κs = search needs
+done-requires c κs = tt
 
 returns : tie.Need-returns
 returns c = let a = c .before .before .before .args in

@@ -10,7 +10,7 @@ sub-end-or-0 : tie.Need-sub-end-or-0
 sub-end-or-0 c = search needs
 
 end-or-0-requires : tie.Need-end-or-0-requires
-end-or-0-requires c κs = search needs
+end-or-0-requires c κs = tt
 
 cast-result : tie.Need-cast-result
 cast-result c = search needs

@@ -10,7 +10,7 @@ use Rattle.shifts.proofs.shc.Statement.{statement}
 use Rattle.shifts.proofs.shc.Tie as tie
 
 refused-requires : tie.Need-refused-requires
-refused-requires c κs = search needs
+refused-requires c κs = tt
 
 returns : tie.Need-returns
 returns c = let i = c .before in let a = i .before .before .before .before .before .args in
@@ -18,13 +18,13 @@ returns c = let i = c .before in let a = i .before .before .before .before .befo
     ∙ shc-missing (a .s) (a .opcode) (now (a .operands)) (now (a .contours)) (now (a .gox)) (now (a .goy)) (now (a .tox)) (now (a .toy)) (zones (now (a .gx)) (now (a .gy)) (now (a .gflags)) (now (a .tx)) (now (a .ty)) (now (a .tflags))) (i .if1 .taken)
 
 index-at-requires : tie.Need-index-at-requires
-index-at-requires c κs = search needs
+index-at-requires c κs = tt
 
 size-of-requires : tie.Need-size-of-requires
-size-of-requires c κs = search needs
+size-of-requires c κs = tt
 
 no-contour-requires : tie.Need-no-contour-requires
-no-contour-requires c κs = search needs
+no-contour-requires c κs = tt
 
 returns-2 : tie.Need-returns-2
 returns-2 c = let j = c .before in let n = j .before in let x = n .before in let i = x .before in let a = i .before .before .before .before .before .args in
@@ -32,37 +32,37 @@ returns-2 c = let j = c .before in let n = j .before in let x = n .before in let
     ∙ no-such-contour (a .s) (a .opcode) (now (a .operands)) (now (a .contours)) (now (a .gox)) (now (a .goy)) (now (a .tox)) (now (a .toy)) (zones (now (a .gx)) (now (a .gy)) (now (a .gflags)) (now (a .tx)) (now (a .ty)) (now (a .tflags))) (i .if1 .left) (x .index-at .ensures) (n .size-of .ensures) (j .if2 .taken)
 
 point-after-requires : tie.Need-point-after-requires
-point-after-requires c κs = search needs
+point-after-requires c κs = tt
 
 add-point-after : tie.Need-add-point-after
 add-point-after c = search needs
 
 point-after-requires-2 : tie.Need-point-after-requires-2
-point-after-requires-2 c κs = search needs
+point-after-requires-2 c κs = tt
 
 size-of-requires-2 : tie.Need-size-of-requires-2
-size-of-requires-2 c κs = search needs
+size-of-requires-2 c κs = tt
 
 shift-span-of-requires : tie.Need-shift-span-of-requires
 shift-span-of-requires c κs = search needs
 
 same-length : tie.Need-same-length
-same-length c = search needs
+same-length c = c .before .before .before .before .before .before .before .before .shift-span-of .kept .1 .1 .1 .1 .1 .1 .1 .1 .1 .0
 
 same-length-2 : tie.Need-same-length-2
-same-length-2 c = search needs
+same-length-2 c = c .before .before .before .before .before .before .before .before .shift-span-of .kept .1 .1 .1 .1 .1 .1 .1 .1 .1 .1 .0
 
 same-length-3 : tie.Need-same-length-3
-same-length-3 c = search needs
+same-length-3 c = c .before .before .before .before .before .before .before .before .shift-span-of .kept .1 .1 .1 .1 .1 .1 .1 .1 .1 .1 .1 .0
 
 same-length-4 : tie.Need-same-length-4
-same-length-4 c = search needs
+same-length-4 c = c .before .before .before .before .before .before .before .before .shift-span-of .kept .1 .1 .1 .1 .1 .1 .1 .1 .1 .1 .1 .1 .0
 
 same-length-5 : tie.Need-same-length-5
-same-length-5 c = search needs
+same-length-5 c = c .before .before .before .before .before .before .before .before .shift-span-of .kept .1 .1 .1 .1 .1 .1 .1 .1 .1 .1 .1 .1 .1 .0
 
 same-length-6 : tie.Need-same-length-6
-same-length-6 c = search needs
+same-length-6 c = c .before .before .before .before .before .before .before .before .shift-span-of .kept .1 .1 .1 .1 .1 .1 .1 .1 .1 .1 .1 .1 .1 .1 .0
 
 returns-3 : tie.Need-returns-3
 returns-3 c = let t = c .before .before .before .before .before .before .before .before in let e = t .before .before .before .before .before .before .before in let q = e .before in let p = q .before in let j = p .before in let n = j .before in let x = n .before in let i = x .before in let a = i .before .before .before .before .before .args in

@@ -10,7 +10,7 @@ use Rattle.shifts.proofs.shz.Statement.{statement}
 use Rattle.shifts.proofs.shz.Tie as tie
 
 refused-requires : tie.Need-refused-requires
-refused-requires c κs = search needs
+refused-requires c κs = tt
 
 returns : tie.Need-returns
 returns c = let i = c .before in let a = i .before .before .before .before .before .args in
@@ -18,10 +18,10 @@ returns c = let i = c .before in let a = i .before .before .before .before .befo
     ∙ shz-missing (a .s) (a .opcode) (now (a .operands)) (now (a .contours)) (now (a .gox)) (now (a .goy)) (now (a .tox)) (now (a .toy)) (zones (now (a .gx)) (now (a .gy)) (now (a .gflags)) (now (a .tx)) (now (a .ty)) (now (a .tflags))) (i .if1 .taken)
 
 index-at-requires : tie.Need-index-at-requires
-index-at-requires c κs = search needs
+index-at-requires c κs = tt
 
 refused-requires-2 : tie.Need-refused-requires-2
-refused-requires-2 c κs = search needs
+refused-requires-2 c κs = tt
 
 returns-2 : tie.Need-returns-2
 returns-2 c = let j = c .before in let x = j .before in let i = x .before in let a = i .before .before .before .before .before .args in
@@ -29,31 +29,31 @@ returns-2 c = let j = c .before in let x = j .before in let i = x .before in let
     ∙ no-such-zone (a .s) (a .opcode) (now (a .operands)) (now (a .contours)) (now (a .gox)) (now (a .goy)) (now (a .tox)) (now (a .toy)) (zones (now (a .gx)) (now (a .gy)) (now (a .gflags)) (now (a .tx)) (now (a .ty)) (now (a .tflags))) (i .if1 .left) (x .index-at .ensures) (j .if2 .taken)
 
 point-after-requires : tie.Need-point-after-requires
-point-after-requires c κs = search needs
+point-after-requires c κs = tt
 
 size-of-requires : tie.Need-size-of-requires
-size-of-requires c κs = search needs
+size-of-requires c κs = tt
 
 shift-span-of-requires : tie.Need-shift-span-of-requires
 shift-span-of-requires c κs = search needs
 
 same-length : tie.Need-same-length
-same-length c = search needs
+same-length c = c .before .before .before .before .before .before .before .before .shift-span-of .kept .1 .1 .1 .1 .1 .1 .1 .1 .1 .0
 
 same-length-2 : tie.Need-same-length-2
-same-length-2 c = search needs
+same-length-2 c = c .before .before .before .before .before .before .before .before .shift-span-of .kept .1 .1 .1 .1 .1 .1 .1 .1 .1 .1 .0
 
 same-length-3 : tie.Need-same-length-3
-same-length-3 c = search needs
+same-length-3 c = c .before .before .before .before .before .before .before .before .shift-span-of .kept .1 .1 .1 .1 .1 .1 .1 .1 .1 .1 .1 .0
 
 same-length-4 : tie.Need-same-length-4
-same-length-4 c = search needs
+same-length-4 c = c .before .before .before .before .before .before .before .before .shift-span-of .kept .1 .1 .1 .1 .1 .1 .1 .1 .1 .1 .1 .1 .0
 
 same-length-5 : tie.Need-same-length-5
-same-length-5 c = search needs
+same-length-5 c = c .before .before .before .before .before .before .before .before .shift-span-of .kept .1 .1 .1 .1 .1 .1 .1 .1 .1 .1 .1 .1 .1 .0
 
 same-length-6 : tie.Need-same-length-6
-same-length-6 c = search needs
+same-length-6 c = c .before .before .before .before .before .before .before .before .shift-span-of .kept .1 .1 .1 .1 .1 .1 .1 .1 .1 .1 .1 .1 .1 .1 .0
 
 returns-3 : tie.Need-returns-3
 returns-3 c = let t = c .before .before .before .before .before .before .before .before in let e = t .before .before .before .before .before .before .before in let p = e .before in let j = p .before in let x = j .before in let i = x .before in let a = i .before .before .before .before .before .args in

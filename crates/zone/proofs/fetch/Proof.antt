@@ -1,10 +1,11 @@
 -- `zone::fetch` meets its contract: by the test of the index; each coordinate is read back as it was. Assumes nothing.
+use mathlib.Core.Path.{refl}
 use borrow.Author.Needs.{needs}
 use lib.IntN.{pos}
 use lib.ListN.{getD}
 use denote.Ref.{now}
 use Rattle.int.proofs.Words.{back32}
-use Rattle.zone.proofs.Cases.{fetched, not-fetched}
+use Rattle.zone.proofs.Cases.{fetched, not-fetched, read-as}
 use Rattle.zone.proofs.fetch.Statement.{statement}
 use Rattle.zone.proofs.fetch.Tie as tie
 
@@ -22,7 +23,7 @@ shared-slice-copy-out-t13 c = search needs
 
 returns : tie.Need-returns
 returns c = let a = c .before .before .before .args in
-    fetched (now (a .xs)) (now (a .ys)) (a .at) (c .before .before .if1 .taken) (cc (back32 (getD (now (a .xs)) (a .at) (pos 0)) (c .before .t10 .given), back32 (getD (now (a .ys)) (a .at) (pos 0)) (c .t13 .given)))
+    fetched (now (a .xs)) (now (a .ys)) (a .at) (c .before .before .if1 .taken) (read-as (back32 (getD (now (a .xs)) (a .at) (pos 0)) (c .before .t10 .given)) refl (back32 (getD (now (a .ys)) (a .at) (pos 0)) (c .t13 .given)) refl)
 
 returns-2 : tie.Need-returns-2
 returns-2 c = let a = c .before .args in not-fetched (now (a .xs)) (now (a .ys)) (a .at) (c .if1 .left)

@@ -1,11 +1,10 @@
 -- `zone::flags_fit` meets its contract: it is the test of the limit. Assumes nothing.
-use borrow.Author.Needs.{needs}
 use Rattle.zone.specs.Sizes.{flagsFit}
 use Rattle.zone.proofs.flags_fit.Statement.{statement}
 use Rattle.zone.proofs.flags_fit.Tie as tie
 
 points-fit-requires : tie.Need-points-fit-requires
-points-fit-requires c κs = search needs
+points-fit-requires c κs = tt
 
 returns : tie.Need-returns
 unfolding flagsFit

@@ -16,7 +16,7 @@ slice-read-flipped : tie.Need-slice-read-flipped
 slice-read-flipped c = search needs
 
 flipped-requires : tie.Need-flipped-requires
-flipped-requires c κs = search needs
+flipped-requires c κs = tt
 
 slice-write-flags : tie.Need-slice-write-flags
 slice-write-flags c = search needs

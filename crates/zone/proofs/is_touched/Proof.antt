@@ -12,10 +12,10 @@ shared-slice-read-has-any : tie.Need-shared-slice-read-has-any
 shared-slice-read-has-any c = search needs
 
 touch-bits-requires : tie.Need-touch-bits-requires
-touch-bits-requires c κs = search needs
+touch-bits-requires c κs = tt
 
 has-any-requires : tie.Need-has-any-requires
-has-any-requires c κs = search needs
+has-any-requires c κs = tt
 
 returns : tie.Need-returns
 returns c = let t = c .before in let a = t .before .before .before .before .args in

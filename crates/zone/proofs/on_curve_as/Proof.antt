@@ -1,15 +1,14 @@
 -- `zone::on_curve_as` meets its contract: by `on`. Assumes nothing.
 use mathlib.Core.Path.{_≡_}
 use mathlib.Core.Bool.{true, false}
-use borrow.Author.Needs.{needs}
 use Rattle.zone.proofs.on_curve_as.Statement.{statement}
 use Rattle.zone.proofs.on_curve_as.Tie as tie
 
 with-bits-requires : tie.Need-with-bits-requires
-with-bits-requires c κs = search needs
+with-bits-requires c κs = tt
 
 without-bits-requires : tie.Need-without-bits-requires
-without-bits-requires c κs = search needs
+without-bits-requires c κs = tt
 
 returns : tie.Need-returns
 returns c = let a = c .before .before .args in let t : a .on ≡ true = cc in rw t (c .with-bits .ensures)

@@ -14,7 +14,7 @@ slice-read-with-bits : tie.Need-slice-read-with-bits
 slice-read-with-bits c = search needs
 
 with-bits-requires : tie.Need-with-bits-requires
-with-bits-requires c κs = search needs
+with-bits-requires c κs = tt
 
 slice-write-flags : tie.Need-slice-write-flags
 slice-write-flags c = search needs

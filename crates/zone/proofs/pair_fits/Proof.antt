@@ -1,11 +1,10 @@
 -- `zone::pair_fits` meets its contract: it is the two tests. Assumes nothing.
-use borrow.Author.Needs.{needs}
 use Rattle.zone.specs.Sizes.{pairFits}
 use Rattle.zone.proofs.pair_fits.Statement.{statement}
 use Rattle.zone.proofs.pair_fits.Tie as tie
 
 points-fit-requires : tie.Need-points-fit-requires
-points-fit-requires c κs = search needs
+points-fit-requires c κs = tt
 
 returns : tie.Need-returns
 unfolding pairFits

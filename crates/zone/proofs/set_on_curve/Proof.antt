@@ -20,7 +20,7 @@ part-put-on-curve-end : tie.Need-part-put-on-curve-end
 part-put-on-curve-end c = search needs
 
 put-on-curve-requires : tie.Need-put-on-curve-requires
-put-on-curve-requires c κs = search needs
+put-on-curve-requires c κs = tt
 
 same-length : tie.Need-same-length
 same-length c = search needs

@@ -1,7 +1,6 @@
 -- `zone::touch` meets its contract: by the test of the index, and by what `or_at` ensures. Assumes nothing.
 use mathlib.Core.Path.{ap, _∙_}
 use Prim.Native.Nat.{ℕ}
-use borrow.Author.Needs.{needs}
 use lib.Bits.{bitOr}
 use denote.Ref.{now}
 use Rattle.point.specs.Flag.{touchBits}
@@ -14,13 +13,13 @@ returns : tie.Need-returns
 returns c = let a = c .before .before .args in marked-out (λ (flag : ℕ). bitOr flag (touchBits (a .axis))) (now (a .flags)) (a .at) (c .if1 .taken)
 
 touch-bits-requires : tie.Need-touch-bits-requires
-touch-bits-requires c κs = search needs
+touch-bits-requires c κs = tt
 
 or-at-requires : tie.Need-or-at-requires
-or-at-requires c κs = search needs
+or-at-requires c κs = tt
 
 same-length : tie.Need-same-length
-same-length c = search needs
+same-length c = c .before .before .or-at .kept .0
 
 returns-2 : tie.Need-returns-2
 returns-2 c = let o = c .before .before in let a = o .before .before .before .before .before .args in

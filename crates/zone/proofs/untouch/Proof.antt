@@ -16,10 +16,10 @@ slice-read-without-bits : tie.Need-slice-read-without-bits
 slice-read-without-bits c = search needs
 
 touch-bits-requires : tie.Need-touch-bits-requires
-touch-bits-requires c κs = search needs
+touch-bits-requires c κs = tt
 
 without-bits-requires : tie.Need-without-bits-requires
-without-bits-requires c κs = search needs
+without-bits-requires c κs = tt
 
 slice-write-flags : tie.Need-slice-write-flags
 slice-write-flags c = search needs
