@@ -1,23 +1,32 @@
-// Replays the record on standard input and writes it as it stands afterwards. A refused record writes nothing.
+// Replays the record on standard input and writes it as it stands afterwards. A refused record writes nothing, and so does input that cannot be read.
 //
 // All that is said and left is `shelf::replay`, one equation with its definition; what this writes of it is held to the file `stdout`.
-use libc::STDIN_FILENO;
-use libc::STDOUT_FILENO;
+use layout::MOST_BYTES;
+use record_io::INPUT_ROOM;
+use record_io::read_input;
+use record_io::say_unread;
+use record_io::write_output;
 use shelf::replay;
-
-// One byte more than a record may have, so that a longer one is seen to be too long.
-const ROOM: usize = 24577;
 
 fn write_front(record: &[u8], size: usize) {
     if size <= record.len() {
-        io::write_all(STDOUT_FILENO, &record[..size]);
+        write_output(&record[..size]);
     }
 }
 
-fn main() {
-    let mut bytes = [0u8; ROOM];
-    let got = io::read_full(STDIN_FILENO, &mut bytes);
-    let mut record = [0u8; ROOM];
-    let r = replay(&bytes[..got], &mut record);
+fn write_replayed(bytes: &[u8]) {
+    let mut record = [0u8; MOST_BYTES];
+    let r = replay(bytes, &mut record);
     write_front(&record, r.size);
+}
+
+fn main() {
+    let mut bytes = [0u8; INPUT_ROOM];
+    let input = read_input(&mut bytes);
+    if input.failed {
+        say_unread();
+        return;
+    }
+    let size = input.size;
+    write_replayed(&bytes[..size]);
 }

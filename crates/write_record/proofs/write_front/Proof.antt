@@ -6,11 +6,11 @@ use borrow.Author.Needs.{needs}
 use Rattle.write_record.proofs.write_front.Statement.{statement}
 use Rattle.write_record.proofs.write_front.Tie as tie
 
-slice-aggregate-write-all : tie.Need-slice-aggregate-write-all
-slice-aggregate-write-all c = sym (length-take-le _ _ (omega arith))
+slice-aggregate-write-output : tie.Need-slice-aggregate-write-output
+slice-aggregate-write-output c = sym (length-take-le _ _ (omega arith))
 
-write-all-requires : tie.Need-write-all-requires
-write-all-requires c κs = search needs
+write-output-requires : tie.Need-write-output-requires
+write-output-requires c κs = search needs
 
 returns : tie.Need-returns
 returns c = search needs
@@ -19,4 +19,4 @@ returns-2 : tie.Need-returns-2
 returns-2 c = search needs
 
 pub write-front-spec : {M : Type 1} → statement M
-write-front-spec = tie.close (tie.spec slice-aggregate-write-all write-all-requires returns returns-2)
+write-front-spec = tie.close (tie.spec slice-aggregate-write-output write-output-requires returns returns-2)

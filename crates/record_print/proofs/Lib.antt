@@ -1,0 +1,4 @@
+pub mod Decimal
+mod Lines
+mod Puts
+mod Room

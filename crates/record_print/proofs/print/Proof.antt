@@ -1,0 +1,51 @@
+-- `record_print::print` meets its contract: the answer's line, then the points', in room enough. Assumes nothing.
+use mathlib.Core.Path.{_≡_}
+use Prim.Native.Nat.{_<_, _≤_, _^_}
+use native.Mathlib.Omega.{arith}
+use borrow.Author.Needs.{needs}
+use denote.Ref.{now}
+use lib.ListN.{length}
+use Rattle.after.specs.After.{shelved}
+use Rattle.shelf.specs.Shelf.{shelfOf}
+use Rattle.record_print.specs.Print.{answerLine, blank}
+use Rattle.record_print.proofs.Room.{answer-most, lines-few, printed}
+use Rattle.record_print.proofs.print.Statement.{statement}
+use Rattle.record_print.proofs.print.Tie as tie
+
+-- ---- what the replay says
+said : (c : tie.After-replay) → shelved (c .replay .result) (c .replay .last .1 .0) ≡ shelfOf (now (c .before .before .before .args .bytes)) blank
+unfolding blank
+said c = c .replay .ensures
+
+fits : (c : tie.After-replay) → let r = c .replay .result in (r .number < 2 ^ 32) × (r .place < 2 ^ 64) × (r .lines < 2 ^ 64) × (r .detail < 2 ^ 64)
+fits c = omega arith
+
+short : (c : tie.After-replay) → length (answerLine (c .replay .result)) ≤ 74
+short c = let f = fits c in answer-most (c .replay .result) (f .0) (f .1) (f .2) (f .3)
+
+slice-aggregate-replay : tie.Need-slice-aggregate-replay
+slice-aggregate-replay c = search needs
+
+replay-requires : tie.Need-replay-requires
+replay-requires c κs = search needs
+
+put-answer-requires : tie.Need-put-answer-requires
+put-answer-requires c κs = omega (arith, short (c .before .before))
+
+slice-aggregate-put-points : tie.Need-slice-aggregate-put-points
+slice-aggregate-put-points c = search needs
+
+put-points-requires : tie.Need-put-points-requires
+put-points-requires c κs =
+    let p = c .before .before in
+    let r = p .before .before .before in
+    omega (arith, p .put-answer .ensures .behind, p .put-answer .kept .1 .0, short r, lines-few (now (r .before .before .before .args .bytes)) (said r))
+
+returns : tie.Need-returns
+returns c =
+    let p = c .before .before .before in
+    let r = p .before .before .before in
+    printed (now (r .before .before .before .args .bytes)) (said r) (p .put-answer .ensures) (c .put-points .ensures) (short r) (omega arith)
+
+pub print-spec : {M : Type 1} → statement M
+print-spec = tie.close (tie.spec slice-aggregate-replay replay-requires put-answer-requires slice-aggregate-put-points put-points-requires returns)

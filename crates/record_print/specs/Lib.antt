@@ -1,0 +1,3 @@
+pub mod Print
+pub mod Steps
+pub mod Text
