@@ -1,3 +1,3 @@
-pub mod Seen
+mod Seen
 mod Verdict
 pub mod Whole

@@ -14,13 +14,13 @@ returns : tie.Need-returns
 returns c = let a = c .before .before .args in kept-is (a .m) (a .keeps) (a .kept) (a .at) (points (now (a .xs)) (now (a .ys)) (now (a .flags))) (c .if1 .taken)
 
 same-length : tie.Need-same-length
-same-length c = search needs
+same-length c = c .before .before .before .before .apply .kept .1 .1 .0
 
 same-length-2 : tie.Need-same-length-2
-same-length-2 c = search needs
+same-length-2 c = c .before .before .before .before .apply .kept .1 .1 .1 .0
 
 same-length-3 : tie.Need-same-length-3
-same-length-3 c = search needs
+same-length-3 c = c .before .before .before .before .apply .kept .1 .1 .1 .1 .0
 
 returns-2 : tie.Need-returns-2
 returns-2 c = let x = c .before .before .before .before in let i = x .before .before .before .before in let a = i .before .before .args in

@@ -1,5 +1,4 @@
 -- `spans::shift_span` meets its contract: by whether the move is idle. Assumes nothing.
-use borrow.Author.Needs.{needs}
 use denote.Ref.{now}
 use mathlib.Core.Path.{sym, _∙_}
 use Rattle.looped.specs.Looped.{points}
@@ -8,7 +7,7 @@ use Rattle.spans.proofs.shift_span.Statement.{statement}
 use Rattle.spans.proofs.shift_span.Tie as tie
 
 is-idle-requires : tie.Need-is-idle-requires
-is-idle-requires c κs = search needs
+is-idle-requires c κs = tt
 
 shift-busy-span-requires : tie.Need-shift-busy-span-requires
 shift-busy-span-requires c κs = let i = c .before .before .before in let p = i .before .before .before .pre in (p .0, p .1, sym (i .before .is-idle .ensures) ∙ i .if1 .left)

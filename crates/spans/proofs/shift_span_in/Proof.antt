@@ -8,13 +8,13 @@ use Rattle.spans.proofs.shift_span_in.Statement.{statement}
 use Rattle.spans.proofs.shift_span_in.Tie as tie
 
 enum-told : tie.Need-enum-told
-enum-told c = search needs
+enum-told c = c .match .keys1
 
 shift-span-requires : tie.Need-shift-span-requires
 shift-span-requires c κs = search needs
 
 enum-told-2 : tie.Need-enum-told-2
-enum-told-2 c = search needs
+enum-told-2 c = c .match .keys2
 
 shift-span-requires-2 : tie.Need-shift-span-requires-2
 shift-span-requires-2 c κs = search needs

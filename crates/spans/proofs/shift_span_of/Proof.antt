@@ -1,8 +1,7 @@
 -- `spans::shift_span_of` meets its contract: by whether the reference point is refused; else the span is what `shift_span_in` ensures.
 -- Assumes nothing.
-use mathlib.Core.Path.{_∙_}
+use mathlib.Core.Path.{refl, _∙_}
 use native.Mathlib.Omega.{arith}
-use borrow.Author.Needs.{needs}
 use denote.Ref.{now}
 use Rattle.int.proofs.Words.{back32}
 use Rattle.looped.specs.Looped.{Zones, zones}
@@ -15,40 +14,40 @@ abbrev entry : tie.Start → Zones
 entry b = let a = b .args in zones (now (a .gx)) (now (a .gy)) (now (a .gflags)) (now (a .tx)) (now (a .ty)) (now (a .tflags))
 
 reference-of-requires : tie.Need-reference-of-requires
-reference-of-requires c κs = search needs
+reference-of-requires c κs = tt
 
 displaced-in-requires : tie.Need-displaced-in-requires
 displaced-in-requires c κs = let p = c .before .before .before .before .before .before .before .before .before .before .pre in (p .0, p .2, p .1, p .4)
 
 enum-known-displaced : tie.Need-enum-known-displaced
-enum-known-displaced c = search needs
+enum-known-displaced c = c .match .keys1
 
 refused-requires : tie.Need-refused-requires
-refused-requires c κs = search needs
+refused-requires c κs = tt
 
 enum-known-displaced-2 : tie.Need-enum-known-displaced-2
-enum-known-displaced-2 c = search needs
+enum-known-displaced-2 c = c .match .keys2
 
 zp2-move-of-requires : tie.Need-zp2-move-of-requires
-zp2-move-of-requires c κs = search needs
+zp2-move-of-requires c κs = tt
 
 same-zone-requires : tie.Need-same-zone-requires
-same-zone-requires c κs = search needs
+same-zone-requires c κs = tt
 
 shift-span-in-requires : tie.Need-shift-span-in-requires
 shift-span-in-requires c κs = let p = c .before .before .before .before .before .before .before .before .before .before .before .before .before .before .before .before .before .before .before .before .before .before .before .before .pre in (p .2, p .3, p .4, p .5)
 
 same-length : tie.Need-same-length
-same-length c = search needs
+same-length c = refl
 
 same-length-2 : tie.Need-same-length-2
-same-length-2 c = search needs
+same-length-2 c = refl
 
 same-length-3 : tie.Need-same-length-3
-same-length-3 c = search needs
+same-length-3 c = refl
 
 same-length-4 : tie.Need-same-length-4
-same-length-4 c = search needs
+same-length-4 c = refl
 
 returns : tie.Need-returns
 returns c = let f = c .before .before in let x = f .before .before in let r = x .before .before .before .before .before in let b = r .before .before .before .before .before .before in let a = b .args in
