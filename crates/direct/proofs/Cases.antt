@@ -4,11 +4,12 @@ use mathlib.Core.Path.{_≡_, refl, sym, ap, ap₂, _∙_}
 use mathlib.Core.Bool.{Bool, true, false, cond, _&&_}
 use mathlib.Core.List.{List}
 use Prim.Native.Nat.{ℕ}
+use lib.Dec.{eqb}
 use lib.IntN.{ℤ}
 use lib.ListN.{length}
 use Rattle.answer.specs.declared.Call.{Call}
 use Rattle.answer.specs.declared.Call.the-variants.{Done}
-use Rattle.direct.specs.Direct.{entryBy, pairsFit, zonesFit, shiftAfter, tryMoveOriginalOf, moveAfter, tryMovePointOf, zp2After, tryMoveZp2Of, displacedAfter, tryDisplacementOf}
+use Rattle.direct.specs.Direct.{entryBy, pairsFit, zonesFit, outlineFits, shiftAfter, tryMoveOriginalOf, moveAfter, tryMovePointOf, zp2After, tryMoveZp2Of, displacedAfter, tryDisplacementOf}
 use Rattle.graphics.specs.State.{usableState}
 use Rattle.graphics.specs.declared.GraphicsState.{GraphicsState}
 use Rattle.graphics.specs.declared.ZonePointer.{ZonePointer}
@@ -51,11 +52,18 @@ unfolding pairsFit
 pairs-lengths gx gy tx ty e =
     (pair-length gx gy (and-left (pairFits gx gy) _ e), pair-length tx ty (and-right (pairFits gx gy) _ e))
 
-pub all-pairs-lengths : (gox goy gcx gcy tox toy tcx tcy : List ℤ) → pairsFit gox goy tox toy && pairsFit gcx gcy tcx tcy ≡ true → (length goy ≡ length gox) × (length gcy ≡ length gcx) × (length toy ≡ length tox) × (length tcy ≡ length tcx)
-all-pairs-lengths gox goy gcx gcy tox toy tcx tcy e =
-    let o = pairs-lengths gox goy tox toy (and-left (pairsFit gox goy tox toy) _ e) in
-    let k = pairs-lengths gcx gcy tcx tcy (and-right (pairsFit gox goy tox toy) _ e) in
-    (o .0, k .0, o .1, k .1)
+pub outline-lengths : (ox oy cx cy : List ℤ) → outlineFits ox oy cx cy ≡ true → (length oy ≡ length ox) × (length cy ≡ length cx)
+unfolding outlineFits
+outline-lengths ox oy cx cy e =
+    let sameAndOriginals = eqb (length ox) (length cx) && pairFits ox oy in
+    let originals : pairFits ox oy ≡ true = and-right (eqb (length ox) (length cx)) _ (and-left sameAndOriginals _ e) in
+    (pair-length ox oy originals, pair-length cx cy (and-right sameAndOriginals _ e))
+
+pub both-outlines-lengths : (gox goy gcx gcy tox toy tcx tcy : List ℤ) → outlineFits gox goy gcx gcy && outlineFits tox toy tcx tcy ≡ true → (length goy ≡ length gox) × (length gcy ≡ length gcx) × (length toy ≡ length tox) × (length tcy ≡ length tcx)
+both-outlines-lengths gox goy gcx gcy tox toy tcx tcy e =
+    let g = outline-lengths gox goy gcx gcy (and-left (outlineFits gox goy gcx gcy) _ e) in
+    let t = outline-lengths tox toy tcx tcy (and-right (outlineFits gox goy gcx gcy) _ e) in
+    (g .0, g .1, t .0, t .1)
 
 pub zones-lengths : (gx gy : List ℤ) (gflags : List ℕ) (tx ty : List ℤ) (tflags : List ℕ) → zonesFit gx gy gflags tx ty tflags ≡ true → (length gy ≡ length gx) × (length gflags ≡ length gx) × (length ty ≡ length tx) × (length tflags ≡ length tx)
 unfolding zonesFit
@@ -88,9 +96,9 @@ module _ (gx gy : List ℤ) (gflags : List ℕ) (tx ty : List ℤ) (tflags : Lis
   pub zp2-busy : isIdle m ≡ false → applyIn m at gx gy gflags tx ty tflags zone ≡ zp2After gx gy gflags tx ty tflags zone m at Done
   zp2-busy e = ap (λ (b : Bool). cond b (bothMoved Done gx gy gflags tx ty tflags) (applyIn m at gx gy gflags tx ty tflags zone)) (sym e)
 
-module _ (gox goy gcx gcy tox toy tcx tcy : List ℤ) (s : GraphicsState) (opcode : ℕ) {o k : Bool} {begun h : Call} where
-  pub displacement-begun : o ≡ pairsFit gox goy tox toy → k ≡ pairsFit gcx gcy tcx tcy → begun ≡ entryBy (o && k) (usableState s) → begun ≡ h → {p : Reference} → p ≡ referenceOf s opcode → displacedAfter gox goy gcx gcy tox toy tcx tcy s p h ≡ tryDisplacementOf gox goy gcx gcy tox toy tcx tcy s opcode
+module _ (gox goy gcx gcy tox toy tcx tcy : List ℤ) (s : GraphicsState) (opcode : ℕ) {g t : Bool} {begun h : Call} where
+  pub displacement-begun : g ≡ outlineFits gox goy gcx gcy → t ≡ outlineFits tox toy tcx tcy → begun ≡ entryBy (g && t) (usableState s) → begun ≡ h → {p : Reference} → p ≡ referenceOf s opcode → displacedAfter gox goy gcx gcy tox toy tcx tcy s p h ≡ tryDisplacementOf gox goy gcx gcy tox toy tcx tcy s opcode
   unfolding tryDisplacementOf
-  displacement-begun f g q e r =
+  displacement-begun fg ft q e r =
       ap (λ (p : Reference). displacedAfter gox goy gcx gcy tox toy tcx tcy s p h) r
-      ∙ ap (displacedAfter gox goy gcx gcy tox toy tcx tcy s (referenceOf s opcode)) (begun-is (usableState s) (ap₂ (λ (a b : Bool). a && b) f g) q e)
+      ∙ ap (displacedAfter gox goy gcx gcy tox toy tcx tcy s (referenceOf s opcode)) (begun-is (usableState s) (ap₂ (λ (a b : Bool). a && b) fg ft) q e)

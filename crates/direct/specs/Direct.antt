@@ -3,7 +3,9 @@
 use Prim.Native.Nat.{ℕ}
 use mathlib.Core.Bool.{Bool, true, false, _&&_, cond}
 use mathlib.Core.List.{List}
+use lib.Dec.{eqb}
 use lib.IntN.{ℤ}
+use lib.ListN.{length}
 use Rattle.answer.specs.declared.Call.{Call}
 use Rattle.answer.specs.declared.Call.the-variants.{Done, Refused}
 use Rattle.answer.specs.declared.Refusal.the-variants.{Sizes, State}
@@ -32,6 +34,10 @@ pairsFit gx gy tx ty = pairFits gx gy && pairFits tx ty
 
 unfoldable pub zonesFit : List ℤ → List ℤ → List ℕ → List ℤ → List ℤ → List ℕ → Bool
 zonesFit gx gy gflags tx ty tflags = placedFits gx gy gflags && placedFits tx ty tflags
+
+-- a zone's original and current places share that length too
+unfoldable pub outlineFits : List ℤ → List ℤ → List ℤ → List ℤ → Bool
+outlineFits ox oy cx cy = eqb (length ox) (length cx) && pairFits ox oy && pairFits cx cy
 
 -- ---- move_original
 module _ (gx gy tx ty : List ℤ) where
@@ -70,4 +76,4 @@ module _ (gox goy gcx gcy tox toy tcx tcy : List ℤ) where
 
   unfoldable pub tryDisplacementOf : GraphicsState → ℕ → Displaced
   tryDisplacementOf s opcode =
-      displacedAfter s (referenceOf s opcode) (entryBy (pairsFit gox goy tox toy && pairsFit gcx gcy tcx tcy) (usableState s))
+      displacedAfter s (referenceOf s opcode) (entryBy (outlineFits gox goy gcx gcy && outlineFits tox toy tcx tcy) (usableState s))

@@ -20,7 +20,7 @@ use zone::placed_fits;
 ghost use mathlib.Core.Path.{_≡_};
 ghost use Rattle.graphics.specs.State.{usableState};
 ghost use Rattle.moves.specs.Apply.{bothShifted, bothMoved};
-ghost use Rattle.direct.specs.Direct.{entryBy, pairsFit, zonesFit, tryMoveOriginalOf, tryMovePointOf, tryMoveZp2Of, tryDisplacementOf};
+ghost use Rattle.direct.specs.Direct.{entryBy, pairsFit, zonesFit, outlineFits, tryMoveOriginalOf, tryMovePointOf, tryMoveZp2Of, tryDisplacementOf};
 
 // ---- the tests at entry
 fn entry(fits: bool, s: GraphicsState) -> Call
@@ -46,6 +46,13 @@ fn zones_fit(gx: &[i32], gy: &[i32], gflags: &[u8], tx: &[i32], ty: &[i32], tfla
     ensures { λ r. ⌜ r ≡ zonesFit (now (gx .entry)) (now (gy .entry)) (now (gflags .entry)) (now (tx .entry)) (now (ty .entry)) (now (tflags .entry)) ⌝ }
 {
     placed_fits(gx, gy, gflags) & placed_fits(tx, ty, tflags)
+}
+
+// One zone's original places beside its current ones.
+fn outline_fits(ox: &[i32], oy: &[i32], cx: &[i32], cy: &[i32]) -> bool
+    ensures { λ r. ⌜ r ≡ outlineFits (now (ox .entry)) (now (oy .entry)) (now (cx .entry)) (now (cy .entry)) ⌝ }
+{
+    (ox.len() == cx.len()) & pair_fits(ox, oy) & pair_fits(cx, cy)
 }
 
 // ---- the calls
@@ -161,7 +168,7 @@ pub fn try_point_displacement(
     ensures { λ r. ⌜ r ≡ tryDisplacementOf (now (gox .entry)) (now (goy .entry)) (now (gcx .entry)) (now (gcy .entry)) (now (tox .entry)) (now (toy .entry)) (now (tcx .entry)) (now (tcy .entry)) s opcode ⌝ }
 {
     let vectors = s.vectors;
-    let fits = pairs_fit(gox, goy, tox, toy) & pairs_fit(gcx, gcy, tcx, tcy);
+    let fits = outline_fits(gox, goy, gcx, gcy) & outline_fits(tox, toy, tcx, tcy);
     let begun = entry(fits, s);
     match begun {
         Call::Refused(why) => Displaced::Refused(why),

@@ -2,16 +2,16 @@
 use mathlib.Core.Path.{refl, ap₂, _∙_}
 use mathlib.Core.Bool.{Bool, _&&_}
 use denote.Ref.{now}
-use Rattle.direct.proofs.Cases.{begun-fits, all-pairs-lengths, displacement-begun}
+use Rattle.direct.proofs.Cases.{begun-fits, both-outlines-lengths, displacement-begun}
 use Rattle.graphics.specs.State.{usableState}
 use Rattle.direct.proofs.try_point_displacement.Statement.{statement}
 use Rattle.direct.proofs.try_point_displacement.Tie as tie
 
-pairs-fit-requires : tie.Need-pairs-fit-requires
-pairs-fit-requires c κs = tt
+outline-fits-requires : tie.Need-outline-fits-requires
+outline-fits-requires c κs = tt
 
-pairs-fit-requires-2 : tie.Need-pairs-fit-requires-2
-pairs-fit-requires-2 c κs = tt
+outline-fits-requires-2 : tie.Need-outline-fits-requires-2
+outline-fits-requires-2 c κs = tt
 
 entry-requires : tie.Need-entry-requires
 entry-requires c κs = tt
@@ -27,23 +27,23 @@ reference-of-requires c κs = tt
 
 displaced-in-requires : tie.Need-displaced-in-requires
 displaced-in-requires c κs = let e = c .before .before .before in let k = e .before in let a = k .before .before .before .args in
-    all-pairs-lengths (now (a .gox)) (now (a .goy)) (now (a .gcx)) (now (a .gcy)) (now (a .tox)) (now (a .toy)) (now (a .tcx)) (now (a .tcy)) (begun-fits (usableState (a .s)) (ap₂ (λ (x y : Bool). x && y) (k .before .pairs-fit .ensures) (k .pairs-fit2 .ensures)) (e .entry .ensures) (c .before .enum-told .given .1))
+    both-outlines-lengths (now (a .gox)) (now (a .goy)) (now (a .gcx)) (now (a .gcy)) (now (a .tox)) (now (a .toy)) (now (a .tcx)) (now (a .tcy)) (begun-fits (usableState (a .s)) (ap₂ (λ (x y : Bool). x && y) (k .before .outline-fits .ensures) (k .outline-fits2 .ensures)) (e .entry .ensures) (c .before .enum-told .given .1))
 
 returns : tie.Need-returns
 returns c = let b = c .before in let e = b .before .before in let k = e .before in let a = k .before .before .before .args in
-    displacement-begun (now (a .gox)) (now (a .goy)) (now (a .gcx)) (now (a .gcy)) (now (a .tox)) (now (a .toy)) (now (a .tcx)) (now (a .tcy)) (a .s) (a .opcode) (k .before .pairs-fit .ensures) (k .pairs-fit2 .ensures) (e .entry .ensures) (b .begun .given .1) refl
+    displacement-begun (now (a .gox)) (now (a .goy)) (now (a .gcx)) (now (a .gcy)) (now (a .tox)) (now (a .toy)) (now (a .tcx)) (now (a .tcy)) (a .s) (a .opcode) (k .before .outline-fits .ensures) (k .outline-fits2 .ensures) (e .entry .ensures) (b .begun .given .1) refl
 
 returns-2 : tie.Need-returns-2
 returns-2 c = let r = c .before in let t = r .before in let e = t .before .before in let k = e .before in let a = k .before .before .before .args in
     c .displaced-in .ensures
-    ∙ displacement-begun (now (a .gox)) (now (a .goy)) (now (a .gcx)) (now (a .gcy)) (now (a .tox)) (now (a .toy)) (now (a .tcx)) (now (a .tcy)) (a .s) (a .opcode) (k .before .pairs-fit .ensures) (k .pairs-fit2 .ensures) (e .entry .ensures) (t .enum-told .given .1) (r .reference-of .ensures)
+    ∙ displacement-begun (now (a .gox)) (now (a .goy)) (now (a .gcx)) (now (a .gcy)) (now (a .tox)) (now (a .toy)) (now (a .tcx)) (now (a .tcy)) (a .s) (a .opcode) (k .before .outline-fits .ensures) (k .outline-fits2 .ensures) (e .entry .ensures) (t .enum-told .given .1) (r .reference-of .ensures)
 
 pub try-point-displacement-spec : {M : Type 1} → statement M
 try-point-displacement-spec =
     tie.close
     (tie.spec
-    pairs-fit-requires
-    pairs-fit-requires-2
+    outline-fits-requires
+    outline-fits-requires-2
     entry-requires
     enum-known-begun
     enum-told
