@@ -96,28 +96,6 @@ pub fn list_length(case: &[u8], list: u64) -> u64 {
     wide(length_word(case, list) & 0x7fff_ffff)
 }
 
-// Whether a zone's lists have equal lengths within the limits.
-pub fn twilight_fits(case: &[u8]) -> bool {
-    let n = list_length(case, 10);
-    n <= 16384
-        && list_length(case, 8) == n
-        && list_length(case, 9) == n
-        && list_length(case, 11) == n
-        && list_length(case, 12) == n
-}
-
-pub fn glyph_fits(case: &[u8]) -> bool {
-    let n = list_length(case, 4);
-    n <= 16384
-        && list_length(case, 0) == n
-        && list_length(case, 1) == n
-        && list_length(case, 2) == n
-        && list_length(case, 3) == n
-        && list_length(case, 5) == n
-        && list_length(case, 6) == n
-        && list_length(case, 7) <= 4096
-}
-
 // The place of a list that starts at the given words.
 fn place_at(case: &[u8], list: u64, stored: u64, index: u64) -> Place {
     Place {

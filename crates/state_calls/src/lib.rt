@@ -1,22 +1,18 @@
 // The oracle's calls over a state and both zones, move_original to move_zp2_point, and point_displacement by the crate displacements: each made on a case's
 // lists, and judged by the case (docs/ORACLE.md).
 //
-// Word 2 of a case says which zone, words 3 and 4 which point, word 7 a choice, words 8 and 9 distances. A call tests the sizes of the lists
-// that it is given; the other lists of the zones are tested here, by the lengths in the case. Nothing is promised here but
-// that every function is safe and ends.
+// Word 2 of a case says which zone, words 3 and 4 which point, word 7 a choice, words 8 and 9 distances. A call is given the lists that it
+// works on as the case has them, of whatever lengths: it tests their sizes itself, and nothing is answered here in its place. Nothing is
+// promised here but that every function is safe and ends.
 use answer::Call;
-use answer::Refusal;
 use cases::KIND;
 use cases::flags_of;
-use cases::glyph_fits;
 use cases::length_of;
 use cases::long;
 use cases::number;
 use cases::state_of;
-use cases::twilight_fits;
 use cases::word;
 use cases::words_of;
-use compare::Compared;
 use compare::Said;
 use compare::compare_pair;
 use compare::compare_placed;
@@ -149,9 +145,6 @@ fn move_agrees(case: &[u8]) -> bool {
 
 // ---- every call
 pub fn agrees(case: &[u8]) -> bool {
-    if !glyph_fits(case) || !twilight_fits(case) {
-        return Said::refused(Refusal::Sizes).agrees(Compared::nothing(), case);
-    }
     match word(case, KIND) {
         10 => original_agrees(case),
         11 | 12 => move_agrees(case),

@@ -1,17 +1,14 @@
 // The oracle's calls over one zone, point to iup: each made on a case's lists, and judged by the case (docs/ORACLE.md).
 //
-// Word 2 of a case says which zone, words 3 and 4 which point, words 5 and 6 the end of a range, word 7 a choice. A call tests the sizes of
-// the lists that it is given; the other lists of its zone are tested here, by the lengths in the case. Nothing is promised here but that
-// every function is safe and ends.
-use answer::Refusal;
+// Word 2 of a case says which zone, words 3 and 4 which point, words 5 and 6 the end of a range, word 7 a choice. A call is given the lists
+// that it works on as the case has them, of whatever lengths: it tests their sizes itself, and nothing is answered here in its place. Nothing
+// is promised here but that every function is safe and ends.
 use cases::KIND;
 use cases::after;
 use cases::ends_of;
 use cases::flags_of;
-use cases::glyph_fits;
 use cases::length_of;
 use cases::long;
-use cases::twilight_fits;
 use cases::word;
 use cases::words_of;
 use compare::Compared;
@@ -166,19 +163,7 @@ fn iup_agrees(case: &[u8]) -> bool {
 }
 
 // ---- every call
-// Whether the zone that the call is about has lists of right sizes. iup is about the glyph.
-fn sizes_fit(case: &[u8]) -> bool {
-    if word(case, KIND) < 9 && in_twilight(case) {
-        twilight_fits(case)
-    } else {
-        glyph_fits(case)
-    }
-}
-
 pub fn agrees(case: &[u8]) -> bool {
-    if !sizes_fit(case) {
-        return Said::refused(Refusal::Sizes).agrees(Compared::nothing(), case);
-    }
     match word(case, KIND) {
         1..=3 => place_agrees(case),
         4..=8 => flags_agree(case),
