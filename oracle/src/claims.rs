@@ -527,6 +527,20 @@ fn direct_calls(claims: &mut Claims) {
         contour.call(along_x).said(),
         (7, 0),
     );
+    let unlike = Scene::new(&[(0, 0), (0, 0)]).original(&[(0, 0)]);
+    for rp1 in [0, 1] {
+        let scene = unlike.clone().state(|state| state.references[1] = rp1);
+        claims.same(
+            &format!("point_displacement of {rp1}, one original and two current points"),
+            scene.call(Call::PointDisplacement { opcode: 0x33 }).said(),
+            (2, 0),
+        );
+    }
+    claims.same(
+        "point of the same goes by the current points",
+        unlike.call(Call::Point { zone: 1, index: 1 }).said(),
+        (0, 0),
+    );
 }
 
 /// Two runs, the second from where the first ended with 1, equal one.

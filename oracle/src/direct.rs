@@ -3,7 +3,7 @@
 use crate::{
     answer::{self, Answer},
     entry, replay,
-    world::{fresh_state, World},
+    world::*,
 };
 use reference::door::{Machine, Pair, Refused};
 
@@ -116,25 +116,91 @@ impl Call {
         self.on_machine(world)
     }
 
+    /// The lists of a zone that a direct call takes; none where it is about the
+    /// other zone.
+    pub fn takes_of(&self, zone: u32) -> Vec<usize> {
+        if self.own_zone().is_some_and(|own| own != zone) {
+            return Vec::new();
+        }
+        let (original, current, flags) = match zone {
+            0 => (TWILIGHT_ORIGINAL_X, TWILIGHT_CURRENT_X, TWILIGHT_FLAGS),
+            _ => (ORIGINAL_X, CURRENT_X, FLAGS),
+        };
+        match *self {
+            Call::Run { .. } => unreachable!("a run takes everything"),
+            Call::Point { .. } => vec![current, current + 1],
+            Call::Original { .. } | Call::MoveOriginal { .. } => vec![original, original + 1],
+            // The twilight zone has no unscaled points.
+            Call::Unscaled { zone: 0, .. } => Vec::new(),
+            Call::Unscaled { .. } => vec![UNSCALED_X, UNSCALED_X + 1],
+            Call::Touch { .. }
+            | Call::IsTouched { .. }
+            | Call::Untouch { .. }
+            | Call::FlipOnCurve { .. }
+            | Call::SetOnCurve { .. } => vec![flags],
+            Call::Iup { axis } => {
+                let along = axis as usize - 1;
+                let coordinates = [UNSCALED_X, ORIGINAL_X, CURRENT_X].map(|x| x + along);
+                coordinates.into_iter().chain([FLAGS]).collect()
+            }
+            Call::MovePoint { .. } | Call::MoveZp2Point { .. } => {
+                vec![current, current + 1, flags]
+            }
+            Call::PointDisplacement { .. } => {
+                vec![original, original + 1, current, current + 1]
+            }
+        }
+    }
+
     fn refused_at_entry(&self, world: &World) -> Option<u32> {
-        let (glyph, twilight) = (entry::glyph_fits(world), entry::twilight_fits(world));
-        match self.own_zone() {
-            Some(0) => (!twilight).then_some(answer::SIZES),
-            Some(_) => (!glyph).then_some(answer::SIZES),
-            None if !glyph || !twilight => Some(answer::SIZES),
-            None => (!entry::state_is_sound(&world.state)).then_some(answer::STATE),
+        let lists_fit = (0..2).all(|zone| entry::lists_fit(world, &self.takes_of(zone)));
+        let takes_contours = matches!(self, Call::Iup { .. });
+        if !lists_fit || takes_contours && !entry::contours_fit(world) {
+            return Some(answer::SIZES);
+        }
+        let takes_state = self.own_zone().is_none();
+        let unsound = takes_state && !entry::state_is_sound(&world.state);
+        unsound.then_some(answer::STATE)
+    }
+
+    /// The world with a blank list in place of each that the call doesn't take,
+    /// as long as those that it does.
+    fn given(&self, world: &World) -> World {
+        let mut given = world.clone();
+        for (zone, lists) in [(0, TWILIGHT_LISTS), (1, GLYPH_LISTS)] {
+            let taken = self.takes_of(zone);
+            let length = taken.first().map_or(0, |list| world.lists[*list].len());
+            for list in lists.filter(|list| !taken.contains(list)) {
+                given.lists[list] = vec![0; length];
+            }
+        }
+        given
+    }
+
+    /// Takes back the lists that the call was given, and sees that it left the
+    /// blank ones alone.
+    fn take_back(&self, world: &mut World, given: World) {
+        let taken = [self.takes_of(0), self.takes_of(1)].concat();
+        for (index, list) in given.lists.into_iter().enumerate() {
+            if taken.contains(&index) {
+                world.lists[index] = list;
+            } else if GLYPH_LISTS.contains(&index) || TWILIGHT_LISTS.contains(&index) {
+                assert!(list.iter().all(|word| *word == 0));
+            }
         }
     }
 
     fn on_machine(&self, world: &mut World) -> Returned {
-        let mut buffers = world.buffers();
+        let mut given = self.given(world);
+        let mut buffers = given.buffers();
         let result = if self.own_zone().is_some() {
             // The world's state isn't part of the call, so it may be unsound.
             buffers.with_machine(&mut fresh_state(), |machine| self.on(machine))
         } else {
             buffers.with_machine(&mut world.state, |machine| self.on(machine))
         };
-        world.keep(&buffers);
+        given.keep(&buffers);
+        self.take_back(world, given);
         match result {
             Ok(value) => Returned {
                 answer: Answer::of_call(0, 0),

@@ -6,20 +6,26 @@ use std::ops::RangeInclusive;
 
 const SUPER45: u32 = 7;
 
-pub fn glyph_fits(world: &World) -> bool {
-    alike(world, GLYPH_LISTS)
-        && world.points() <= MOST_POINTS
-        && world.lists[CONTOURS].len() <= MOST_CONTOURS
+/// Lists of one zone: of one length, and that within the limit.
+pub fn lists_fit(world: &World, lists: &[usize]) -> bool {
+    let mut lengths = lists.iter().map(|list| world.lists[*list].len());
+    let first = lengths.next().unwrap_or_default();
+    first <= MOST_POINTS && lengths.all(|length| length == first)
 }
 
-pub fn twilight_fits(world: &World) -> bool {
-    alike(world, TWILIGHT_LISTS) && world.twilight_points() <= MOST_POINTS
+pub fn contours_fit(world: &World) -> bool {
+    world.lists[CONTOURS].len() <= MOST_CONTOURS
+}
+
+fn zone_fits(world: &World, lists: RangeInclusive<usize>) -> bool {
+    lists_fit(world, &lists.collect::<Vec<_>>())
 }
 
 /// All that a run is given.
 pub fn everything_fits(world: &World) -> bool {
-    glyph_fits(world)
-        && twilight_fits(world)
+    zone_fits(world, GLYPH_LISTS)
+        && zone_fits(world, TWILIGHT_LISTS)
+        && contours_fit(world)
         && world.lists[CONTROL_VALUES].len() <= MOST_CONTROL_VALUES
         && world.lists[SHEET].len() <= MOST_SHEET_WORDS
 }
@@ -27,9 +33,4 @@ pub fn everything_fits(world: &World) -> bool {
 pub fn state_is_sound(state: &State) -> bool {
     let divides_by_zero = state.rounding.mode == SUPER45 && state.rounding.period == 0;
     vectors::in_range(state.vectors) && !divides_by_zero
-}
-
-fn alike(world: &World, lists: RangeInclusive<usize>) -> bool {
-    let lengths = &world.lists[lists];
-    lengths.iter().all(|list| list.len() == lengths[0].len())
 }

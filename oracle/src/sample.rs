@@ -1,13 +1,14 @@
-//! The committed sample: eight files, the same bytes every time.
+//! The committed sample: ten files, the same bytes every time.
 
 use crate::{
     case::Case,
     coverage,
     direct::Call,
     generate::{
-        every_opcode, every_selector, every_setter, every_shift, iup_case, limit_cases, line_case,
-        long_iup_case, long_iup_shift_case, rounds_by_every_selector, run_case, runs_of_01,
-        selector_counts, selector_run_case, shift_case, shift_run_case, zone_case, OUTLINE_LINES,
+        every_length, every_limit, every_opcode, every_selector, every_setter, every_shift,
+        far_calls, far_references, iup_case, length_case, limit_cases, line_case, long_iup_case,
+        long_iup_shift_case, rounds_by_every_selector, run_case, runs_of_01, selector_counts,
+        selector_run_case, shift_case, shift_run_case, turns, zone_case, OUTLINE_LINES,
         SELECTOR_LINES, SHIFT_LINES,
     },
     math_rows, notable, projection_rows,
@@ -23,6 +24,8 @@ const OUTLINE_SEED: u64 = 0x6F75_746C;
 const RUNS_SEED: u64 = 0x7275_6E73;
 const SHIFTS_SEED: u64 = 0x7368_6966;
 const SELECTORS_SEED: u64 = 0x7365_6C65;
+const LENGTHS_SEED: u64 = 0x6C65_6E67;
+const TURNS_SEED: u64 = 0x7475_726E;
 const ZONE_CASES: usize = 5_000;
 const IUP_CASES: usize = 3_400;
 const LINES_EACH: usize = 480;
@@ -31,8 +34,9 @@ const SHIFTS_EACH: usize = 400;
 const SHIFT_RUN_CASES: usize = 240;
 const SELECTORS_EACH: usize = 100;
 const SELECTOR_RUN_CASES: usize = 240;
+const LENGTH_CASES: usize = 400;
 
-const NAMES: [&str; 8] = [
+const NAMES: [&str; 10] = [
     "math",
     "projection",
     "zone",
@@ -41,9 +45,11 @@ const NAMES: [&str; 8] = [
     "runs",
     "shifts",
     "selectors",
+    "lengths",
+    "turns",
 ];
 
-/// Writes the eight files into a folder and says how large each is.
+/// Writes the ten files into a folder and says how large each is.
 pub fn write(folder: &Path) -> Result<(), String> {
     std::fs::create_dir_all(folder).map_err(|error| error.to_string())?;
     for name in NAMES {
@@ -105,7 +111,7 @@ fn make(name: &str) -> (usize, Vec<u32>) {
     }
 }
 
-/// The cases of one of the six files that hold cases.
+/// The cases of one of the eight files that hold cases.
 fn cases_of(name: &str) -> Vec<Case> {
     match name {
         "zone" => zone_cases(),
@@ -113,7 +119,9 @@ fn cases_of(name: &str) -> Vec<Case> {
         "outline" => outline_cases(),
         "runs" => runs(),
         "shifts" => shifts(),
-        _ => selectors(),
+        "selectors" => selectors(),
+        "lengths" => lengths(),
+        _ => turns_and_far_indices(),
     }
 }
 
@@ -182,6 +190,25 @@ fn selectors() -> Vec<Case> {
         cases.extend((0..SELECTORS_EACH).map(|_| line_case(&mut random, opcodes)));
     }
     cases.extend((0..SELECTOR_RUN_CASES).map(|_| selector_run_case(&mut random)));
+    cases
+}
+
+/// Direct calls whose lists don't fit, each list and pair in turn, then sizes
+/// above the limit, then random ones.
+fn lengths() -> Vec<Case> {
+    let mut random = Random::new(LENGTHS_SEED);
+    let mut cases = every_length(&mut random);
+    cases.extend(every_limit(&mut random));
+    cases.extend((0..LENGTH_CASES).map(|_| length_case(&mut random)));
+    cases
+}
+
+/// What one rule alone decides, and indices whose low 32 bits are a point.
+fn turns_and_far_indices() -> Vec<Case> {
+    let mut random = Random::new(TURNS_SEED);
+    let mut cases = turns();
+    cases.extend(far_calls(&mut random));
+    cases.extend(far_references());
     cases
 }
 

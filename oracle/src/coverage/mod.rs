@@ -2,6 +2,7 @@
 
 mod branches;
 mod keys;
+mod lengths;
 mod required;
 mod rows;
 mod selectors;
@@ -92,6 +93,9 @@ impl Coverage {
             self.add(key);
         }
         for key in selectors::keys(case, outcome) {
+            self.add(key);
+        }
+        for key in lengths::keys(case, outcome) {
             self.add(key);
         }
     }

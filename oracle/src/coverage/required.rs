@@ -1,6 +1,6 @@
 //! What must come up in a run of the generator and in the sample.
 
-use super::{branches, keys::*, rows, selectors, shifts};
+use super::{branches, keys::*, lengths, rows, selectors, shifts};
 use crate::{
     generate::{OUTLINE_LINES, SELECTOR_LINES, SHIFT_LINES},
     replay::{name_of, needs_of, Needs},
@@ -21,6 +21,7 @@ pub fn required() -> Vec<String> {
     keys.extend(branches::required());
     keys.extend(shifts::required());
     keys.extend(selectors::required());
+    keys.extend(lengths::required());
     keys.extend(rows::required());
     keys
 }

@@ -44,12 +44,12 @@ pub fn iup_case(random: &mut Random) -> Case {
     Case { call, world }
 }
 
-fn leave_out_what_no_direct_call_takes(world: &mut World) {
+pub fn leave_out_what_no_direct_call_takes(world: &mut World) {
     world.lists[CONTROL_VALUES].clear();
     world.lists[SHEET].clear();
 }
 
-fn zone_call(random: &mut Random, world: &World) -> Call {
+pub fn zone_call(random: &mut Random, world: &World) -> Call {
     let zone = u32::from(!random.once_in(3));
     let index = index(random, world.points_of(zone));
     let axis = random.below(3) as u32;
@@ -81,6 +81,50 @@ fn zone_call(random: &mut Random, world: &World) -> Call {
             opcode: random.pick(&[0x32, 0x33, 0x34, 0x35, 0x36, 0x37, 0, 255]),
         },
     }
+}
+
+/// Each call once for each zone or axis that it can be about, at one index.
+pub fn every_call(random: &mut Random, index: u64) -> Vec<Call> {
+    let mut calls = Vec::new();
+    for zone in 0..2 {
+        let axis = random.below(3) as u32;
+        let distance = mixed(random);
+        calls.extend([
+            Call::Point { zone, index },
+            Call::Original { zone, index },
+            Call::Unscaled { zone, index },
+            Call::Touch { zone, index, axis },
+            Call::IsTouched { zone, index, axis },
+            Call::Untouch { zone, index, axis },
+            Call::FlipOnCurve { zone, index },
+            Call::SetOnCurve {
+                zone,
+                start: index,
+                end: index + 1,
+                on: random.flip(),
+            },
+            Call::Iup { axis: zone + 1 },
+            Call::MoveOriginal {
+                zone,
+                index,
+                distance,
+            },
+            Call::MovePoint {
+                zone,
+                index,
+                distance,
+            },
+            Call::MoveZp2Point {
+                index,
+                by: (mixed(random), distance),
+                do_touch: random.flip(),
+            },
+            Call::PointDisplacement {
+                opcode: 0x32 + zone,
+            },
+        ]);
+    }
+    calls
 }
 
 fn set_on_curve(random: &mut Random, zone: u32, points: usize) -> Call {

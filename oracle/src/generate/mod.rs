@@ -1,6 +1,8 @@
 //! Makes cases of every kind from a seed.
 
 mod calls;
+mod far;
+mod lengths;
 mod limits;
 mod lines;
 mod runs;
@@ -8,9 +10,12 @@ mod selectors;
 mod shift_grid;
 mod shifts;
 mod states;
+mod turns;
 mod worlds;
 
-pub use calls::{iup_case, zone_case};
+pub use calls::{every_call, iup_case, zone_case};
+pub use far::{far_calls, far_references};
+pub use lengths::{every_length, every_limit, length_case};
 pub use limits::{limit_cases, long_iup_case, long_iup_shift_case};
 pub use lines::{line_case, OUTLINE_LINES};
 pub use runs::{
@@ -22,6 +27,7 @@ pub use selectors::{
 };
 pub use shift_grid::every_shift;
 pub use shifts::{shift_case, SHIFT_LINES};
+pub use turns::turns;
 
 use crate::{case::Case, notable, random::Random};
 
@@ -32,7 +38,8 @@ fn is_later(opcode: u8) -> bool {
 }
 
 /// What no chance is left to: document 01's runs, the scenes of note, each
-/// opcode, each setter, each shift, each selector, the limits.
+/// opcode, each setter, each shift, each selector, the limits, lists that don't
+/// fit, far indices, and what one rule alone decides.
 pub fn fixed_cases(random: &mut Random) -> Vec<Case> {
     let mut cases = runs_of_01().to_vec();
     cases.extend(notable::lines());
@@ -43,12 +50,17 @@ pub fn fixed_cases(random: &mut Random) -> Vec<Case> {
     cases.extend(every_selector());
     cases.extend(selector_counts());
     cases.extend(limit_cases(random));
+    cases.extend(every_length(random));
+    cases.extend(every_limit(random));
+    cases.extend(far_calls(random));
+    cases.extend(far_references());
+    cases.extend(turns());
     cases
 }
 
 /// Any case at all, for comparisons, coverage and searches.
 pub fn any_case(random: &mut Random) -> Case {
-    match random.weighted(&[5, 4, 8, 5, 5, 4, 1, 4]) {
+    match random.weighted(&[5, 4, 8, 5, 5, 4, 1, 4, 1]) {
         0 => zone_case(random),
         1 => iup_case(random),
         2 => {
@@ -65,6 +77,7 @@ pub fn any_case(random: &mut Random) -> Case {
             let (_, opcodes) = random.pick(&SELECTOR_LINES);
             line_case(random, opcodes)
         }
-        _ => selector_run_case(random),
+        7 => selector_run_case(random),
+        _ => length_case(random),
     }
 }
