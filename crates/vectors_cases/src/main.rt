@@ -2,7 +2,8 @@
 //
 // A case agrees where the call says what the case says, and leaves every coordinate, every flag and the state as the case says (the crates
 // zone_calls, state_calls and runs). What this prints is held to the file `stdout`; the cases stand in the file `stdin`: the direct calls
-// other than iup, those of iup, single lines, runs, and the shifts and range flips.
+// other than iup, those of iup, single lines, runs, the shifts and range flips, the selectors, direct calls whose lists don't fit, and
+// cases that one rule alone decides.
 use cases::KIND;
 use cases::word;
 use libc::STDIN_FILENO;

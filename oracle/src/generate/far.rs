@@ -39,11 +39,17 @@ pub fn far_calls(random: &mut Random) -> Vec<Case> {
         let mut calls = every_call(random, far + near);
         calls.retain(|call| !matches!(call, Call::Iup { .. }));
         calls.extend(far_ranges(far, near));
-        // The glyph alone has unscaled points to mistake it for.
-        calls.extend((0..POINTS).map(|near| Call::Unscaled {
-            zone: 1,
-            index: far + near,
-        }));
+        for near in 0..POINTS {
+            let index = far + near;
+            // The glyph alone has unscaled points to mistake it for.
+            calls.push(Call::Unscaled { zone: 1, index });
+            // A lock or a freedom along one axis may leave nothing to look at.
+            calls.push(Call::MoveZp2Point {
+                index,
+                by: (64, -64),
+                do_touch: true,
+            });
+        }
         for call in calls {
             let world = peopled(random, far + near);
             cases.push(Case { call, world });

@@ -53,10 +53,19 @@ fn ends((x, y): Pair, (dx, dy): Pair) -> [Pair; 2] {
 /// b falls by 2^31, whose negation wraps, and leans to either side.
 fn isect_steep() -> Vec<Case> {
     let mut cases = Vec::new();
-    for dbx in [0, 1, -3, 64, -640, 4096, -(1 << 20), 1 << 25] {
+    for dbx in [
+        0,
+        1,
+        -640,
+        1 << 22,
+        -(1 << 23),
+        1 << 25,
+        -0x0123_4567,
+        0x0234_5678,
+    ] {
         for by in [(1, 0), (3, 5), (-64, 64), (127, -1), (-5, -900), (640, 3)] {
             let a = ends((-1, 128), by);
-            cases.push(isect(a, ends((-64, 7), (dbx, MIN))));
+            cases.push(isect(a, ends((-64, 900), (dbx, MIN))));
         }
     }
     cases
