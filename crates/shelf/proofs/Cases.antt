@@ -1,10 +1,14 @@
 -- A replay of a record by its parts: the lists that were loaded, and the verdict on the bytes. Assumes nothing.
-use mathlib.Core.List.{List}
+use mathlib.Core.List.{List, _++_}
 use mathlib.Core.Path.{_∙_, _≡_, ap, ap₂, refl, subst, sym}
 use Prim.Native.Nat.{_≤_, ℕ}
 use native.Mathlib.Omega.{arith}
 use lib.IntN.{ℤ}
-use lib.ListN.{length}
+use lib.ListN.{drop, length, take}
+use lib.Seq.{take-at}
+use Rattle.int.specs.Word.{ofBits}
+use Rattle.word_lists.proofs.Parts.{mapped-length}
+use Rattle.word_lists.specs.Lists.{endOf, endsOf, flagOf, flagsOf, numbersOf, part}
 use Rattle.graphics.specs.declared.GraphicsState.{GraphicsState}
 use Rattle.world.specs.World.{Fixed, World, fixed, world}
 use Rattle.layout.specs.Order.{listRoom}
@@ -15,15 +19,22 @@ use Rattle.record.specs.Read.{fixedIn, heldIn, layoutOf, numberOf, openOf, read
 use Rattle.record.specs.declared.Damage.{Damage}
 use Rattle.record.specs.declared.Opened.the-variants.{Damaged, Whole}
 use Rattle.after.specs.After.{shelved, shelvedFor}
+use Rattle.shelf.specs.Room.{pointRoom, twilightRoom}
 use Rattle.shelf.specs.Shelf.{onRead, refusedAs, shelfOf}
 
 -- ---- the lists that were loaded
--- a count as it is read, within a bound and within a list of that length
-pub read-within : {n m k : ℕ} → n ≡ m → m ≤ k → n ≤ k
-read-within e h = omega arith
+-- the front of what a list was loaded to
+front : {A : Type 0} (f rest l : List A) (n : ℕ) → l ≡ f ++ rest → length f ≡ n → take n l ≡ f
+front f rest l n e h = ap (take n) e ∙ take-at f rest n h
 
-pub held-within : {n m k l : ℕ} → k ≡ l → n ≡ m → m ≤ k → n ≤ l
-held-within f e h = omega arith
+pub numbers-front : (bytes : List ℕ) (at n : ℕ) (l z : List ℤ) → l ≡ numbersOf (part bytes at n) ++ drop n z → take n l ≡ numbersOf (part bytes at n)
+numbers-front bytes at n l z e = front (numbersOf (part bytes at n)) (drop n z) l n e (mapped-length ofBits bytes at n)
+
+pub flags-front : (bytes : List ℕ) (at n : ℕ) (l z : List ℕ) → l ≡ flagsOf (part bytes at n) ++ drop n z → take n l ≡ flagsOf (part bytes at n)
+flags-front bytes at n l z e = front (flagsOf (part bytes at n)) (drop n z) l n e (mapped-length flagOf bytes at n)
+
+pub ends-front : (bytes : List ℕ) (at n : ℕ) (l z : List ℕ) → l ≡ endsOf (part bytes at n) ++ drop n z → take n l ≡ endsOf (part bytes at n)
+ends-front bytes at n l z e = front (endsOf (part bytes at n)) (drop n z) l n e (mapped-length endOf bytes at n)
 
 pub same-world : {s s′ : GraphicsState} {gx gx′ gy gy′ : List ℤ} {gflags gflags′ : List ℕ} {tox tox′ toy toy′ tx tx′ ty ty′ : List ℤ} {tflags tflags′ : List ℕ}
     → s ≡ s′ → gx ≡ gx′ → gy ≡ gy′ → gflags ≡ gflags′ → tox ≡ tox′ → toy ≡ toy′ → tx ≡ tx′ → ty ≡ ty′ → tflags ≡ tflags′
@@ -48,17 +59,17 @@ module _ (bytes out : List ℕ) where
   unfolding shelfOf onRead
   opened l e = sym (ap (λ o. onRead out (readAs bytes o)) e ∙ ap (λ m. shelvedFor m (heldIn bytes l) out) (layout-kept bytes l))
 
--- a record's lists have no more words than are between its state and its trailer
-pub within : (bytes : List ℕ) (l : Layout) → openOf bytes ≡ Whole l → (l .points ≤ listRoom) × ((l .contours ≤ listRoom) × ((l .twilight ≤ listRoom) × ((l .controls ≤ listRoom) × (l .words ≤ listRoom))))
+-- a record's lists have no more words together than are between its state and its trailer
+pub within : (bytes : List ℕ) (l : Layout) → openOf bytes ≡ Whole l → (l .points ≤ pointRoom) × ((l .contours ≤ listRoom) × ((l .twilight ≤ twilightRoom) × ((l .controls ≤ listRoom) × (l .words ≤ listRoom))))
 within bytes l e =
     let s = sound bytes l e in
     let u = s .adds-up in
     let z = s .size-is in
     let m = layoutOf bytes in
     let g = layout-is bytes l e in
-    let p : m .points ≤ listRoom = omega (arith, u, z) in
+    let p : m .points ≤ pointRoom = omega (arith, u, z) in
     let c : m .contours ≤ listRoom = omega (arith, u, z) in
-    let t : m .twilight ≤ listRoom = omega (arith, u, z) in
+    let t : m .twilight ≤ twilightRoom = omega (arith, u, z) in
     let k : m .controls ≤ listRoom = omega (arith, u, z) in
     let w : m .words ≤ listRoom = omega (arith, u, z) in
-    subst (λ (n : Layout). (n .points ≤ listRoom) × ((n .contours ≤ listRoom) × ((n .twilight ≤ listRoom) × ((n .controls ≤ listRoom) × (n .words ≤ listRoom))))) g (p, (c, (t, (k, w))))
+    subst (λ (n : Layout). (n .points ≤ pointRoom) × ((n .contours ≤ listRoom) × ((n .twilight ≤ twilightRoom) × ((n .controls ≤ listRoom) × (n .words ≤ listRoom))))) g (p, (c, (t, (k, w))))

@@ -31,10 +31,18 @@ ghost use mathlib.Core.Path.{_≡_};
 ghost use Prim.Native.Nat.{_≤_};
 ghost use Rattle.world.specs.World.{fixed};
 ghost use Rattle.layout.specs.Order.{listRoom};
+ghost use Rattle.shelf.specs.Room.{pointRoom, twilightRoom};
 ghost use Rattle.record.specs.Format.{held};
 ghost use Rattle.record.specs.Read.{worldIn, heldIn};
 ghost use Rattle.after.specs.After.{shelved, shelvedFor};
 ghost use Rattle.shelf.specs.Shelf.{refusedAs, shelfOf};
+
+// No list of a record is longer than the words between its state and its trailer; a glyph point takes seven of these words, a twilight point five.
+const LIST_ROOM: usize = 6110;
+
+const POINT_ROOM: usize = 872;
+
+const TWILIGHT_ROOM: usize = 1222;
 
 // A replay over what lines only read; what they change is loaded here.
 fn replay_over(
@@ -49,20 +57,28 @@ fn replay_over(
     contours: &[u16],
     out: &mut [u8],
 ) -> Replayed
-    requires { ⌜ l .points ≤ listRoom ⌝ }
-    requires { ⌜ l .twilight ≤ listRoom ⌝ }
+    requires { ⌜ l .points ≤ pointRoom ⌝ }
+    requires { ⌜ l .twilight ≤ twilightRoom ⌝ }
     ensures { λ r. ⌜ shelved r (now (out .exit)) ≡ shelvedFor l (held (fixed (now (controls .entry)) (now (gux .entry)) (now (guy .entry)) (now (gox .entry)) (now (goy .entry)) (now (contours .entry))) (now (sheet .entry)) (worldIn (now (bytes .entry)) l)) (now (out .entry)) ⌝ }
 {
     let n = wide(l.points);
     let m = wide(l.twilight);
-    let mut gx = numbers_at(bytes, at_current_x(l), n);
-    let mut gy = numbers_at(bytes, at_current_y(l), n);
-    let mut gflags = flags_at(bytes, at_flags(l), n);
-    let mut tox = numbers_at(bytes, at_twilight_original_x(l), m);
-    let mut toy = numbers_at(bytes, at_twilight_original_y(l), m);
-    let mut tx = numbers_at(bytes, at_twilight_x(l), m);
-    let mut ty = numbers_at(bytes, at_twilight_y(l), m);
-    let mut tflags = flags_at(bytes, at_twilight_flags(l), m);
+    let mut gx = [0i32; POINT_ROOM];
+    numbers_at(bytes, at_current_x(l), n, &mut gx);
+    let mut gy = [0i32; POINT_ROOM];
+    numbers_at(bytes, at_current_y(l), n, &mut gy);
+    let mut gflags = [0u8; POINT_ROOM];
+    flags_at(bytes, at_flags(l), n, &mut gflags);
+    let mut tox = [0i32; TWILIGHT_ROOM];
+    numbers_at(bytes, at_twilight_original_x(l), m, &mut tox);
+    let mut toy = [0i32; TWILIGHT_ROOM];
+    numbers_at(bytes, at_twilight_original_y(l), m, &mut toy);
+    let mut tx = [0i32; TWILIGHT_ROOM];
+    numbers_at(bytes, at_twilight_x(l), m, &mut tx);
+    let mut ty = [0i32; TWILIGHT_ROOM];
+    numbers_at(bytes, at_twilight_y(l), m, &mut ty);
+    let mut tflags = [0u8; TWILIGHT_ROOM];
+    flags_at(bytes, at_twilight_flags(l), m, &mut tflags);
     let s = load_state(bytes);
     run_and_write(
         l,
@@ -88,9 +104,9 @@ fn replay_over(
 
 // A replay of a whole record; what lines only read is loaded here.
 fn replay_whole(bytes: &[u8], l: Layout, out: &mut [u8]) -> Replayed
-    requires { ⌜ l .points ≤ listRoom ⌝ }
+    requires { ⌜ l .points ≤ pointRoom ⌝ }
     requires { ⌜ l .contours ≤ listRoom ⌝ }
-    requires { ⌜ l .twilight ≤ listRoom ⌝ }
+    requires { ⌜ l .twilight ≤ twilightRoom ⌝ }
     requires { ⌜ l .controls ≤ listRoom ⌝ }
     requires { ⌜ l .words ≤ listRoom ⌝ }
     ensures { λ r. ⌜ shelved r (now (out .exit)) ≡ shelvedFor l (heldIn (now (bytes .entry)) l) (now (out .entry)) ⌝ }
@@ -99,13 +115,20 @@ fn replay_whole(bytes: &[u8], l: Layout, out: &mut [u8]) -> Replayed
     let values = wide(l.controls);
     let n = wide(l.points);
     let ends = wide(l.contours);
-    let sheet = numbers_at(bytes, at_sheet(l), words);
-    let controls = numbers_at(bytes, at_controls(l), values);
-    let gux = numbers_at(bytes, at_unscaled_x(l), n);
-    let guy = numbers_at(bytes, at_unscaled_y(l), n);
-    let gox = numbers_at(bytes, at_original_x(l), n);
-    let goy = numbers_at(bytes, at_original_y(l), n);
-    let contours = ends_at(bytes, at_ends(l), ends);
+    let mut sheet = [0i32; LIST_ROOM];
+    numbers_at(bytes, at_sheet(l), words, &mut sheet);
+    let mut controls = [0i32; LIST_ROOM];
+    numbers_at(bytes, at_controls(l), values, &mut controls);
+    let mut gux = [0i32; POINT_ROOM];
+    numbers_at(bytes, at_unscaled_x(l), n, &mut gux);
+    let mut guy = [0i32; POINT_ROOM];
+    numbers_at(bytes, at_unscaled_y(l), n, &mut guy);
+    let mut gox = [0i32; POINT_ROOM];
+    numbers_at(bytes, at_original_x(l), n, &mut gox);
+    let mut goy = [0i32; POINT_ROOM];
+    numbers_at(bytes, at_original_y(l), n, &mut goy);
+    let mut contours = [0u16; LIST_ROOM];
+    ends_at(bytes, at_ends(l), ends, &mut contours);
     replay_over(
         bytes,
         l,
