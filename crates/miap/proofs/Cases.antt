@@ -10,6 +10,7 @@ use lib.Dec.{ltb}
 use lib.IntN.{pos, ℤ}
 use lib.Signed.{ltZ}
 use Rattle.int.specs.Word.{abs32, sub32}
+use Rattle.math.specs.Fixed.{mulFix14}
 use Rattle.round.specs.Round.{roundOf}
 use Rattle.round.specs.declared.RoundState.{RoundState}
 use Rattle.answer.specs.declared.Refusal.the-variants.{ControlValue, Missing}
@@ -61,6 +62,12 @@ module _ (s : GraphicsState) (opcode : ℕ) (control own : ℤ) {odd : Bool} {co
   pub distance-even : odd ≡ false → r ≡ sub32 control′ own′ → r′ ≡ miapDistance s opcode control own
   unfolding miapDistance
   distance-even t er = rw (sym q ∙ t, er′, er, ec, eo) refl
+
+pub place-from :
+    (freedom : Vector) (control : ℤ) {control′ fx fy x x′ y y′ : ℤ} → control′ ≡ control → fx ≡ freedom .x → fy ≡ freedom .y → x′ ≡ x → x ≡ mulFix14 control′ fx → y′ ≡ y → y ≡ mulFix14 control′ fy →
+    record { x = x′; y = y′ } ≡ controlPlace freedom control
+unfolding controlPlace
+place-from freedom control ec efx efy ex′ ex ey′ ey = rw (ex′, ex, ey′, ey, ec, efx, efy) refl
 
 -- ---- one zone
 module _ (s : GraphicsState) (at : ℕ) (xs ys : List ℤ) (flags : List ℕ) where

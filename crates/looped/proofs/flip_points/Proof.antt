@@ -1,7 +1,6 @@
 -- `looped::flip_points` meets its contract: by whether points are held fast. Assumes nothing.
 use mathlib.Core.Path.{sym, ap, _∙_}
 use mathlib.Core.Bool.{Bool}
-use borrow.Author.Needs.{needs}
 use denote.Ref.{now}
 use Rattle.answer.specs.declared.Call.{Call}
 use Rattle.looped.proofs.Walk.{passed}
@@ -11,17 +10,17 @@ use Rattle.looped.proofs.flip_points.Statement.{statement}
 use Rattle.looped.proofs.flip_points.Tie as tie
 
 take-each-requires : tie.Need-take-each-requires
-take-each-requires c κs = search needs
+take-each-requires c κs = tt
 
 flip-each-requires : tie.Need-flip-each-requires
-flip-each-requires c κs = search needs
+flip-each-requires c κs = tt
 
 returns : tie.Need-returns
 returns c = let a = c .before .before .before .args in let o = now (a .operands) in let l = now (a .flags) in
     ap (λ (said : Call). ended said l) (c .take-each .ensures) ∙ passed (a .count) o l ∙ sym (ap (λ (held : Bool). each (flipUnless held) (a .count) o l) (c .before .if1 .taken))
 
 same-length : tie.Need-same-length
-same-length c = search needs
+same-length c = c .before .before .flip-each .kept .1 .1 .0
 
 returns-2 : tie.Need-returns-2
 returns-2 c = let f = c .before .before in let a = f .before .before .before .before .args in

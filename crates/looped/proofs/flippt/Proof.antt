@@ -1,7 +1,6 @@
 -- `looped::flippt` meets its contract: the loop is what `flip_points` ensures, and then the counter is put back. Assumes nothing.
 use mathlib.Core.Path.{ap, _∙_}
 use mathlib.Core.Bool.{Bool}
-use borrow.Author.Needs.{needs}
 use denote.Ref.{now}
 use Rattle.looped.proofs.Cases.{reset-after}
 use Rattle.looped.specs.Each.{each}
@@ -10,16 +9,16 @@ use Rattle.looped.proofs.flippt.Statement.{statement}
 use Rattle.looped.proofs.flippt.Tie as tie
 
 past-both-iups-requires : tie.Need-past-both-iups-requires
-past-both-iups-requires c κs = search needs
+past-both-iups-requires c κs = tt
 
 flip-points-requires : tie.Need-flip-points-requires
-flip-points-requires c κs = search needs
+flip-points-requires c κs = tt
 
 reset-loop-counter-requires : tie.Need-reset-loop-counter-requires
-reset-loop-counter-requires c κs = search needs
+reset-loop-counter-requires c κs = tt
 
 same-length : tie.Need-same-length
-same-length c = search needs
+same-length c = c .before .before .before .flip-points .kept .1 .1 .1 .0
 
 returns : tie.Need-returns
 unfolding flipptOf

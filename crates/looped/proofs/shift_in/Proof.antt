@@ -7,13 +7,13 @@ use Rattle.looped.proofs.shift_in.Statement.{statement}
 use Rattle.looped.proofs.shift_in.Tie as tie
 
 enum-told : tie.Need-enum-told
-enum-told c = search needs
+enum-told c = c .match .keys1
 
 shift-points-requires : tie.Need-shift-points-requires
 shift-points-requires c κs = search needs
 
 enum-told-2 : tie.Need-enum-told-2
-enum-told-2 c = search needs
+enum-told-2 c = c .match .keys2
 
 shift-points-requires-2 : tie.Need-shift-points-requires-2
 shift-points-requires-2 c κs = search needs

@@ -11,10 +11,10 @@ use Rattle.looped.proofs.shift_points.Statement.{statement}
 use Rattle.looped.proofs.shift_points.Tie as tie
 
 is-idle-requires : tie.Need-is-idle-requires
-is-idle-requires c κs = search needs
+is-idle-requires c κs = tt
 
 take-each-requires : tie.Need-take-each-requires
-take-each-requires c κs = search needs
+take-each-requires c κs = tt
 
 shift-each-requires : tie.Need-shift-each-requires
 shift-each-requires c κs = search needs

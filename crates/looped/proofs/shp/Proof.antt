@@ -1,7 +1,6 @@
 -- `looped::shp` meets its contract: by whether the reference point is refused; else the loop is what `shift_in` ensures. Assumes nothing.
-use mathlib.Core.Path.{ap, _∙_}
+use mathlib.Core.Path.{refl, ap, _∙_}
 use native.Mathlib.Omega.{arith}
-use borrow.Author.Needs.{needs}
 use denote.Ref.{now}
 use Rattle.int.proofs.Words.{back32}
 use Rattle.line.specs.declared.Stepped.{Stepped}
@@ -12,40 +11,40 @@ use Rattle.looped.proofs.shp.Statement.{statement}
 use Rattle.looped.proofs.shp.Tie as tie
 
 reference-of-requires : tie.Need-reference-of-requires
-reference-of-requires c κs = search needs
+reference-of-requires c κs = tt
 
 displaced-in-requires : tie.Need-displaced-in-requires
 displaced-in-requires c κs = let p = c .before .before .before .before .before .before .before .before .before .before .pre in (p .0, p .2, p .1, p .4)
 
 enum-known-displaced : tie.Need-enum-known-displaced
-enum-known-displaced c = search needs
+enum-known-displaced c = c .match .keys1
 
 refused-requires : tie.Need-refused-requires
-refused-requires c κs = search needs
+refused-requires c κs = tt
 
 enum-known-displaced-2 : tie.Need-enum-known-displaced-2
-enum-known-displaced-2 c = search needs
+enum-known-displaced-2 c = c .match .keys2
 
 zp2-move-of-requires : tie.Need-zp2-move-of-requires
-zp2-move-of-requires c κs = search needs
+zp2-move-of-requires c κs = tt
 
 shift-in-requires : tie.Need-shift-in-requires
 shift-in-requires c κs = let p = c .before .before .before .before .before .before .before .before .before .before .before .before .before .before .before .before .before .before .before .before .before .before .before .pre in (p .2, p .3, p .4, p .5)
 
 reset-loop-counter-requires : tie.Need-reset-loop-counter-requires
-reset-loop-counter-requires c κs = search needs
+reset-loop-counter-requires c κs = tt
 
 same-length : tie.Need-same-length
-same-length c = search needs
+same-length c = refl
 
 same-length-2 : tie.Need-same-length-2
-same-length-2 c = search needs
+same-length-2 c = refl
 
 same-length-3 : tie.Need-same-length-3
-same-length-3 c = search needs
+same-length-3 c = refl
 
 same-length-4 : tie.Need-same-length-4
-same-length-4 c = search needs
+same-length-4 c = refl
 
 returns : tie.Need-returns
 unfolding shiftBy

@@ -1,6 +1,5 @@
 -- `perform::perform` meets its contract: by the lists that the opcode's instruction is lent. Assumes nothing.
 use mathlib.Core.Path.{_∙_, refl, sym}
-use borrow.Author.Needs.{needs}
 use denote.Ref.{now}
 use Rattle.world.specs.World.{Fixed, World, fixed, world}
 use Rattle.lines.proofs.Cases.{all-line, contours-line, glyph-line, points-line, set-line}
@@ -21,31 +20,31 @@ lent-to-requires : tie.Need-lent-to-requires
 lent-to-requires c κs = tt
 
 enum-told : tie.Need-enum-told
-enum-told c = search needs
+enum-told c = c .match .keys1
 
 set-state-requires : tie.Need-set-state-requires
 set-state-requires c κs = tt
 
 enum-known-lent : tie.Need-enum-known-lent
-enum-known-lent c = search needs
+enum-known-lent c = c .match .keys2
 
 on-glyph-requires : tie.Need-on-glyph-requires
 on-glyph-requires c κs = let s = c .before .before .before .before .before .before .before .before .before .before .before in (s .pre .4, s .pre .5, s .pre .0, s .pre .1, s .pre .2, s .pre .3)
 
 enum-known-lent-2 : tie.Need-enum-known-lent-2
-enum-known-lent-2 c = search needs
+enum-known-lent-2 c = c .match .keys3
 
 on-points-requires : tie.Need-on-points-requires
 on-points-requires c κs = let s = c .before .before .before .before .before .before .before .before .before .before .before .before .before .before in (s .pre .4, s .pre .5, s .pre .7, s .pre .8)
 
 enum-known-lent-3 : tie.Need-enum-known-lent-3
-enum-known-lent-3 c = search needs
+enum-known-lent-3 c = c .match .keys4
 
 on-contours-requires : tie.Need-on-contours-requires
 on-contours-requires c κs = let s = c .before .before .before .before .before .before .before .before .before .before .before .before .before .before .before .before in (s .pre .3 ∙ sym (s .pre .2), s .pre .6, s .pre .4, s .pre .5, s .pre .7, s .pre .8)
 
 enum-known-lent-4 : tie.Need-enum-known-lent-4
-enum-known-lent-4 c = search needs
+enum-known-lent-4 c = c .match .keys5
 
 on-all-requires : tie.Need-on-all-requires
 on-all-requires c κs = let s = c .before .before .before .before .before .before .before .before .before .before .before .before .before .before .before .before in (s .pre .3 ∙ sym (s .pre .2), s .pre .6, s .pre .4, s .pre .5, s .pre .7, s .pre .8)

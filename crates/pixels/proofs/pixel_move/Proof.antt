@@ -1,6 +1,5 @@
 -- `pixels::pixel_move` meets its contract: the amount laid along each axis, and the move of both. Assumes nothing.
 use native.Mathlib.Omega.{arith}
-use borrow.Author.Needs.{needs}
 use mir.Facts.{toZ-ofZ}
 use Rattle.int.proofs.Words.{back32}
 use Rattle.pixels.proofs.Cases.{laid-along}
@@ -8,13 +7,13 @@ use Rattle.pixels.proofs.pixel_move.Statement.{statement}
 use Rattle.pixels.proofs.pixel_move.Tie as tie
 
 mul14-requires : tie.Need-mul14-requires
-mul14-requires c κs = search needs
+mul14-requires c κs = tt
 
 mul14-requires-2 : tie.Need-mul14-requires-2
-mul14-requires-2 c κs = search needs
+mul14-requires-2 c κs = tt
 
 zp2-move-of-requires : tie.Need-zp2-move-of-requires
-zp2-move-of-requires c κs = search needs
+zp2-move-of-requires c κs = tt
 
 returns : tie.Need-returns
 returns c = let y = c .before in let g = y .before in let x = g .before in let f = x .before in let s = f .before .before .before .before in let a = s .args in

@@ -14,7 +14,7 @@ use Rattle.pixels.proofs.shift_by_amount.Statement.{statement}
 use Rattle.pixels.proofs.shift_by_amount.Tie as tie
 
 refused-requires : tie.Need-refused-requires
-refused-requires c κs = search needs
+refused-requires c κs = tt
 
 returns : tie.Need-returns
 returns c = let i = c .before in let a = i .before .before .before .before .args in
@@ -25,7 +25,7 @@ shared-slice-copy-out-pixel-move : tie.Need-shared-slice-copy-out-pixel-move
 shared-slice-copy-out-pixel-move c = search needs
 
 pixel-move-requires : tie.Need-pixel-move-requires
-pixel-move-requires c κs = search needs
+pixel-move-requires c κs = tt
 
 sub-shift-in : tie.Need-sub-shift-in
 sub-shift-in c = search needs
@@ -40,25 +40,25 @@ shift-in-requires : tie.Need-shift-in-requires
 shift-in-requires c κs = search needs
 
 reset-loop-counter-requires : tie.Need-reset-loop-counter-requires
-reset-loop-counter-requires c κs = search needs
+reset-loop-counter-requires c κs = tt
 
 same-length : tie.Need-same-length
-same-length c = search needs
+same-length c = c .before .before .before .before .before .before .before .before .before .shift-in .kept .1 .1 .1 .1 .0
 
 same-length-2 : tie.Need-same-length-2
-same-length-2 c = search needs
+same-length-2 c = c .before .before .before .before .before .before .before .before .before .shift-in .kept .1 .1 .1 .1 .1 .0
 
 same-length-3 : tie.Need-same-length-3
-same-length-3 c = search needs
+same-length-3 c = c .before .before .before .before .before .before .before .before .before .shift-in .kept .1 .1 .1 .1 .1 .1 .0
 
 same-length-4 : tie.Need-same-length-4
-same-length-4 c = search needs
+same-length-4 c = c .before .before .before .before .before .before .before .before .before .shift-in .kept .1 .1 .1 .1 .1 .1 .1 .0
 
 same-length-5 : tie.Need-same-length-5
-same-length-5 c = search needs
+same-length-5 c = c .before .before .before .before .before .before .before .before .before .shift-in .kept .1 .1 .1 .1 .1 .1 .1 .1 .0
 
 same-length-6 : tie.Need-same-length-6
-same-length-6 c = search needs
+same-length-6 c = c .before .before .before .before .before .before .before .before .before .shift-in .kept .1 .1 .1 .1 .1 .1 .1 .1 .1 .0
 
 returns-2 : tie.Need-returns-2
 returns-2 c = let t = c .before .before .before .before .before .before .before .before .before in let m = t .before .before .before .before .before .before .before .before in let i = m .before .before in let a = i .before .before .before .before .args in
