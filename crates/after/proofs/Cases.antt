@@ -5,13 +5,13 @@ use Prim.Native.Nat.{ℕ}
 use lib.IntN.{ℤ}
 use lib.ListN.{length}
 use Rattle.world.specs.World.{Fixed, World, world}
-use Rattle.onward.specs.Onward.{detailOfAnswer, numberOfAnswer, ran}
+use Rattle.onward.specs.Onward.{Ran, detailOfAnswer, numberOfAnswer, ran}
 use Rattle.onward.specs.declared.Outcome.{Outcome}
 use Rattle.replay.specs.Run.{runOf}
 use Rattle.layout.specs.declared.Layout.{Layout}
 use Rattle.record.specs.Format.{held}
 use Rattle.record_write.specs.Written.{writeOf, wrote}
-use Rattle.after.specs.After.{shelved, shelvedAs, shelvedFor, told}
+use Rattle.after.specs.After.{lists, listsAfter, listsOf, shelved, shelvedAs, shelvedFor, told}
 use Rattle.after.specs.declared.Replayed.{Replayed}
 
 -- ---- what is said
@@ -33,3 +33,10 @@ ran-and-written l f sheet w out o gx gy gflags tox toy tx ty tflags {size} {left
     ap (λ r. shelved r left) t
     ∙ ap (shelvedAs l (ran o gx gy gflags tox toy tx ty tflags)) g
     ∙ ap (λ r. shelvedAs l r (writeOf (held f sheet (r .world)) out)) e
+
+-- ---- what is left in the lists
+pub lists-left : (f : Fixed) (sheet : List ℤ) (w : World)
+    (o : Outcome) (gx gy : List ℤ) (gflags : List ℕ) (tox toy tx ty : List ℤ) (tflags : List ℕ)
+    → ran o gx gy gflags tox toy tx ty tflags ≡ runOf f sheet (length sheet) 0 w
+    → lists gx gy gflags tox toy tx ty tflags ≡ listsAfter (held f sheet w)
+lists-left f sheet w o gx gy gflags tox toy tx ty tflags e = ap (λ (r : Ran). listsOf (r .world)) e

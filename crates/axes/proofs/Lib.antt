@@ -7,6 +7,7 @@ pub mod Looped
 pub mod Mdap
 pub mod Miap
 pub mod Msirp
+pub mod Opcodes
 pub mod Rows
 pub mod Seen
 pub mod Shifts

@@ -1,7 +1,7 @@
 -- `after::run_and_write` meets its contract: the run's world is what is written. Assumes nothing.
 use denote.Ref.{now}
 use Rattle.world.specs.World.{fixed, world}
-use Rattle.after.proofs.Cases.{ran-and-written}
+use Rattle.after.proofs.Cases.{lists-left, ran-and-written}
 use Rattle.after.proofs.run_and_write.Statement.{statement}
 use Rattle.after.proofs.run_and_write.Tie as tie
 
@@ -48,9 +48,15 @@ returns c =
     let run = write .before .before .before .before .before .before .before .before .before .before .before .before .before .before .before .before .before .before .before .before in
     let args = run .before .before .before .before .before .before .before .before .before .before .before .before .before in
     let a = args .args in
-    ran-and-written (a .l) (fixed (now (a .controls)) (now (a .gux)) (now (a .guy)) (now (a .gox)) (now (a .goy)) (now (a .contours))) (now (a .sheet)) (world (a .s) (now (a .gx)) (now (a .gy)) (now (a .gflags)) (now (a .tox)) (now (a .toy)) (now (a .tx)) (now (a .ty)) (now (a .tflags))) (now (a .out)) (run .run .result)
-    (run .run .last .1 .1 .1 .1 .1 .1 .1 .1 .1 .0) (run .run .last .1 .1 .1 .1 .1 .1 .1 .1 .1 .1 .0) (run .run .last .1 .1 .1 .1 .1 .1 .1 .1 .1 .1 .1 .0) (run .run .last .1 .1 .1 .1 .1 .1 .1 .1 .1 .1 .1 .1 .1 .0) (run .run .last .1 .1 .1 .1 .1 .1 .1 .1 .1 .1 .1 .1 .1 .1 .0) (run .run .last .1 .1 .1 .1 .1 .1 .1 .1 .1 .1 .1 .1 .1 .1 .1 .0) (run .run .last .1 .1 .1 .1 .1 .1 .1 .1 .1 .1 .1 .1 .1 .1 .1 .1 .0) (run .run .last .1 .1 .1 .1 .1 .1 .1 .1 .1 .1 .1 .1 .1 .1 .1 .1 .1 .0)
-    (run .run .ensures) (write .write .ensures) (say .say .ensures)
+    let f = fixed (now (a .controls)) (now (a .gux)) (now (a .guy)) (now (a .gox)) (now (a .goy)) (now (a .contours)) in
+    let w = world (a .s) (now (a .gx)) (now (a .gy)) (now (a .gflags)) (now (a .tox)) (now (a .toy)) (now (a .tx)) (now (a .ty)) (now (a .tflags)) in (
+      ran-and-written (a .l) f (now (a .sheet)) w (now (a .out)) (run .run .result)
+          (run .run .last .1 .1 .1 .1 .1 .1 .1 .1 .1 .0) (run .run .last .1 .1 .1 .1 .1 .1 .1 .1 .1 .1 .0) (run .run .last .1 .1 .1 .1 .1 .1 .1 .1 .1 .1 .1 .0) (run .run .last .1 .1 .1 .1 .1 .1 .1 .1 .1 .1 .1 .1 .1 .0) (run .run .last .1 .1 .1 .1 .1 .1 .1 .1 .1 .1 .1 .1 .1 .1 .0) (run .run .last .1 .1 .1 .1 .1 .1 .1 .1 .1 .1 .1 .1 .1 .1 .1 .0) (run .run .last .1 .1 .1 .1 .1 .1 .1 .1 .1 .1 .1 .1 .1 .1 .1 .1 .0) (run .run .last .1 .1 .1 .1 .1 .1 .1 .1 .1 .1 .1 .1 .1 .1 .1 .1 .1 .0)
+          (run .run .ensures) (write .write .ensures) (say .say .ensures),
+      lists-left f (now (a .sheet)) w (run .run .result)
+          (run .run .last .1 .1 .1 .1 .1 .1 .1 .1 .1 .0) (run .run .last .1 .1 .1 .1 .1 .1 .1 .1 .1 .1 .0) (run .run .last .1 .1 .1 .1 .1 .1 .1 .1 .1 .1 .1 .0) (run .run .last .1 .1 .1 .1 .1 .1 .1 .1 .1 .1 .1 .1 .1 .0) (run .run .last .1 .1 .1 .1 .1 .1 .1 .1 .1 .1 .1 .1 .1 .1 .0) (run .run .last .1 .1 .1 .1 .1 .1 .1 .1 .1 .1 .1 .1 .1 .1 .1 .0) (run .run .last .1 .1 .1 .1 .1 .1 .1 .1 .1 .1 .1 .1 .1 .1 .1 .1 .0) (run .run .last .1 .1 .1 .1 .1 .1 .1 .1 .1 .1 .1 .1 .1 .1 .1 .1 .1 .0)
+          (run .run .ensures),
+    )
 
 pub run-and-write-spec : {M : Type 1} → statement M
 run-and-write-spec = tie.close (tie.spec run-requires write-requires say-requires same-length same-length-2 same-length-3 same-length-4 same-length-5 same-length-6 same-length-7 same-length-8 same-length-9 returns)
