@@ -68,7 +68,7 @@ def refusals(log):
     refused, under the file that the proof would have."""
     own, unfit = [], []
     for line in log.splitlines():
-        sought = re.match(r"fn \S+: no proof: expected `[^`]+` in (\S+); `search` does not close (.*)", line)
+        sought = re.match(r"fn \S+: no proof: expected `[^`]+` in (?:\S*/)?(proofs/\S+); `search` does not close (.*)", line)
         if sought:
             own += [(sought.group(1), name) for name in re.findall(r"`([^`]+)`", sought.group(2).split(";")[0])]
             continue
