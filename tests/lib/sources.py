@@ -63,7 +63,7 @@ def calls(crate):
 def table(asked):
     """The rows of docs/PROMISES.md's table of calls; `asked` has the words that stand there on what a crate's calls ask of their callers."""
     rows = []
-    for crate in product():
+    for crate in sorted(product()):
         found = list(calls(crate))
         for path in dict.fromkeys(call.path for call in found):
             here = [call for call in found if call.path == path]
