@@ -72,13 +72,14 @@ def refusals(log):
         if sought:
             own += [(sought.group(1), name) for name in re.findall(r"`([^`]+)`", sought.group(2).split(";")[0])]
             continue
+        if "has no `Need-" in line:
+            unfit.append(line[:160])
+            continue
         found = re.match(r"(?:.*/)?((?:proofs|specs|src)/\S+?):\d+:\d+: error: (?:`([^`]+)`: )?(.*)", line)
         if not found:
             continue
         file, name, why = found.groups()
-        if "has no `Need-" in why:
-            unfit.append(f"{file} {name}: {why[:160]}")
-        elif name and "was not admitted" not in why and (file, name) not in own:
+        if name and "was not admitted" not in why and (file, name) not in own:
             own.append((file, name))
     return own, unfit
 
