@@ -6,10 +6,9 @@ An edit file (crates/NAME/must-fail/*.edit) is rt's: 'file:', 'old:' and 'new:' 
     # refused: FILE NAME
 
 where NAME is a declaration of FILE that must be refused at its own text, and not because something that it cites was refused."""
-import pathlib
 import re
 
-ROOT = pathlib.Path(__file__).resolve().parents[2]
+from listed import ROOT
 
 
 class Impostor:

@@ -1,9 +1,7 @@
 """The public functions of the product's crates, read off their sources."""
 import re
 
-import impostors
-
-ROOT = impostors.ROOT
+from listed import ROOT, dependencies
 
 
 class Call:
@@ -11,15 +9,6 @@ class Call:
         self.crate, self.path, self.name = crate, path, name
         self.parameters = parameters  # (name, type), in order
         self.requires, self.ensures = [], []
-
-
-def dependencies():
-    deps = {}
-    for line in (ROOT / "crates.txt").read_text().splitlines():
-        name, colon, rest = line.split("#")[0].partition(":")
-        if colon:
-            deps[name.strip()] = rest.split()
-    return deps
 
 
 def product():
