@@ -1,6 +1,6 @@
 -- A run between what was read and what is written. Assumes nothing.
 use mathlib.Core.List.{List}
-use mathlib.Core.Path.{_∙_, _≡_, ap, ap₂}
+use mathlib.Core.Path.{_∙_, _≡_, ap, ap₂, sym}
 use Prim.Native.Nat.{ℕ}
 use lib.IntN.{ℤ}
 use lib.ListN.{length}
@@ -11,7 +11,7 @@ use Rattle.replay.specs.Run.{runOf}
 use Rattle.layout.specs.declared.Layout.{Layout}
 use Rattle.record.specs.Format.{held}
 use Rattle.record_write.specs.Written.{writeOf, wrote}
-use Rattle.after.specs.After.{lists, listsAfter, listsOf, shelved, shelvedAs, shelvedFor, told}
+use Rattle.after.specs.After.{leftWith, ranFrom, shelved, shelvedAs, shelvedFor, told}
 use Rattle.after.specs.declared.Replayed.{Replayed}
 
 -- ---- what is said
@@ -38,5 +38,7 @@ ran-and-written l f sheet w out o gx gy gflags tox toy tx ty tflags {size} {left
 pub lists-left : (f : Fixed) (sheet : List ℤ) (w : World)
     (o : Outcome) (gx gy : List ℤ) (gflags : List ℕ) (tox toy tx ty : List ℤ) (tflags : List ℕ)
     → ran o gx gy gflags tox toy tx ty tflags ≡ runOf f sheet (length sheet) 0 w
-    → lists gx gy gflags tox toy tx ty tflags ≡ listsAfter (held f sheet w)
-lists-left f sheet w o gx gy gflags tox toy tx ty tflags e = ap (λ (r : Ran). listsOf (r .world)) e
+    → leftWith (held f sheet w) gx gy gflags tox toy tx ty tflags ≡ ranFrom (held f sheet w) .world
+lists-left f sheet w o gx gy gflags tox toy tx ty tflags e =
+    ap (λ (r : Ran). world (r .world .state) gx gy gflags tox toy tx ty tflags) (sym e)
+    ∙ ap (λ (r : Ran). r .world) e

@@ -3,7 +3,7 @@ use Prim.Native.Nat.{ℕ}
 use mathlib.Core.List.{List}
 use lib.IntN.{ℤ}
 use lib.ListN.{length}
-use Rattle.world.specs.World.{World}
+use Rattle.world.specs.World.{World, world}
 use Rattle.onward.specs.Onward.{Ran, numberOfAnswer, detailOfAnswer}
 use Rattle.onward.specs.declared.Outcome.{Outcome}
 use Rattle.replay.specs.Run.{runOf}
@@ -28,25 +28,9 @@ ranFrom h = runOf (h .fixed) (h .sheet) (length (h .sheet)) 0 (h .world)
 abbrev pub after : Held → Held
 after h = held (h .fixed) (h .sheet) (ranFrom h .world)
 
--- the lists that a run changes, as it leaves them
-pub record Lists : Type 0 where
-  pub gx : List ℤ
-  pub gy : List ℤ
-  pub gflags : List ℕ
-  pub tox : List ℤ
-  pub toy : List ℤ
-  pub tx : List ℤ
-  pub ty : List ℤ
-  pub tflags : List ℕ
-
-abbrev pub lists : List ℤ → List ℤ → List ℕ → List ℤ → List ℤ → List ℤ → List ℤ → List ℕ → Lists
-lists gx gy gflags tox toy tx ty tflags = record { gx = gx; gy = gy; gflags = gflags; tox = tox; toy = toy; tx = tx; ty = ty; tflags = tflags }
-
-abbrev pub listsOf : World → Lists
-listsOf w = lists (w .gx) (w .gy) (w .gflags) (w .tox) (w .toy) (w .tx) (w .ty) (w .tflags)
-
-abbrev pub listsAfter : Held → Lists
-listsAfter h = listsOf (ranFrom h .world)
+-- the world after the run, with these lists in the place of its own
+abbrev pub leftWith : Held → List ℤ → List ℤ → List ℕ → List ℤ → List ℤ → List ℤ → List ℤ → List ℕ → World
+leftWith h gx gy gflags tox toy tx ty tflags = world (ranFrom h .world .state) gx gy gflags tox toy tx ty tflags
 
 -- number, place, lines and detail, the bytes that are written, and how the lists lie in them
 abbrev pub saidOf : Layout → Ran → ℕ → Replayed

@@ -1,7 +1,7 @@
 // A run of what a record holds, and the record as it stands afterwards: document 02, K4.
 //
-// `run_and_write` answers for every input: what it says and writes is one equation with `shelvedFor` of specs/After.antt, and what it leaves in the lists
-// that it is lent another with `listsAfter`.
+// `run_and_write` answers for every input: what it says and writes is one equation with `shelvedFor` of specs/After.antt, and the lists that it is lent
+// hold the world of `ranFrom`.
 use graphics::GraphicsState;
 use layout::Layout;
 use onward::Outcome;
@@ -10,7 +10,7 @@ use replay::run;
 ghost use mathlib.Core.Path.{_≡_};
 ghost use Rattle.world.specs.World.{fixed, world};
 ghost use Rattle.record.specs.Format.{held};
-ghost use Rattle.after.specs.After.{shelved, shelvedFor, told, lists, listsAfter};
+ghost use Rattle.after.specs.After.{ranFrom, leftWith, shelved, shelvedFor, told};
 
 // What a replay says: the answer, how many bytes of the record were left, and how its lists lie.
 pub struct Replayed {
@@ -58,7 +58,7 @@ pub fn run_and_write(
     out: &mut [u8],
 ) -> Replayed
     ensures { λ r. ⌜ shelved r (now (out .exit)) ≡ shelvedFor l (held (fixed (now (controls .entry)) (now (gux .entry)) (now (guy .entry)) (now (gox .entry)) (now (goy .entry)) (now (contours .entry))) (now (sheet .entry)) (world s (now (gx .entry)) (now (gy .entry)) (now (gflags .entry)) (now (tox .entry)) (now (toy .entry)) (now (tx .entry)) (now (ty .entry)) (now (tflags .entry)))) (now (out .entry)) ⌝ }
-    ensures { λ r. ⌜ lists (now (gx .exit)) (now (gy .exit)) (now (gflags .exit)) (now (tox .exit)) (now (toy .exit)) (now (tx .exit)) (now (ty .exit)) (now (tflags .exit)) ≡ listsAfter (held (fixed (now (controls .entry)) (now (gux .entry)) (now (guy .entry)) (now (gox .entry)) (now (goy .entry)) (now (contours .entry))) (now (sheet .entry)) (world s (now (gx .entry)) (now (gy .entry)) (now (gflags .entry)) (now (tox .entry)) (now (toy .entry)) (now (tx .entry)) (now (ty .entry)) (now (tflags .entry)))) ⌝ }
+    ensures { λ r. ⌜ leftWith (held (fixed (now (controls .entry)) (now (gux .entry)) (now (guy .entry)) (now (gox .entry)) (now (goy .entry)) (now (contours .entry))) (now (sheet .entry)) (world s (now (gx .entry)) (now (gy .entry)) (now (gflags .entry)) (now (tox .entry)) (now (toy .entry)) (now (tx .entry)) (now (ty .entry)) (now (tflags .entry)))) (now (gx .exit)) (now (gy .exit)) (now (gflags .exit)) (now (tox .exit)) (now (toy .exit)) (now (tx .exit)) (now (ty .exit)) (now (tflags .exit)) ≡ ranFrom (held (fixed (now (controls .entry)) (now (gux .entry)) (now (guy .entry)) (now (gox .entry)) (now (goy .entry)) (now (contours .entry))) (now (sheet .entry)) (world s (now (gx .entry)) (now (gy .entry)) (now (gflags .entry)) (now (tox .entry)) (now (toy .entry)) (now (tx .entry)) (now (ty .entry)) (now (tflags .entry)))) .world ⌝ }
 {
     let outcome = run(
         0,
