@@ -15,7 +15,7 @@ pub fn decided(machine: &Machine, opcode: u8, operands: &[i32]) -> Option<Decide
     match (opcode, operands) {
         (0x34 | 0x35, [contour, ..]) => bad_contour(machine, widened(*contour)),
         (0x38, _) => shift_by_pixels(machine),
-        (0x81 | 0x82, [high, low, ..]) => range_to_the_last(machine, widened(*high), widened(*low)),
+        (0x81 | 0x82, [high, low, ..]) => range_to_the_last(widened(*high), widened(*low)),
         _ => None,
     }
 }
@@ -33,13 +33,7 @@ fn shift_by_pixels(machine: &Machine) -> Option<Decided> {
         .then_some(Err((answer::SHIFT_BY_PIXELS, 0)))
 }
 
-/// The Rust refuses the high point with 7, even where nothing is flipped.
-fn range_to_the_last(machine: &Machine, high: u64, low: u64) -> Option<Decided> {
-    if high != LAST_INDEX {
-        return None;
-    }
-    if machine.is_past_both_iups() {
-        return Some(Ok(()));
-    }
-    Some(Err((answer::RANGE, low)))
+/// The Rust refuses the high point with 7, before it asks for the IUPs.
+fn range_to_the_last(high: u64, low: u64) -> Option<Decided> {
+    (high == LAST_INDEX).then_some(Err((answer::RANGE, low)))
 }

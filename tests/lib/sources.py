@@ -49,6 +49,55 @@ def calls(crate):
             yield call
 
 
+# What users call, beside the direct calls. The calls of PURE are users' too: they are lent no list to change, but for those that are faces for that.
+FACES = {"replay": "run", "exports": "taleviqa_run", "shelf": "replay", "record_print": "print", "record": "open", "record_write": "write"}
+PURE = ("int", "math", "round", "selector", "point", "graphics", "projection", "state_words")
+
+
+def is_direct(call):
+    return call.name.startswith("try_")
+
+
+def faces():
+    """The calls of which one outcome is stated call by call."""
+    for crate in sorted(product()):
+        for call in calls(crate):
+            lent = any(kind.startswith("&mut") for _, kind in call.parameters)
+            if FACES.get(crate) == call.name or is_direct(call) or (crate in PURE and lent):
+                yield call
+
+
+OUTCOMES = "crates/laws_outcome/proofs/Outcome.antt"
+DIRECT = "crates/laws_direct/proofs/Said.antt"
+
+
+def law_of(call):
+    """The law in DIRECT on what a direct call says; with -has-one-outcome behind it, that in OUTCOMES."""
+    return call.name.replace("_", "-")
+
+
+def stated(path, law):
+    """What a public law of a file says, on one line; None where there is no such law."""
+    found = re.search(rf"\bpub {law} :(.*?)\n\s*{law}\s", (ROOT / path).read_text(), re.S)
+    return found and " ".join(found.group(1).split())
+
+
+def one_outcome(call):
+    """What `NAME-has-one-outcome` must end with: the contract twice, for r₁ and the lists left beside it and for r₂ and its lists, and that the parts are equal."""
+    premises, left, answers = [], [], False
+    for k in "₁₂":
+        for clause in call.ensures:
+            result, said = re.fullmatch(r"\s*λ (\w+)\. ⌜(.*)⌝\s*", clause, re.S).groups()
+            answers = answers or result != "_"
+            left += [name for name in re.findall(r"\((\w+) \.exit\)", said) if name not in left]
+            said = re.sub(rf"(?<![\w.]){result}(?!\w)", "r" + k, said)
+            for when, mark in (("exit", k), ("entry", "")):
+                said = re.sub(rf"now \((\w+) \.{when}\)", rf"\1{mark}", said)
+            premises.append(" ".join(re.sub(r"\((\w+)\)", r"\1", said).split()))
+    parts = [f"{name}₁ ≡ {name}₂" for name in ["r"] * answers + left]
+    return " → ".join(premises + [parts[0] if len(parts) == 1 else " × ".join(f"({part})" for part in parts)])
+
+
 def table(asked):
     """The rows of docs/PROMISES.md's table of calls; `asked` has the words that stand there on what a crate's calls ask of their callers."""
     rows = []
@@ -59,3 +108,10 @@ def table(asked):
             names = ", ".join(f"`{name}`" for name in dict.fromkeys(call.name for call in here))
             rows.append(f"| {names} in `{path}` | {asked.get(str(path), '')} |".replace("|  |", "| |"))
     return rows
+
+
+def face_table():
+    """The rows of docs/PROMISES.md's table of faces."""
+    for call in faces():
+        says = f"`{law_of(call)}` in `{DIRECT}`" if is_direct(call) else ""
+        yield f"| `{call.name}` in `{call.path}` | `{law_of(call)}-has-one-outcome` in `{OUTCOMES}` | {says} |".replace("|  |", "| |")

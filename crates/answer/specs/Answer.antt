@@ -1,4 +1,5 @@
--- The number and the detail of each refusal: document 01, "What the replayer says back"; 12 and 13 are document 02's, K1. Assumes nothing.
+-- The number and the detail of each refusal, and what a direct call says: document 01, "What the replayer says back"; 12 and 13 are document 02's,
+-- K1. Assumes nothing.
 use Prim.Native.Nat.{ℕ}
 use Rattle.answer.specs.declared.Refusal.{Refusal}
 use Rattle.answer.specs.declared.Refusal.the-variants.{Sizes, State, Line, Surplus, Missing, Point, ControlValue, ZonePointer, LoopCount, Range, Contour, Compatibility}
@@ -34,11 +35,24 @@ detailOf (Range start) = start
 detailOf (Contour at) = at
 detailOf Compatibility = 0
 
--- a direct call that returns nothing: 0 where it is done
-abbrev pub numberOfCall : Call → ℕ
-numberOfCall Done = 0
-numberOfCall (Refused why) = numberOf why
+-- ---- what a direct call says
+pub record Said : Type 0 where
+  pub number : ℕ
+  pub place : ℕ
+  pub lines : ℕ
+  pub detail : ℕ
 
-abbrev pub detailOfCall : Call → ℕ
-detailOfCall Done = 0
-detailOfCall (Refused why) = detailOf why
+-- "with place and lines 0"
+abbrev pub saidDirectly : ℕ → ℕ → Said
+saidDirectly number detail = record { number = number; place = 0; lines = 0; detail = detail }
+
+abbrev pub saidDone : Said
+saidDone = saidDirectly 0 0
+
+abbrev pub saidBy : Refusal → Said
+saidBy why = saidDirectly (numberOf why) (detailOf why)
+
+-- of a call that returns nothing; one that returns a value has an enum of its own, which says the same
+abbrev pub saidOfCall : Call → Said
+saidOfCall Done = saidDone
+saidOfCall (Refused why) = saidBy why

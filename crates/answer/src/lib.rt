@@ -1,9 +1,10 @@
 // What the replayer says back: why a call was refused, with the number and detail of document 01 (and 02's K1) for each reason.
 //
 // Each reason is a case of `Refusal`; specs/Answer.antt gives its number and its detail, and every promise on refusals goes
-// through these two definitions. What a refusal leaves in coordinates, flags and state is said where it is given.
+// through these two definitions. What a direct call says is `Said` there: number, place, lines and detail. What a refusal leaves in
+// coordinates, flags and state is said where it is given.
 ghost use mathlib.Core.Path.{_≡_};
-ghost use Rattle.answer.specs.Answer.{numberOf, detailOf, numberOfCall, detailOfCall};
+ghost use Rattle.answer.specs.Answer.{numberOf, detailOf, saidOfCall};
 
 pub enum Refusal {
     // Unequal lengths, or a size above its limit.
@@ -80,7 +81,7 @@ pub enum Call {
 
 impl Call {
     pub fn number(self) -> u32
-        ensures { λ r. ⌜ r ≡ numberOfCall self ⌝ }
+        ensures { λ r. ⌜ r ≡ saidOfCall self .number ⌝ }
     {
         match self {
             Call::Done => 0,
@@ -89,7 +90,7 @@ impl Call {
     }
 
     pub fn detail(self) -> u64
-        ensures { λ r. ⌜ r ≡ detailOfCall self ⌝ }
+        ensures { λ r. ⌜ r ≡ saidOfCall self .detail ⌝ }
     {
         match self {
             Call::Done => 0,

@@ -1,6 +1,6 @@
 -- Demand 3, the first half: two runs of one sheet over worlds that are seen alike along an axis, the vectors along it, no line reached mixing the axes, end
--- alike along it. Line by line the same line is read, does the same along the axis and leaves the vectors along it; the entry tests look at lengths
--- and the state alone. `axes-apart` is said of the definition that `run` equals, for either axis. Assumes nothing.
+-- alike along it. Line by line the same line is read, does the same along the axis and leaves the vectors along it; the entry tests look at lengths,
+-- the state and the start alone. `axes-apart` is said of the definition that `run` equals, for either axis; Plain.antt has it in plain words. Assumes nothing.
 use mathlib.Core.Bool.{Bool, _&&_, cond, false, not, true}
 use mathlib.Core.List.{List, [], _∷_}
 use mathlib.Core.Path.{_∙_, _≡_, ap, ap₂, refl, subst, sym}
@@ -10,7 +10,7 @@ use borrow.Author.Tests.{not-true}
 use Prim.Native.Nat.{suc, zero, ℕ}
 use lib.IntN.{ℤ}
 use Rattle.onward.specs.declared.Answer.{Answer}
-use Rattle.axes.specs.declared.Axis.{Axis}
+use Rattle.point.specs.declared.Axis.{Axis}
 use Rattle.answer.specs.declared.Call.{Call}
 use Rattle.answer.specs.declared.Call.the-variants.{Done, Refused as RefusedCall}
 use Rattle.onward.specs.declared.Answer.the-variants.{Finished, OutOfBudget, Refused}
@@ -19,9 +19,9 @@ use Rattle.onward.specs.Onward.{Ran, ends, onCall, onWent, replayOf}
 use Rattle.replay.specs.Run.{entryOf, onEntry as runOnEntry, runOf}
 use Rattle.step.specs.Step.{Went, stepOf}
 use Rattle.world.specs.Sizes.{fits, worldFits}
-use Rattle.apart.specs.Reached.{SameAlong, afterCall, afterLine, linesReached, none, onEntry as reachedOnEntry, opcodeAt, reachedFrom}
+use Rattle.apart.specs.Reached.{SameAlong, afterCall, afterLine, entered, linesReached, none, onEntry as reachedOnEntry, opcodeAt, reachedFrom}
 use Rattle.axes.specs.Axes.{Straight, fixedSeen, mixes, worldSeen}
-use Rattle.axes.specs.declared.Axis.the-variants.{X, Y}
+use Rattle.point.specs.declared.Axis.the-variants.{X, Y}
 use Rattle.graphics.specs.State.{allAlong, usableState, xAxis, yAxis}
 use Rattle.graphics.proofs.Laws.{and-left, and-right}
 use Rattle.zone.specs.Sizes.{glyphFits, pairFits, placedFits, twilightFits}
@@ -66,7 +66,7 @@ module _ (a : Axis) (f g : Fixed) (sheet : List ℤ) (ef : fixedSeen a f ≡ fix
       (step-straight a f sheet at w e m)
       (and-right (not (mixes a (opcodeAt sheet at))) _ free))
 
-  free-here : (t : Bool) (op : ℕ) (ops : List ℕ) → t ≡ true → none (mixes a) (cond t (op ∷ ops) []) ≡ true → not (mixes a op) && none (mixes a) ops ≡ true
+  pub free-here : (t : Bool) (op : ℕ) (ops : List ℕ) → t ≡ true → none (mixes a) (cond t (op ∷ ops) []) ≡ true → not (mixes a op) && none (mixes a) ops ≡ true
   free-here true op ops e free = free
   free-here false op ops e free = cc e
 
@@ -87,10 +87,7 @@ unfolding fits glyphFits twilightFits pairFits placedFits
 fits-seen a f sheet w =
     rw (x-length a (f .gux), y-length a (f .guy), x-length a (f .gox), y-length a (f .goy), x-length a (w .gx), y-length a (w .gy), x-length a (w .tox), y-length a (w .toy), x-length a (w .tx), y-length a (w .ty))
 
-abbrev entered : Fixed → List ℤ → ℕ → World → Call
-entered f sheet start w = entryOf (worldFits f sheet w) (usableState (w .state)) (leb start (length sheet))
-
-entry-alike : (a : Axis) (f g : Fixed) (sheet : List ℤ) (start : ℕ) (w v : World) → fixedSeen a f ≡ fixedSeen a g → worldSeen a w ≡ worldSeen a v
+pub entry-alike : (a : Axis) (f g : Fixed) (sheet : List ℤ) (start : ℕ) (w v : World) → fixedSeen a f ≡ fixedSeen a g → worldSeen a w ≡ worldSeen a v
     → entered f sheet start w ≡ entered g sheet start v
 entry-alike a f g sheet start w v ef ew =
     ap₂ (λ (t u : Bool). entryOf t u (leb start (length sheet)))

@@ -7,7 +7,7 @@ use mathlib.Core.Path.{_∙_, _≡_, ap, ap₂, refl, sym}
 use lib.ListN.{drop, getD, length, take}
 use lib.Dec.{eqb, ltb}
 use lib.IntN.{pos, ℤ}
-use Rattle.axes.specs.declared.Axis.{Axis}
+use Rattle.point.specs.declared.Axis.{Axis}
 use Rattle.sheet.specs.declared.Decoded.{Decoded}
 use Rattle.world.specs.World.{Fixed, World, world}
 use Rattle.sheet.specs.declared.Decoded.the-variants.{Operands, Refused as RefusedLine}

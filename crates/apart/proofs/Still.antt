@@ -5,25 +5,24 @@ use mathlib.Core.List.{List, [], _∷_, map}
 use Prim.Native.Nat.{_-_, suc, zero, ℕ}
 use mathlib.Core.Path.{_∙_, _≡_, ap, refl, subst, sym}
 use lib.ListN.{drop, length, take}
-use lib.Dec.{leb, ltb}
+use lib.Dec.{ltb}
 use borrow.Author.Tests.{not-true}
 use lib.IntN.{ℤ}
-use Rattle.axes.specs.declared.Axis.{Axis}
+use Rattle.point.specs.declared.Axis.{Axis}
 use Rattle.answer.specs.declared.Call.{Call}
 use Rattle.sheet.specs.declared.Decoded.{Decoded}
 use Rattle.answer.specs.declared.Call.the-variants.{Done, Refused as RefusedCall}
 use Rattle.world.specs.World.{Fixed, World}
 use Rattle.sheet.specs.declared.Decoded.the-variants.{Operands, Refused as RefusedLine}
 use Rattle.onward.specs.Onward.{Ran, onCall, onWent, replayOf}
-use Rattle.replay.specs.Run.{entryOf, onEntry as runOnEntry, runOf}
+use Rattle.replay.specs.Run.{onEntry as runOnEntry, runOf}
 use Rattle.step.specs.Step.{onDecoded, stepOf}
-use Rattle.world.specs.Sizes.{worldFits}
 use Rattle.axes.specs.Axes.{Straight, interpolatesAcross, mixes}
 use Rattle.axes.proofs.Inert.{stays, then}
 use Rattle.axes.proofs.Still.{WorldStill, line-still}
-use Rattle.axes.specs.declared.Axis.the-variants.{X, Y}
-use Rattle.apart.specs.Reached.{afterCall, afterLine, linesReached, none, onEntry as reachedOnEntry, opcodeAt, reachedFrom}
-use Rattle.graphics.specs.State.{allAlong, usableState, xAxis, yAxis}
+use Rattle.point.specs.declared.Axis.the-variants.{X, Y}
+use Rattle.apart.specs.Reached.{afterCall, afterLine, entered, linesReached, none, onEntry as reachedOnEntry, opcodeAt, reachedFrom}
+use Rattle.graphics.specs.State.{allAlong, xAxis, yAxis}
 use Rattle.graphics.proofs.Laws.{and-left, and-right}
 use Rattle.point.specs.Flag.{bit}
 use Rattle.sheet.specs.Table.{decodeOf}
@@ -101,7 +100,7 @@ pub across-still : (a : Axis) (f : Fixed) (sheet : List ℤ) (budget start : ℕ
     → WorldStill a w (runOf f sheet budget start w .world)
 unfolding runOf linesReached
 across-still a f sheet budget start w e free =
-    entry-still a f sheet budget start w e (entryOf (worldFits f sheet w) (usableState (w .state)) (leb start (length sheet))) free
+    entry-still a f sheet budget start w e (entered f sheet start w) free
 
 -- the same of the public call: whatever a call of `run` returns and leaves, by its contract
 pub run-still : (a : Axis) (f : Fixed) (sheet : List ℤ) (budget start : ℕ) (w : World) (r : Ran) → r ≡ runOf f sheet budget start w → Straight a (w .state)
@@ -109,18 +108,29 @@ pub run-still : (a : Axis) (f : Fixed) (sheet : List ℤ) (budget start : ℕ) (
     → WorldStill a w (r .world)
 run-still a f sheet budget start w r e straight free = subst (λ (x : Ran). WorldStill a w (x .world)) (sym e) (across-still a f sheet budget start w straight free)
 
--- vectors straight up, nothing interpolated in x: every glyph point's x and x-touch mark is what it was
+-- ---- the two instances
+neither : (m i r s t : Bool) → not m && r ≡ true → not i && s ≡ true → (r ≡ true → s ≡ true → t ≡ true) → not (m || i) && t ≡ true
+neither false false r s t p q both = both p q
+neither false true r s t p q both = cc q
+neither true i r s t p q both = cc p
+
+none-across : (a : Axis) (ops : List ℕ) → none (mixes a) ops ≡ true → none (interpolatesAcross a) ops ≡ true → none (worksAcross a) ops ≡ true
+none-across a [] p q = refl
+none-across a (op ∷ ops) p q =
+    neither (mixes a op) (interpolatesAcross a op) (none (mixes a) ops) (none (interpolatesAcross a) ops) (none (worksAcross a) ops) p q (none-across a ops)
+
+-- vectors straight up, no line reached mixing the axes, and none IUP[x]: every glyph point's x and x-touch mark is what it was
 pub vertical-run-still : (f : Fixed) (sheet : List ℤ) (budget start : ℕ) (w : World) → w .state .vectors ≡ allAlong yAxis
-    → none (worksAcross Y) (linesReached f sheet budget start w) ≡ true
+    → none (mixes Y) (linesReached f sheet budget start w) ≡ true → none (interpolatesAcross Y) (linesReached f sheet budget start w) ≡ true
     → (runOf f sheet budget start w .world .gx ≡ w .gx) × (map (bit 1) (runOf f sheet budget start w .world .gflags) ≡ map (bit 1) (w .gflags))
-vertical-run-still f sheet budget start w straight free =
-    let s = across-still Y f sheet budget start w straight free in
+vertical-run-still f sheet budget start w straight free still =
+    let s = across-still Y f sheet budget start w straight (none-across Y (linesReached f sheet budget start w) free still) in
     (s .coordinates, s .marks)
 
--- vectors level, nothing interpolated in y: the same with the axes exchanged
+-- vectors level, no line reached mixing the axes, and none IUP[y]: every glyph point's y and y-touch mark is what it was
 pub horizontal-run-still : (f : Fixed) (sheet : List ℤ) (budget start : ℕ) (w : World) → w .state .vectors ≡ allAlong xAxis
-    → none (worksAcross X) (linesReached f sheet budget start w) ≡ true
+    → none (mixes X) (linesReached f sheet budget start w) ≡ true → none (interpolatesAcross X) (linesReached f sheet budget start w) ≡ true
     → (runOf f sheet budget start w .world .gy ≡ w .gy) × (map (bit 2) (runOf f sheet budget start w .world .gflags) ≡ map (bit 2) (w .gflags))
-horizontal-run-still f sheet budget start w straight free =
-    let s = across-still X f sheet budget start w straight free in
+horizontal-run-still f sheet budget start w straight free still =
+    let s = across-still X f sheet budget start w straight (none-across X (linesReached f sheet budget start w) free still) in
     (s .coordinates, s .marks)

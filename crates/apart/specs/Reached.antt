@@ -1,4 +1,4 @@
--- Which lines a run reaches, and when two runs end alike along an axis: document 01, demand 3. Assumes nothing.
+-- Which lines a run reaches and how many, and when two runs end alike along an axis: document 01, demand 3. Assumes nothing.
 use mathlib.Core.Path.{_≡_}
 use mathlib.Core.Bool.{Bool, true, cond, not, _&&_}
 use mathlib.Core.List.{List, [], _∷_}
@@ -12,8 +12,11 @@ use Rattle.answer.specs.declared.Call.the-variants.{Done, Refused}
 use Rattle.graphics.specs.State.{usableState}
 use Rattle.world.specs.World.{Fixed, World}
 use Rattle.axes.specs.Axes.{worldSeen}
-use Rattle.axes.specs.declared.Axis.{Axis}
+use Rattle.point.specs.declared.Axis.{Axis}
 use Rattle.onward.specs.Onward.{Ran}
+use Rattle.onward.specs.declared.Answer.{Answer}
+use Rattle.onward.specs.declared.Answer.the-variants.{Finished, OutOfBudget}
+use Rattle.onward.specs.declared.Answer.the-variants.{Refused as RefusedRun}
 use Rattle.replay.specs.Run.{entryOf}
 use Rattle.step.specs.Step.{Went, stepOf}
 use Rattle.world.specs.Sizes.{worldFits}
@@ -36,19 +39,30 @@ reachedFrom f sheet zero at w = []
 reachedFrom f sheet (suc budget) at w =
     cond (ltb at (length sheet)) (opcodeAt sheet at ∷ afterLine (reachedFrom f sheet budget) (stepOf f sheet at w)) []
 
+-- what the entry of a run says
+abbrev pub entered : Fixed → List ℤ → ℕ → World → Call
+entered f sheet start w = entryOf (worldFits f sheet w) (usableState (w .state)) (leb start (length sheet))
+
 unfoldable pub onEntry : List ℕ → Call → List ℕ
 onEntry reached Done = reached
 onEntry reached (Refused why) = []
 
 -- a run that is refused at its entry reaches no line
 unfoldable pub linesReached : Fixed → List ℤ → ℕ → ℕ → World → List ℕ
-linesReached f sheet budget start w =
-    onEntry (reachedFrom f sheet budget start w) (entryOf (worldFits f sheet w) (usableState (w .state)) (leb start (length sheet)))
+linesReached f sheet budget start w = onEntry (reachedFrom f sheet budget start w) (entered f sheet start w)
 
 -- none of them is such a line
 abbrev pub none : (ℕ → Bool) → List ℕ → Bool
 none such [] = true
 none such (op ∷ ops) = not (such op) && none such ops
+
+-- how many they are, by what the entry says, the answer and the count: the lines finished, and one more where a line was refused. A run refused
+-- with no line finished was refused by its entry, which reaches none, or by its first line
+unfoldable pub reachedBy : Call → Answer → ℕ → ℕ
+reachedBy Done Finished finished = finished
+reachedBy Done OutOfBudget finished = finished
+reachedBy Done (RefusedRun why) finished = suc finished
+reachedBy (Refused why) answer finished = 0
 
 -- two runs that end alike along an axis: the answer with its detail, the place, the count, and of the worlds the state, the flags and the coordinates
 -- along the axis, of both zones

@@ -6,7 +6,7 @@ use lib.IntN.{ℤ}
 use Rattle.align.specs.declared.Aligning.{Aligning}
 use Rattle.align.specs.declared.Aligning.the-variants.{Along, Refused as RefusedAligning}
 use Rattle.zone.specs.declared.Fetched.the-variants.{At, Refused as RefusedPlace}
-use Rattle.axes.specs.declared.Axis.{Axis}
+use Rattle.point.specs.declared.Axis.{Axis}
 use Rattle.moves.specs.Apply.{BothMoved, applyIn, applyOf, bothMoved, movedGlyph, movedTwilight}
 use Rattle.zone.specs.declared.Fetched.{Fetched}
 use Rattle.graphics.specs.declared.ZonePointer.the-variants.{Glyph, Twilight}

@@ -9,7 +9,7 @@ use lib.ListN.{getD, length}
 use lib.Seq.{map-set-same}
 use lib.IntN.{ℤ}
 use Prim.Native.Nat.{ℕ}
-use Rattle.axes.specs.declared.Axis.{Axis}
+use Rattle.point.specs.declared.Axis.{Axis}
 use Rattle.answer.specs.declared.Call.the-variants.{Done, Refused as RefusedCall}
 use Rattle.graphics.specs.declared.Facts.{Facts}
 use Rattle.graphics.specs.declared.ZonePointer.the-variants.{Glyph, Twilight}
@@ -18,7 +18,7 @@ use Rattle.answer.specs.declared.Refusal.the-variants.{Point}
 use Rattle.looped.specs.Looped.{Points, Zones, shiftAt, shiftEachIn, shiftUnlessIdle}
 use Rattle.axes.specs.Axes.{Still, across, markAcross, marksAcross, unitOf}
 use Rattle.graphics.specs.declared.Vectors.{Vectors}
-use Rattle.axes.specs.declared.Axis.the-variants.{X, Y}
+use Rattle.point.specs.declared.Axis.the-variants.{X, Y}
 use Rattle.graphics.specs.declared.ZonePointer.{ZonePointer}
 use Rattle.graphics.specs.State.{allAlong}
 use Rattle.moves.specs.Apply.{applyOf, moved}

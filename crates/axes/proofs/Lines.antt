@@ -10,7 +10,7 @@ use Prim.Native.Nat.{ℕ}
 use lib.IntN.{ℤ}
 use Rattle.lines.specs.declared.Instruction.the-variants.{Alignrp, Flippt, Fliprg, Isect, Iup, Mdap, Miap, Msirp, Set, Shc, Shp, Shpix, Shz}
 use Rattle.places.specs.Placed.{AllPlaced, BothPlaced}
-use Rattle.axes.specs.declared.Axis.{Axis}
+use Rattle.point.specs.declared.Axis.{Axis}
 use Rattle.world.specs.World.{Fixed, World, lined}
 use Rattle.lines.specs.declared.Instruction.{Instruction}
 use Rattle.interpolate.specs.Interpolated.{Interpolated}

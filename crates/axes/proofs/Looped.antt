@@ -5,7 +5,7 @@ use mathlib.Core.Path.{_∙_, _≡_, ap, ap₂, refl}
 use Prim.Native.Nat.{ℕ}
 use lib.IntN.{ℤ}
 use Rattle.zone.specs.declared.Fetched.the-variants.{At, Refused as RefusedPlace}
-use Rattle.axes.specs.declared.Axis.{Axis}
+use Rattle.point.specs.declared.Axis.{Axis}
 use Rattle.moves.specs.declared.Displaced.the-variants.{By, Refused as RefusedDisplacement}
 use Rattle.moves.specs.declared.Displaced.{Displaced}
 use Rattle.answer.specs.declared.Call.the-variants.{Done}

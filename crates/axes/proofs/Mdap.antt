@@ -8,7 +8,7 @@ use lib.Dec.{ltb}
 use lib.IntN.{pos, ℤ}
 use Prim.Native.Nat.{ℕ}
 use Rattle.zone.specs.declared.Fetched.the-variants.{At, Refused as RefusedPlace}
-use Rattle.axes.specs.declared.Axis.{Axis}
+use Rattle.point.specs.declared.Axis.{Axis}
 use Rattle.places.specs.Placed.{BothPlaced, Placed, bothPlaced, placed, placedGlyph, placedTwilight}
 use Rattle.zone.specs.declared.Fetched.{Fetched}
 use Rattle.graphics.specs.declared.ZonePointer.the-variants.{Glyph, Twilight}
@@ -19,7 +19,7 @@ use Rattle.line.specs.declared.Stepped.{Stepped}
 use Rattle.axes.specs.Axes.{Straight, unitOf, xSeen, ySeen}
 use Rattle.graphics.specs.declared.Vector.{Vector}
 use Rattle.graphics.specs.declared.Vectors.{Vectors}
-use Rattle.axes.specs.declared.Axis.the-variants.{X, Y}
+use Rattle.point.specs.declared.Axis.the-variants.{X, Y}
 use Rattle.graphics.specs.declared.ZonePointer.{ZonePointer}
 use Rattle.graphics.specs.State.{allAlong}
 use Rattle.zone.specs.Zone.{fetchOf}

@@ -8,7 +8,7 @@ use lib.IntN.{pos, ℤ}
 use Prim.Native.Nat.{ℕ}
 use Rattle.places.specs.Placed.{AllPlaced, Placed, TwilightPlaced, allGlyph, allPlaced, allTwilight, placed, twilightPlaced}
 use Rattle.zone.specs.declared.Fetched.the-variants.{At, Refused as RefusedPlace}
-use Rattle.axes.specs.declared.Axis.{Axis}
+use Rattle.point.specs.declared.Axis.{Axis}
 use Rattle.answer.specs.declared.Refusal.the-variants.{ControlValue, Missing}
 use Rattle.zone.specs.declared.Fetched.{Fetched}
 use Rattle.graphics.specs.declared.ZonePointer.the-variants.{Glyph, Twilight}

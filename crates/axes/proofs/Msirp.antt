@@ -6,7 +6,7 @@ use lib.ListN.{getD, length, length-set, set}
 use lib.Dec.{ltb}
 use lib.IntN.{pos, ℤ}
 use Prim.Native.Nat.{ℕ}
-use Rattle.axes.specs.declared.Axis.{Axis}
+use Rattle.point.specs.declared.Axis.{Axis}
 use Rattle.answer.specs.declared.Call.{Call}
 use Rattle.answer.specs.declared.Call.the-variants.{Done, Refused}
 use Rattle.graphics.specs.declared.ZonePointer.the-variants.{Glyph, Twilight}
@@ -17,7 +17,7 @@ use Rattle.places.specs.Placed.{Placed, twilightPlaced}
 use Rattle.axes.specs.Axes.{Straight, unitOf, xSeen, ySeen}
 use Rattle.graphics.specs.declared.Vector.{Vector}
 use Rattle.graphics.specs.declared.Vectors.{Vectors}
-use Rattle.axes.specs.declared.Axis.the-variants.{X, Y}
+use Rattle.point.specs.declared.Axis.the-variants.{X, Y}
 use Rattle.graphics.specs.declared.ZonePointer.{ZonePointer}
 use Rattle.graphics.specs.State.{allAlong}
 use Rattle.moves.specs.Apply.{applyOf}

@@ -5,7 +5,7 @@ use mathlib.Core.List.{List, [], _∷_}
 use mathlib.Core.Path.{_≡_, refl}
 use Prim.Native.Nat.{suc, zero, ℕ}
 use Rattle.axes.specs.Axes.{interpolatesAcross, mixes}
-use Rattle.axes.specs.declared.Axis.the-variants.{X, Y}
+use Rattle.point.specs.declared.Axis.the-variants.{X, Y}
 
 -- the numbers that pass a test, among so many from one on
 abbrev pub passing : (ℕ → Bool) → ℕ → ℕ → List ℕ

@@ -12,10 +12,9 @@ use Prim.Native.Nat.{_+_, _-_, _≤_, suc, ℕ}
 use Rattle.answer.specs.declared.Call.the-variants.{Done, Refused as RefusedCall}
 use Rattle.answer.specs.declared.Refusal.the-variants.{Range}
 use Rattle.axes.specs.Axes.{Straight, markAcross, marksAcross}
-use Rattle.axes.specs.declared.Axis.the-variants.{X, Y}
-use Rattle.axes.specs.declared.Axis.{Axis}
+use Rattle.point.specs.declared.Axis.the-variants.{X, Y}
+use Rattle.point.specs.declared.Axis.{Axis}
 use Rattle.graphics.proofs.Laws.{and-left}
-use Rattle.graphics.specs.State.{pastBothIups}
 use Rattle.graphics.specs.declared.GraphicsState.{GraphicsState}
 use Rattle.graphics.specs.declared.ZonePointer.the-variants.{Glyph, Twilight}
 use Rattle.graphics.specs.declared.ZonePointer.{ZonePointer}
@@ -32,7 +31,7 @@ use Rattle.places.specs.Lines.{indexAt, isOdd}
 use Rattle.places.specs.Places.{sizeOf}
 use Rattle.point.proofs.Bits.{and-keeps, or-keeps}
 use Rattle.point.specs.Flag.{bit}
-use Rattle.ranges.specs.Ranges.{fliprgOf}
+use Rattle.ranges.specs.Ranges.{fliprgOf, heldFast}
 use Rattle.shifts.specs.Shifts.{shcAt, shcOf, shzOf}
 use Rattle.spans.specs.Span.{pointsFrom, sameZone, shiftBut, shiftSpan, shiftSpanIn, spanBy, spanOf}
 use Rattle.zone.specs.Zone.{marked, onCurve, overPart, setOnCurveOf}
@@ -84,7 +83,7 @@ pub fliprg-still : (a : Axis) (s : GraphicsState) (op : ℕ) (operands : List �
 unfolding fliprgOf
 fliprg-still a s op operands flags =
     either (MarksStill a flags) (ltb (length operands) 2) refl
-    (either (MarksStill a flags) (pastBothIups (s .facts)) refl (set-still a flags (indexAt operands 1) (suc (indexAt operands 0)) (isOdd op)))
+    (either (MarksStill a flags) (heldFast s (indexAt operands 0)) refl (set-still a flags (indexAt operands 1) (suc (indexAt operands 0)) (isOdd op)))
 
 -- ---- the shifts
 abbrev GlyphStill : Axis → Points → Went Zones → Type 0

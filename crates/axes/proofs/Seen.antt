@@ -8,7 +8,7 @@ use lib.Dec.{ltb}
 use lib.IntN.{pos, ℤ}
 use Prim.Native.Nat.{suc, zero, ℕ}
 use Rattle.zone.specs.declared.Fetched.the-variants.{At, Refused as RefusedPlace}
-use Rattle.axes.specs.declared.Axis.{Axis}
+use Rattle.point.specs.declared.Axis.{Axis}
 use Rattle.answer.specs.declared.Call.the-variants.{Done, Refused}
 use Rattle.zone.specs.declared.Fetched.{Fetched}
 use Rattle.moves.specs.declared.Move.{Move}
@@ -17,7 +17,7 @@ use Rattle.answer.specs.declared.Refusal.the-variants.{Point}
 use Rattle.answer.specs.declared.Refusal.{Refusal}
 use Rattle.graphics.specs.declared.Vector.{Vector}
 use Rattle.graphics.specs.declared.Vectors.{Vectors}
-use Rattle.axes.specs.declared.Axis.the-variants.{X, Y}
+use Rattle.point.specs.declared.Axis.the-variants.{X, Y}
 use Rattle.int.specs.Word.{add32}
 use Rattle.graphics.specs.State.{allAlong}
 use Rattle.projection.proofs.Laws.{along-x-axis, along-y-axis}

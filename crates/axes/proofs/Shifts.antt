@@ -10,7 +10,7 @@ use Prim.Native.Nat.{_-_, suc, ℕ}
 use Rattle.answer.specs.declared.Call.the-variants.{Done}
 use Rattle.answer.specs.declared.Refusal.the-variants.{Compatibility, Missing, ZonePointer as BadZone}
 use Rattle.axes.specs.Axes.{Straight, xSeen, ySeen}
-use Rattle.axes.specs.declared.Axis.{Axis}
+use Rattle.point.specs.declared.Axis.{Axis}
 use Rattle.graphics.specs.declared.GraphicsState.{GraphicsState}
 use Rattle.graphics.specs.declared.ZonePointer.the-variants.{Glyph, Twilight}
 use Rattle.graphics.specs.declared.ZonePointer.{ZonePointer}

@@ -14,7 +14,7 @@ use Prim.Native.Nat.{ℕ}
 use Rattle.lines.specs.declared.Instruction.the-variants.{Alignrp, Flippt, Fliprg, Isect, Iup, Mdap, Miap, Msirp, Set, Shc, Shp, Shpix, Shz}
 use Rattle.places.specs.Placed.{AllPlaced, BothPlaced, Placed}
 use Rattle.zone.specs.declared.Fetched.the-variants.{At, Refused as RefusedPlace}
-use Rattle.axes.specs.declared.Axis.{Axis}
+use Rattle.point.specs.declared.Axis.{Axis}
 use Rattle.moves.specs.declared.Displaced.the-variants.{By, Refused as RefusedDisplacement}
 use Rattle.answer.specs.declared.Call.{Call}
 use Rattle.moves.specs.declared.Displaced.{Displaced}
@@ -29,7 +29,7 @@ use Rattle.moves.specs.declared.Move.{Move}
 use Rattle.answer.specs.declared.Refusal.the-variants.{Point}
 use Rattle.looped.specs.Looped.{Zones, flipAt, flipUnless, flipptOf, shiftBy, shpOf}
 use Rattle.axes.specs.Axes.{Still, Straight, across, interpolatesAcross, markAcross, marksAcross, mixes, turnsAcross}
-use Rattle.axes.specs.declared.Axis.the-variants.{X, Y}
+use Rattle.point.specs.declared.Axis.the-variants.{X, Y}
 use Rattle.graphics.specs.declared.ZonePointer.{ZonePointer}
 use Rattle.align.specs.Align.{alignAt, alignBy, alignFrom, aligningOf, alignrpOf, zonesLeft}
 use Rattle.graphics.specs.State.{pastBothIups}

@@ -9,13 +9,13 @@ use lib.Dec.{eqb, ltb}
 use borrow.Author.Tests.{ltb-true}
 use lib.IntN.{ℤ}
 use Rattle.lines.specs.declared.Instruction.the-variants.{Alignrp, Flippt, Fliprg, Isect, Iup, Mdap, Miap, Msirp, Set, Shc, Shp, Shpix, Shz}
-use Rattle.axes.specs.declared.Axis.{Axis}
+use Rattle.point.specs.declared.Axis.{Axis}
 use Rattle.world.specs.World.{Fixed, World}
 use Rattle.graphics.specs.declared.GraphicsState.{GraphicsState}
 use Rattle.lines.specs.declared.Instruction.{Instruction}
 use Rattle.axes.specs.Axes.{Straight, mixes, turnsAcross}
 use Rattle.graphics.specs.declared.Vectors.{Vectors}
-use Rattle.axes.specs.declared.Axis.the-variants.{X, Y}
+use Rattle.point.specs.declared.Axis.the-variants.{X, Y}
 use Rattle.sheet.specs.Setters.{axisBy, setBy, vectorsBy}
 use Rattle.lines.specs.Dispatch.{instructionOf, lineBy, lineOf, zonesOf}
 use Rattle.graphics.specs.State.{measuredAlong, movedAlong, xAxis, yAxis}

@@ -21,7 +21,7 @@ use Rattle.line.specs.declared.Stepped.{Stepped}
 use Rattle.graphics.specs.declared.Vector.{Vector}
 use Rattle.graphics.specs.declared.ZonePointer.{ZonePointer}
 use Rattle.looped.specs.Looped.{Went, Zones, flipptOf, shiftBy, shpOf}
-use Rattle.ranges.specs.Ranges.{fliprgOf}
+use Rattle.ranges.specs.Ranges.{fliprgOf, heldFast}
 use Rattle.pixels.specs.Pixels.{shiftByAmount, shpixOf}
 use Rattle.spans.specs.Span.{spanBy, spanOf}
 use Rattle.shifts.specs.Shifts.{shcAt, shcOf, shzOf}
@@ -104,7 +104,7 @@ shp-held s op operands gox goy tox toy z = shift-held s operands z _
 -- ---- the range flips, SHPIX, SHC and SHZ
 pub fliprg-held : (s : GraphicsState) (op : ℕ) (operands : List ℤ) (flags : List ℕ) → Held s (fliprgOf s op operands flags .stepped .state)
 unfolding fliprgOf
-fliprg-held s op operands flags = either (WentHeld s) (ltb (length operands) 2) refl (either (WentHeld s) (pastBothIups (s .facts)) refl refl)
+fliprg-held s op operands flags = either (WentHeld s) (ltb (length operands) 2) refl (either (WentHeld s) (heldFast s (indexAt operands 0)) refl refl)
 
 amount-held : (s : GraphicsState) (z : Zones) (operands : List ℤ) → Held s (shiftByAmount s z operands .stepped .state)
 unfolding shiftByAmount

@@ -12,8 +12,8 @@ use Rattle.graphics.specs.State.{xAxis, yAxis, allAlong}
 use Rattle.graphics.specs.declared.GraphicsState.{GraphicsState}
 use Rattle.graphics.specs.declared.Vector.{Vector}
 use Rattle.world.specs.World.{Fixed, World, fixed, world, Lined}
-use Rattle.axes.specs.declared.Axis.{Axis}
-use Rattle.axes.specs.declared.Axis.the-variants.{X, Y}
+use Rattle.point.specs.declared.Axis.{Axis}
+use Rattle.point.specs.declared.Axis.the-variants.{X, Y}
 
 abbrev pub unitOf : Axis → Vector
 unitOf X = xAxis

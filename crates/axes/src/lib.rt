@@ -2,7 +2,3 @@
 //
 // Nothing here runs. specs/Axes.antt says what is seen along an axis; proofs/ has a law for each line: what is seen after it is what would be
 // seen if every coordinate across the axis were 0.
-pub enum Axis {
-    X,
-    Y,
-}

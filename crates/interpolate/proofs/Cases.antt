@@ -10,6 +10,7 @@ use Rattle.graphics.specs.declared.GraphicsState.{GraphicsState}
 use Rattle.line.specs.Line.{doneWith}
 use Rattle.line.specs.declared.Stepped.{Stepped}
 use Rattle.places.specs.Lines.{isOdd}
+use Rattle.point.specs.declared.Axis.the-variants.{X, Y}
 use Rattle.interpolate.specs.Interpolated.{markedFor, axisDone, iupOn, Interpolated, interpolated, onX, onY, walkedBy, iupBy}
 
 -- ---- the mark
@@ -39,16 +40,16 @@ module _ (s : GraphicsState) (opcode : ℕ) (ux uy ox oy gx gy : List ℤ) (flag
   iup-past p b e = ap (λ (t : Stepped). interpolated t gx gy) e ∙ sym (ap byPast (sym p ∙ b))
 
   module _ {past odd : Bool} {m : GraphicsState} {r : Stepped} (p : past ≡ pastBothIups (s .facts)) (b : past ≡ false) (q : m ≡ markedFor s opcode) (o : odd ≡ isOdd opcode) where
-    pub iup-x : {gx2 : List ℤ} → odd ≡ true → axisDone r gx2 ≡ iupOn m 2 flags contours ux ox gx → interpolated r gx2 gy ≡ iupBy s opcode ux uy ox oy gx gy flags contours
+    pub iup-x : {gx2 : List ℤ} → odd ≡ true → axisDone r gx2 ≡ iupOn m X flags contours ux ox gx → interpolated r gx2 gy ≡ iupBy s opcode ux uy ox oy gx gy flags contours
     unfolding iupBy
     iup-x t e =
-        ap (onX gy) (e ∙ ap (λ (m : GraphicsState). iupOn m 2 flags contours ux ox gx) q)
+        ap (onX gy) (e ∙ ap (λ (m : GraphicsState). iupOn m X flags contours ux ox gx) q)
         ∙ sym (ap (walkedBy (markedFor s opcode) ux uy ox oy gx gy flags contours) (sym o ∙ t))
         ∙ sym (ap byPast (sym p ∙ b))
 
-    pub iup-y : {gy2 : List ℤ} → odd ≡ false → axisDone r gy2 ≡ iupOn m 4 flags contours uy oy gy → interpolated r gx gy2 ≡ iupBy s opcode ux uy ox oy gx gy flags contours
+    pub iup-y : {gy2 : List ℤ} → odd ≡ false → axisDone r gy2 ≡ iupOn m Y flags contours uy oy gy → interpolated r gx gy2 ≡ iupBy s opcode ux uy ox oy gx gy flags contours
     unfolding iupBy
     iup-y t e =
-        ap (onY gx) (e ∙ ap (λ (m : GraphicsState). iupOn m 4 flags contours uy oy gy) q)
+        ap (onY gx) (e ∙ ap (λ (m : GraphicsState). iupOn m Y flags contours uy oy gy) q)
         ∙ sym (ap (walkedBy (markedFor s opcode) ux uy ox oy gx gy flags contours) (sym o ∙ t))
         ∙ sym (ap byPast (sym p ∙ b))

@@ -10,6 +10,8 @@ use Rattle.iup.specs.Iup.{Went, iupOf}
 use Rattle.line.specs.Line.{doneWith}
 use Rattle.line.specs.declared.Stepped.{Stepped}
 use Rattle.places.specs.Lines.{isOdd}
+use Rattle.point.specs.declared.Axis.{Axis}
+use Rattle.point.specs.declared.Axis.the-variants.{X, Y}
 
 -- the mark of the opcode's axis, set under backward compatibility alone
 unfoldable pub markedFor : GraphicsState → ℕ → GraphicsState
@@ -30,8 +32,8 @@ abbrev pub keptState : GraphicsState → Went → AxisDone
 keptState s w = axisDone (record { call = w .answer; state = s }) (w .current)
 
 -- the walk, whatever it answers, leaves the state
-unfoldable pub iupOn : GraphicsState → ℕ → List ℕ → List ℕ → List ℤ → List ℤ → List ℤ → AxisDone
-iupOn s mask flags contours unscaled original current = keptState s (iupOf mask flags contours unscaled original current)
+unfoldable pub iupOn : GraphicsState → Axis → List ℕ → List ℕ → List ℤ → List ℤ → List ℤ → AxisDone
+iupOn s axis flags contours unscaled original current = keptState s (iupOf axis flags contours unscaled original current)
 
 -- ---- the glyph zone
 pub record Interpolated : Type 0 where
@@ -48,10 +50,9 @@ onX gy a = interpolated (a .stepped) (a .current) gy
 abbrev pub onY : List ℤ → AxisDone → Interpolated
 onY gx a = interpolated (a .stepped) gx (a .current)
 
--- the touch bits are 2 for x and 4 for y
 abbrev pub walkedBy : GraphicsState → List ℤ → List ℤ → List ℤ → List ℤ → List ℤ → List ℤ → List ℕ → List ℕ → Bool → Interpolated
-walkedBy s ux uy ox oy gx gy flags contours true = onX gy (iupOn s 2 flags contours ux ox gx)
-walkedBy s ux uy ox oy gx gy flags contours false = onY gx (iupOn s 4 flags contours uy oy gy)
+walkedBy s ux uy ox oy gx gy flags contours true = onX gy (iupOn s X flags contours ux ox gx)
+walkedBy s ux uy ox oy gx gy flags contours false = onY gx (iupOn s Y flags contours uy oy gy)
 
 unfoldable pub iupBy : GraphicsState → ℕ → List ℤ → List ℤ → List ℤ → List ℤ → List ℤ → List ℤ → List ℕ → List ℕ → Interpolated
 iupBy s opcode ux uy ox oy gx gy flags contours =

@@ -8,6 +8,7 @@ use iup::iup;
 use line::Stepped;
 use line::done;
 use places::is_odd;
+use point::Axis;
 ghost use mathlib.Core.Path.{_≡_};
 ghost use lib.ListN.{length};
 ghost use Rattle.interpolate.specs.Interpolated.{markedFor, axisDone, iupOn, interpolated, iupBy};
@@ -36,12 +37,12 @@ fn iup_on(
     current: &mut [i32],
     flags: &[u8],
     contours: &[u16],
-    mask: u8,
+    axis: Axis,
 ) -> Stepped
     requires { ⌜ (length (now unscaled) ≡ length (now current)) × (length (now original) ≡ length (now current)) × (length (now flags) ≡ length (now current)) ⌝ }
-    ensures { λ r. ⌜ axisDone r (now (current .exit)) ≡ iupOn s mask (now (flags .entry)) (now (contours .entry)) (now (unscaled .entry)) (now (original .entry)) (now (current .entry)) ⌝ }
+    ensures { λ r. ⌜ axisDone r (now (current .exit)) ≡ iupOn s axis (now (flags .entry)) (now (contours .entry)) (now (unscaled .entry)) (now (original .entry)) (now (current .entry)) ⌝ }
 {
-    let call = iup(unscaled, original, current, flags, contours, mask);
+    let call = iup(unscaled, original, current, flags, contours, axis);
     Stepped { call, state: s }
 }
 
@@ -66,8 +67,8 @@ pub fn dispatch_iup(
     }
     let marked = marked_for(s, opcode);
     if is_odd(opcode) {
-        iup_on(marked, ux, ox, gx, gflags, contours, 2)
+        iup_on(marked, ux, ox, gx, gflags, contours, Axis::X)
     } else {
-        iup_on(marked, uy, oy, gy, gflags, contours, 4)
+        iup_on(marked, uy, oy, gy, gflags, contours, Axis::Y)
     }
 }

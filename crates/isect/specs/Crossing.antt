@@ -1,6 +1,7 @@
 -- Where two lines meet: the OpenType instruction ISECT, and FreeType 2.13.3, ttinterp.c (Ins_ISECT), on words that wrap as docs/src has it: every sum,
 -- difference, negation, absolute value and product by 19 wraps at 32 bits. So the test below can pass with discriminant 0, when the dot product's
--- absolute value stays -2 ^ 31, and `mulDiv` then divides by 0 as it does. Assumes nothing.
+-- absolute value stays -2 ^ 31, and `mulDiv` then divides by 0 as it does. Where a C long has 64 bits FreeType's sums and products don't wrap.
+-- Assumes nothing.
 use mathlib.Core.Bool.{Bool, cond}
 use lib.IntN.{ℤ, pos}
 use lib.Signed.{ltZ}

@@ -16,7 +16,9 @@ use Rattle.iup.proofs.Walks.{past-le}
 use Rattle.iup.specs.Contour.{Point, displacement, between, touchedOf, headOr, lastOf, spread, shifted, currentOf, byTouched, contourOf, points}
 use Rattle.iup.specs.Iup.{past, walkOf, reached, iupOf}
 use Rattle.iup.specs.declared.Place.{Place}
+use Rattle.point.specs.Axis.{touchBit}
 use Rattle.point.specs.Flag.{hasAny}
+use Rattle.point.specs.declared.Axis.{Axis}
 
 -- as many coordinates as points, and each touched point's is its own
 pub data Keeps : List Point → List ℤ → Type 0 where
@@ -147,29 +149,29 @@ outside n at [] ps h l = map-drop (λ p. p .place .current) (at - at) ps
 outside n at (end ∷ ends) ps h l = outside-by n at end ends ps (ltb at (past end n)) refl h l (λ m qs g k. outside n m ends qs g k)
 
 -- ---- the call
-module _ (mask : ℕ) (fs es : List ℕ) (us os cs : List ℤ) (a : length us ≡ length cs) (b : length os ≡ length cs) (c : length fs ≡ length cs) where
+module _ (axis : Axis) (fs es : List ℕ) (us os cs : List ℤ) (a : length us ≡ length cs) (b : length os ≡ length cs) (c : length fs ≡ length cs) where
   abbrev ps : List Point
-  ps = points mask fs us os cs
+  ps = points (touchBit axis) fs us os cs
 
-  s : Shown mask fs us os cs ps
-  s = shown mask fs us os cs a b c
+  s : Shown (touchBit axis) fs us os cs ps
+  s = shown (touchBit axis) fs us os cs a b c
 
-  keeps-iup-by : (t : Bool) → (eqb (length cs) 0 && ltb 0 (length es)) ≡ t → Keeps ps (iupOf mask fs es us os cs .current)
+  keeps-iup-by : (t : Bool) → (eqb (length cs) 0 && ltb 0 (length es)) ≡ t → Keeps ps (iupOf axis fs es us os cs .current)
   unfolding iupOf
   keeps-iup-by true t = rw t (rw (sym (s .current)) at (keeps-current ps))
   keeps-iup-by false t = rw t (keeps-walk (length cs) 0 es ps)
 
-  pub keeps-iup : Keeps ps (iupOf mask fs es us os cs .current)
+  pub keeps-iup : Keeps ps (iupOf axis fs es us os cs .current)
   keeps-iup = keeps-iup-by (eqb (length cs) 0 && ltb 0 (length es)) refl
 
-  pub iup-length : length (iupOf mask fs es us os cs .current) ≡ length cs
+  pub iup-length : length (iupOf axis fs es us os cs .current) ≡ length cs
   iup-length = keeps-length keeps-iup ∙ sym (s .size)
 
   -- a touched point never moves
-  pub iup-touched : (i : ℕ) → i < length cs → hasAny (getD fs i 0) mask ≡ true → getD (iupOf mask fs es us os cs .current) i (pos 0) ≡ getD cs i (pos 0)
+  pub iup-touched : (i : ℕ) → i < length cs → hasAny (getD fs i 0) (touchBit axis) ≡ true → getD (iupOf axis fs es us os cs .current) i (pos 0) ≡ getD cs i (pos 0)
   iup-touched i h t =
       let d : Point = record { place = record { unscaled = pos 0; original = pos 0; current = pos 0 }; touched = true } in
       let n : i < length ps = omega (arith, s .size) in
       let m : getD ps i d .touched ≡ true =
-      sym (getD-map (λ p. p .touched) ps i d true n) ∙ ap (λ (l : List Bool). getD l i true) (sym (s .flags)) ∙ getD-map (λ f. hasAny f mask) fs i 0 true (omega arith) ∙ t in
+      sym (getD-map (λ p. p .touched) ps i d true n) ∙ ap (λ (l : List Bool). getD l i true) (sym (s .flags)) ∙ getD-map (λ f. hasAny f (touchBit axis)) fs i 0 true (omega arith) ∙ t in
       keeps-at keeps-iup i d n m ∙ sym (getD-map (λ p. p .place .current) ps i d (pos 0) n) ∙ ap (λ (l : List ℤ). getD l i (pos 0)) (sym (s .current))

@@ -1,5 +1,5 @@
--- IUP over a glyph, on one axis: FreeType 2.13.3, ttinterp.c (Ins_IUP's walk over the contours), with document 01's rules for its ends.
--- Assumes nothing.
+-- IUP over a glyph, on one axis: FreeType 2.13.3, ttinterp.c (Ins_IUP's walk over the contours), with document 01's rules for its ends, which are the
+-- Rust's. With a contour and no point FreeType reads past its flags; the Rust refuses. Assumes nothing.
 use Prim.Native.Nat.{ℕ, _+_, _-_}
 use mathlib.Core.Bool.{Bool, cond, _&&_}
 use mathlib.Core.List.{List, [], _∷_, _++_}
@@ -10,6 +10,8 @@ use Rattle.answer.specs.declared.Call.{Call}
 use Rattle.answer.specs.declared.Call.the-variants.{Done, Refused}
 use Rattle.answer.specs.declared.Refusal.the-variants.{Sizes, Point}
 use Rattle.limits.specs.Limits.{mostPoints, mostContours}
+use Rattle.point.specs.Axis.{touchBit}
+use Rattle.point.specs.declared.Axis.{Axis}
 use Rattle.iup.specs.Contour.{currentOf, contourOf, points}
 use Rattle.iup.specs.Contour.{Point as Dot}
 
@@ -39,12 +41,12 @@ pub record Went : Type 0 where
 abbrev pub went : Call → List ℤ → Went
 went r l = record { answer = r; current = l }
 
--- a contour of a glyph without points has no point to start at
-unfoldable pub iupOf : ℕ → List ℕ → List ℕ → List ℤ → List ℤ → List ℤ → Went
-iupOf mask flags contours unscaled original current =
+-- a point is touched where its flag has the axis's bit; a contour of a glyph without points has no point to start at
+unfoldable pub iupOf : Axis → List ℕ → List ℕ → List ℤ → List ℤ → List ℤ → Went
+iupOf axis flags contours unscaled original current =
     cond (eqb (length current) 0 && ltb 0 (length contours))
     (went (Refused (Point 0)) current)
-    (went Done (walkOf (length current) 0 contours (points mask flags unscaled original current)))
+    (went Done (walkOf (length current) 0 contours (points (touchBit axis) flags unscaled original current)))
 
 -- four lists of one length within the limit, and contours within theirs
 unfoldable pub sizesFit : ℕ → ℕ → ℕ → ℕ → ℕ → Bool
@@ -52,8 +54,8 @@ sizesFit flags contours unscaled original current =
     eqb unscaled current && (eqb original current && (eqb flags current && (leb current mostPoints && leb contours mostContours)))
 
 -- the direct call
-unfoldable pub triedOf : ℕ → List ℕ → List ℕ → List ℤ → List ℤ → List ℤ → Went
-triedOf mask flags contours unscaled original current =
+unfoldable pub triedOf : Axis → List ℕ → List ℕ → List ℤ → List ℤ → List ℤ → Went
+triedOf axis flags contours unscaled original current =
     cond (sizesFit (length flags) (length contours) (length unscaled) (length original) (length current))
-    (iupOf mask flags contours unscaled original current)
+    (iupOf axis flags contours unscaled original current)
     (went (Refused Sizes) current)

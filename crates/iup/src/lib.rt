@@ -2,7 +2,7 @@
 //
 // `iup` equals `iupOf` of specs/Iup.antt, which goes contour by contour: answer and every current coordinate, for every input whose four
 // lists have one length. `try_iup` asks nothing: it refuses unequal lengths and sizes above the limits (answer 2) first. x and y are the
-// same call with another mask and other lists. Each contour's stretch of the current coordinates is lent as a middle part, and so is each
+// same call with another axis and other lists. Each contour's stretch of the current coordinates is lent as a middle part, and so is each
 // stretch of untouched points in it; no coordinate is copied, and the work is linear in points and contours. proofs/Facts.antt has what is
 // left alone: touched points, points outside the contours, and what one contour cannot see of another.
 // Not here: IUP's two marks, the other axis and the flags. Ends out of order are skipped, as in the Rust, and not refused.
@@ -16,6 +16,7 @@ use limits::contours_fit;
 use limits::points_fit;
 use math::div;
 use math::mul;
+use point::Axis;
 use point::has_any;
 ghost use mathlib.Core.Path.{_≡_};
 ghost use mathlib.Core.Bool.{cond, _&&_};
@@ -296,14 +297,15 @@ pub fn iup(
     current: &mut [i32],
     flags: &[u8],
     contours: &[u16],
-    mask: u8,
+    axis: Axis,
 ) -> Call
     requires { ⌜ (length (now unscaled) ≡ length (now current)) × (length (now original) ≡ length (now current)) × (length (now flags) ≡ length (now current)) ⌝ }
-    ensures { λ r. ⌜ went r (now (current .exit)) ≡ iupOf mask (now (flags .entry)) (now (contours .entry)) (now (unscaled .entry)) (now (original .entry)) (now (current .entry)) ⌝ }
+    ensures { λ r. ⌜ went r (now (current .exit)) ≡ iupOf axis (now (flags .entry)) (now (contours .entry)) (now (unscaled .entry)) (now (original .entry)) (now (current .entry)) ⌝ }
 {
     if no_start(current.len(), contours.len()) {
         return Call::Refused(Refusal::Point(0));
     }
+    let mask = axis.touch_bit();
     let mut at = 0;
     let mut k = 0;
     while k < contours.len() {
@@ -356,9 +358,9 @@ pub fn try_iup(
     current: &mut [i32],
     flags: &[u8],
     contours: &[u16],
-    mask: u8,
+    axis: Axis,
 ) -> Call
-    ensures { λ r. ⌜ went r (now (current .exit)) ≡ triedOf mask (now (flags .entry)) (now (contours .entry)) (now (unscaled .entry)) (now (original .entry)) (now (current .entry)) ⌝ }
+    ensures { λ r. ⌜ went r (now (current .exit)) ≡ triedOf axis (now (flags .entry)) (now (contours .entry)) (now (unscaled .entry)) (now (original .entry)) (now (current .entry)) ⌝ }
 {
     if sizes_fit(
         flags.len(),
@@ -367,7 +369,7 @@ pub fn try_iup(
         original.len(),
         current.len(),
     ) {
-        iup(unscaled, original, current, flags, contours, mask)
+        iup(unscaled, original, current, flags, contours, axis)
     } else {
         Call::Refused(Refusal::Sizes)
     }

@@ -100,6 +100,10 @@ resumed : (f : Fixed) (sheet : List ℤ) (b : ℕ) (r : Ran) → r .answer ≡ O
 unfolding resume onAnswer
 resumed f sheet b r e = ap (onAnswer f sheet b r) e
 
+not-resumed : (f : Fixed) (sheet : List ℤ) (b : ℕ) (r : Ran) → r .answer ≡ Finished → resume f sheet b r ≡ r
+unfolding resume onAnswer
+not-resumed f sheet b r e = ap (onAnswer f sheet b r) e
+
 -- where the first run used its budget up, the second goes on from its place, and the counts are added
 pub two-replays : (f : Fixed) (sheet : List ℤ) (a b at : ℕ) (w : World) → replayOf f sheet a 0 at w .answer ≡ OutOfBudget
     → replayOf f sheet (a + b) 0 at w
@@ -139,6 +143,9 @@ passed-place false ready starts e = cc e
 refused-otherwise : (why : Refusal) (r s : Ran) → Refused why ≡ OutOfBudget → r ≡ s
 refused-otherwise why r s e = cc e
 
+finished-otherwise : (why : Refusal) (r s : Ran) → Refused why ≡ Finished → r ≡ s
+finished-otherwise why r s e = cc e
+
 module _ (f : Fixed) (sheet : List ℤ) (a b start : ℕ) (w : World) where
   abbrev first : Ran
   first = runOf f sheet a start w
@@ -169,6 +176,20 @@ module _ (f : Fixed) (sheet : List ℤ) (a b start : ℕ) (w : World) where
       → runOf f sheet (a + b) start w ≡ counted (first .lines) (runOf f sheet b (first .place) (first .world))
   two-by Done told e = two-entered told e
   two-by (RefusedCall why) told e = refused-otherwise why _ _ (ap (λ (r : Ran). r .answer) (not-entered f sheet a start w refl told) ∙ e)
+
+  same-entered : tests ≡ Done → first .answer ≡ Finished → runOf f sheet (a + b) start w ≡ first
+  same-entered told e =
+      let is : replayOf f sheet a 0 start w ≡ first = entered f sheet a start w refl told in
+      sym (entered f sheet (a + b) start w refl told) ∙ split f sheet a b 0 start w ∙ ap (resume f sheet b) is ∙ not-resumed f sheet b first e
+
+  same-by : (begun : Call) → tests ≡ begun → first .answer ≡ Finished → runOf f sheet (a + b) start w ≡ first
+  same-by Done told e = same-entered told e
+  same-by (RefusedCall why) told e = finished-otherwise why _ _ (ap (λ (r : Ran). r .answer) (not-entered f sheet a start w refl told) ∙ e)
+
+-- a run that has finished is the same with any further budget
+pub finished-runs : (f : Fixed) (sheet : List ℤ) (a b start : ℕ) (w : World) → runOf f sheet a start w .answer ≡ Finished
+    → runOf f sheet (a + b) start w ≡ runOf f sheet a start w
+finished-runs f sheet a b start w e = same-by f sheet a b start w (tests f sheet a b start w) refl e
 
 -- the rule
 pub two-runs : (f : Fixed) (sheet : List ℤ) (a b start : ℕ) (w : World) → runOf f sheet a start w .answer ≡ OutOfBudget

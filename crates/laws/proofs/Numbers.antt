@@ -22,6 +22,7 @@ use Rattle.graphics.specs.declared.Vector.{Vector}
 use Rattle.graphics.specs.declared.Vectors.{Vectors}
 use Rattle.iup.specs.Iup.{Went as Walked, iupOf, past, sizesFit, triedOf, walkOf, went as walked}
 use Rattle.int.specs.Word.{abs32, add32, and32, maxZ, minZ, mul32, neg32, quot32, sub32, wrap32}
+use Rattle.point.specs.declared.Axis.the-variants.{X}
 use Rattle.iup.specs.Contour.{along, between, contourOf, inside, points, spread, touchedOf}
 use Rattle.projection.specs.Projection.{alongOf, axisOf, fdotpOf, freedomAxisBy, notSmall, rawFdotp}
 use Rattle.moves.specs.Apply.{applyOf}
@@ -44,10 +45,10 @@ use Rattle.moves.specs.Move.{moveOf, stepBy}
 abbrev neg : ℕ → ℤ
 neg n = negℤ (pos n)
 
-abbrev three : ℤ → ℤ → ℤ → List ℤ
+abbrev pub three : ℤ → ℤ → ℤ → List ℤ
 three a b c = a ∷ b ∷ c ∷ []
 
-abbrev flags : ℕ → ℕ → ℕ → List ℕ
+abbrev pub flags : ℕ → ℕ → ℕ → List ℕ
 flags a b c = a ∷ b ∷ c ∷ []
 
 -- rounding by a mode, with threshold, phase and period
@@ -67,30 +68,30 @@ leaning x = record { projection = record { x = x; y = pos 0 }; dual = xAxis; fre
 
 -- IUP of x on one contour of three points: unscaled, original and current coordinates, and which are touched
 abbrev iup : List ℤ → List ℤ → List ℤ → List ℕ → Walked
-iup unscaled original current touched = triedOf 2 touched (2 ∷ []) unscaled original current
+iup unscaled original current touched = triedOf X touched (2 ∷ []) unscaled original current
 
 -- ---- the runs
 -- three points, one contour ending at 2, every x 0, unscaled and original y 40, 100, 130; no control values
-abbrev zeros : List ℤ
+abbrev pub zeros : List ℤ
 zeros = three (pos 0) (pos 0) (pos 0)
 
-abbrev heights : List ℤ
+abbrev pub heights : List ℤ
 heights = three (pos 40) (pos 100) (pos 130)
 
-abbrev glyph : Fixed
+abbrev pub glyph : Fixed
 glyph = fixed [] zeros heights zeros heights (2 ∷ [])
 
 -- every x 0, and no twilight points
-abbrev holding : GraphicsState → List ℤ → List ℕ → World
+abbrev pub holding : GraphicsState → List ℤ → List ℕ → World
 holding s ys marks = world s zeros ys marks [] [] [] [] []
 
 -- current y as the originals, flags 1, 1, 1
-abbrev atFirst : GraphicsState → World
+abbrev pub atFirst : GraphicsState → World
 atFirst s = holding s heights (flags 1 1 1)
 
 -- a state with these vectors, references rp0, rp1 and rp2, and pedantic or not; the rest is fresh: Grid with 0, 0, 64, loop 1, all pointers glyph,
 -- cut-in 68, all other facts no
-abbrev stateWith : Vector → ℕ → ℕ → ℕ → Bool → GraphicsState
+abbrev pub stateWith : Vector → ℕ → ℕ → ℕ → Bool → GraphicsState
 stateWith v rp0 rp1 rp2 pedantic = record {
   vectors = record { projection = v; dual = v; freedom = v };
   round = record { mode = Grid; threshold = pos 0; phase = pos 0; period = pos 64 };
@@ -102,7 +103,7 @@ stateWith v rp0 rp1 rp2 pedantic = record {
 }
 
 -- SVTCA[y], MDAP[1] of point 0, IUP[y]
-abbrev whole : List ℤ
+abbrev pub whole : List ℤ
 whole = pos 0 ∷ pos 0 ∷ pos 47 ∷ pos 1 ∷ pos 0 ∷ pos 48 ∷ pos 0 ∷ []
 
 -- MDAP[1] of point -1

@@ -25,7 +25,7 @@ use Rattle.line.specs.declared.Stepped.{Stepped}
 use Rattle.graphics.specs.declared.Vector.{Vector}
 use Rattle.graphics.specs.declared.ZonePointer.{ZonePointer}
 use Rattle.looped.specs.Looped.{Went, Zones, flipptOf, shiftBy, shpOf}
-use Rattle.ranges.specs.Ranges.{fliprgOf}
+use Rattle.ranges.specs.Ranges.{fliprgOf, heldFast}
 use Rattle.pixels.specs.Pixels.{shiftByAmount, shpixOf}
 use Rattle.spans.specs.Span.{spanBy, spanOf}
 use Rattle.shifts.specs.Shifts.{shcAt, shcOf, shzOf}
@@ -294,7 +294,7 @@ pub fliprg-usable : (s : GraphicsState) (op : ℕ) (operands : List ℤ) (flags 
 unfolding fliprgOf
 fliprg-usable s op operands flags =
     either (λ (g : Went (List ℕ)). Usable s (g .stepped)) (ltb (length operands) 2) (λ h. h)
-    (either (λ (g : Went (List ℕ)). Usable s (g .stepped)) (pastBothIups (s .facts)) (λ h. h) (λ h. h))
+    (either (λ (g : Went (List ℕ)). Usable s (g .stepped)) (heldFast s (indexAt operands 0)) (λ h. h) (λ h. h))
 
 amount-usable : (s : GraphicsState) (z : Zones) (operands : List ℤ) → Usable s (shiftByAmount s z operands .stepped)
 unfolding shiftByAmount

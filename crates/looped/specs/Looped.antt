@@ -1,8 +1,9 @@
 -- The looped instructions FLIPPT and SHP: OpenType, FLIPPT[] and SHP[a], and FreeType 2.13.3, ttinterp.c (Ins_FLIPPT, Ins_SHP). The Rust
 -- decides what a bad point and a missing operand come to. outline.rs refuses the line at that operand, with the points before it done, and has set
--- the counter to 1 before its first point; FreeType skips a bad point where it is not pedantic, and moves none where operands are missing. A
--- reference point outside is refused too, before the counter is set. Past both IUPs Ins_FLIPPT gives up before it takes an operand; outline.rs
--- takes them. A missing operand is document 01's answer 6. Assumes nothing.
+-- the counter to 1 before its first point; FreeType skips a bad point where it is not pedantic and leaves the counter at the turns left where it is,
+-- and moves none where operands are missing. A reference point outside is refused too, before the counter is set. Past both IUPs Ins_FLIPPT gives up
+-- before it takes an operand; outline.rs takes them. With a freedom vector (0, 0) FreeType looks at SHP's points all the same; the Rust doesn't. A
+-- missing operand is document 01's answer 6. Assumes nothing.
 use Prim.Native.Nat.{ℕ}
 use mathlib.Core.Bool.{Bool, true, cond}
 use mathlib.Core.List.{List}

@@ -1,6 +1,6 @@
 -- MIAP: the OpenType instruction of this name, and FreeType 2.13.3, ttinterp.c (Ins_MIAP). The Rust decides what a point outside its zone
--- answers: it is refused, pedantic or not, where FreeType sets rp0 and rp1 and goes on. The control value is read before the point. Document 01
--- gives answer 6 where an operand is missing. Assumes nothing.
+-- and a control value outside answer: they are refused, pedantic or not, and nothing is changed, where FreeType sets rp0 and rp1 in either case and
+-- goes on unless pedantic. The control value is read before the point. Document 01 gives answer 6 where an operand is missing. Assumes nothing.
 use mathlib.Core.List.{List}
 use mathlib.Core.Bool.{cond}
 use lib.ListN.{getD, length}

@@ -1,5 +1,5 @@
 -- The distances of MIAP: the OpenType instruction of this name, and FreeType 2.13.3, ttinterp.c (Ins_MIAP), on words that wrap. The native
--- ClearType fact is docs/src's: under it an odd line doesn't round, and the cut-in is a sixteenth. Assumes nothing.
+-- ClearType fact is docs/src's, and FreeType has none: under it an odd line doesn't round, and the cut-in is a sixteenth. Assumes nothing.
 use mathlib.Core.Bool.{Bool, cond}
 use Prim.Native.Nat.{_^_, ℕ}
 use lib.Signed.{ltZ, shrZ}

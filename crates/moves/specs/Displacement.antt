@@ -7,7 +7,7 @@ use mathlib.Core.List.{List}
 use lib.Bits.{bitAnd}
 use lib.Dec.{eqb}
 use lib.IntN.{ℤ}
-use Rattle.answer.specs.Answer.{numberOf, detailOf}
+use Rattle.answer.specs.Answer.{Said, saidBy, saidDone}
 use Rattle.math.specs.Fixed.{mulDiv}
 use Rattle.graphics.specs.declared.Vector.{Vector}
 use Rattle.graphics.specs.declared.Vectors.{Vectors}
@@ -59,11 +59,7 @@ unfoldable pub displacedIn : Vectors → Reference → List ℤ → List ℤ →
 displacedIn v p gox goy gcx gcy tox toy tcx tcy Glyph = displacedAt v p gox goy gcx gcy
 displacedIn v p gox goy gcx gcy tox toy tcx tcy Twilight = displacedAt v p tox toy tcx tcy
 
--- document 01's number and detail for what the call says
-abbrev pub numberOfDisplaced : Displaced → ℕ
-numberOfDisplaced (By d) = 0
-numberOfDisplaced (RefusedDisplacement why) = numberOf why
-
-abbrev pub detailOfDisplaced : Displaced → ℕ
-detailOfDisplaced (By d) = 0
-detailOfDisplaced (RefusedDisplacement why) = detailOf why
+-- what the direct call says
+abbrev pub saidOfDisplaced : Displaced → Said
+saidOfDisplaced (By d) = saidDone
+saidOfDisplaced (RefusedDisplacement why) = saidBy why

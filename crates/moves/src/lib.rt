@@ -25,7 +25,7 @@ ghost use mathlib.Core.Path.{_≡_};
 ghost use lib.ListN.{length};
 ghost use Rattle.moves.specs.Move.{bitsFor, stepBy, stepOf, isSlanted, held, moveOf, originalMoveOf, zp2MoveOf, isIdle, movedAt};
 ghost use Rattle.moves.specs.Apply.{shifted, shiftOf, moved, applyOf, shiftIn, bothShifted, applyIn, bothMoved};
-ghost use Rattle.moves.specs.Displacement.{referenceOf, displacementOf, displacedAt, displacedIn};
+ghost use Rattle.moves.specs.Displacement.{referenceOf, displacementOf, displacedAt, displacedIn, saidOfDisplaced};
 
 // What is done to one point: which coordinates move, by how much, and the bits that its flag is given.
 pub struct Move {
@@ -274,6 +274,26 @@ pub struct Displacement {
 pub enum Displaced {
     By(Displacement),
     Refused(Refusal),
+}
+
+impl Displaced {
+    pub fn number(self) -> u32
+        ensures { λ r. ⌜ r ≡ saidOfDisplaced self .number ⌝ }
+    {
+        match self {
+            Displaced::By(_) => 0,
+            Displaced::Refused(why) => why.number(),
+        }
+    }
+
+    pub fn detail(self) -> u64
+        ensures { λ r. ⌜ r ≡ saidOfDisplaced self .detail ⌝ }
+    {
+        match self {
+            Displaced::By(_) => 0,
+            Displaced::Refused(why) => why.detail(),
+        }
+    }
 }
 
 // An odd opcode goes by rp1 in zp0, an even one by rp2 in zp1.

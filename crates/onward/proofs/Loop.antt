@@ -88,6 +88,7 @@ AlikeAt f z =
     × (z .toy ≡ z .tox)
     × (z .ty ≡ z .tx)
     × (z .tflags ≡ z .tx)
+    × (z .tox ≡ z .tx)
 
 -- worlds of the same lengths are alike or not together
 pub still-alike : (f : Fixed) (v w : World) → sizes w ≡ sizes v → Alike f v → Alike f w

@@ -1,5 +1,5 @@
 -- The distances of MDAP: the OpenType instruction of this name, and FreeType 2.13.3, ttinterp.c (Ins_MDAP), on words that wrap. The native
--- ClearType fact is docs/src's: under it an odd line doesn't round. Assumes nothing.
+-- ClearType fact is docs/src's, and FreeType has none: under it an odd line doesn't round. Assumes nothing.
 use mathlib.Core.Bool.{_&&_, cond, not}
 use lib.IntN.{pos, ℤ}
 use Prim.Native.Nat.{ℕ}

@@ -1,6 +1,8 @@
 -- SHPIX: OpenType, SHPIX[] (the amount is popped once and first, then a point for each turn of the loop), and FreeType 2.13.3, ttinterp.c
--- (Ins_SHPIX, Move_Zp2_Point). Document 02, K1, refuses it under backward compatibility, before any operand is taken. The Rust decides what a
--- missing operand comes to: outline.rs takes the amount before it sets the counter to 1, and the counter before the first point. Assumes nothing.
+-- (Ins_SHPIX, Move_Zp2_Point). Document 02, K1, refuses it under backward compatibility, before any operand is taken; there FreeType and the Rust move,
+-- along y, what is touched along y until both IUPs are done, and any point where a zone pointer is to twilight. The Rust decides what a missing
+-- operand and a bad point come to: outline.rs takes the amount before it sets the counter to 1, and the counter before the first point; FreeType
+-- skips a bad point where it is not pedantic. Assumes nothing.
 use mathlib.Core.Bool.{cond, true}
 use mathlib.Core.List.{List, [], _∷_}
 use lib.IntN.{ℤ}

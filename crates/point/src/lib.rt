@@ -1,16 +1,34 @@
 // A point's flag byte, and the axes. Document 01 lays the byte out: bit 0 on curve, bit 1 x touched, bit 2 y touched.
 //
 // Each function changes the bits of its mask and no other: proofs/Bits.antt says so of every byte. An axis is a mask of touch bits,
-// so x and y are one function, and both axes at once are the mask with both bits.
+// so x and y are one function, and both axes at once are the mask with both bits. What goes along one axis alone takes an `Axis`.
 ghost use mathlib.Core.Path.{_≡_};
 ghost use lib.Bits.{bitAnd, bitOr, bitXor};
+ghost use Rattle.point.specs.Axis.{touchBit};
 ghost use Rattle.point.specs.Flag.{hasAny, cleared, touchBits};
 
 pub const ON_CURVE: u8 = 1;
 
-pub const X_TOUCHED: u8 = 2;
+const X_TOUCHED: u8 = 2;
 
-pub const Y_TOUCHED: u8 = 4;
+const Y_TOUCHED: u8 = 4;
+
+// One axis of the two.
+pub enum Axis {
+    X,
+    Y,
+}
+
+impl Axis {
+    pub fn touch_bit(self) -> u8
+        ensures { λ r. ⌜ r ≡ touchBit self ⌝ }
+    {
+        match self {
+            Axis::X => X_TOUCHED,
+            Axis::Y => Y_TOUCHED,
+        }
+    }
+}
 
 // What a measurement or a movement goes along.
 pub enum CoordAxis {
@@ -25,8 +43,8 @@ impl CoordAxis {
     {
         match self {
             CoordAxis::Both => 6,
-            CoordAxis::X => 2,
-            CoordAxis::Y => 4,
+            CoordAxis::X => X_TOUCHED,
+            CoordAxis::Y => Y_TOUCHED,
         }
     }
 }

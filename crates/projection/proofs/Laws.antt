@@ -13,17 +13,12 @@ use lib.Signed.{mag, ltZ}
 use Rattle.int.specs.Word.{wrap32, add32, sub32, abs32, mul32, eqZ}
 use Rattle.int.proofs.Ints.{mag-add, mag-mul}
 use Rattle.int.proofs.Wraps.{wrap-id}
-use Rattle.answer.specs.declared.Refusal.the-variants.{State}
 use Rattle.point.specs.declared.CoordAxis.the-variants.{X, Y}
-use Rattle.graphics.specs.State.{one, xAxis, yAxis, allAlong, inRange, vectorInRange, usableState}
+use Rattle.graphics.specs.State.{one, xAxis, yAxis, allAlong, inRange, vectorInRange}
 use Rattle.graphics.proofs.Laws.{and-left, x-of, y-of}
 use Rattle.graphics.specs.declared.Vector.{Vector}
-use Rattle.graphics.specs.declared.GraphicsState.{GraphicsState}
 use Rattle.projection.specs.declared.Derived.{Derived}
-use Rattle.projection.specs.declared.Measured.the-variants.{Distance, Refused}
-use Rattle.projection.specs.declared.Deduced.the-variants.{Numbers}
-use Rattle.projection.specs.declared.Deduced.the-variants.{Refused as RefusedNumbers}
-use Rattle.projection.specs.Projection.{axisOf, rawFdotp, notSmall, freedomAxisBy, derivedOf, alongOf, measuredOf, deducedOf, numberOfMeasured, numberOfDeduced}
+use Rattle.projection.specs.Projection.{axisOf, rawFdotp, notSmall, freedomAxisBy, derivedOf, alongOf}
 
 -- ---- along an axis
 module _ (v a b : Vector) where
@@ -90,18 +85,3 @@ module _ (p f : Vector) (hp : vectorInRange p ≡ true) (hf : vectorInRange f �
   fdotp-exact =
       ap₂ add32 (product-exact (p .x) (f .x) (x-of p hp) (x-of f hf)) (product-exact (p .y) (f .y) (y-of p hp) (y-of f hf))
       ∙ sum-exact (p .x *ℤ f .x) (p .y *ℤ f .y) (product-size (p .x) (f .x) (x-of p hp) (x-of f hf)) (product-size (p .y) (f .y) (y-of p hp) (y-of f hf))
-
--- ---- the number of a direct call: 0 or 3, by the state test
-measured-by : (d : ℤ) (ok : Bool) → numberOfMeasured (cond ok (Distance d) (Refused State)) ≡ cond ok 0 3
-measured-by d true = refl
-measured-by d false = refl
-
-pub measured-number : (s : GraphicsState) (d : ℤ) → numberOfMeasured (measuredOf s d) ≡ cond (usableState s) 0 3
-measured-number s d = measured-by d (usableState s)
-
-deduced-by : (d : Derived) (ok : Bool) → numberOfDeduced (cond ok (Numbers d) (RefusedNumbers State)) ≡ cond ok 0 3
-deduced-by d true = refl
-deduced-by d false = refl
-
-pub deduced-number : (s : GraphicsState) → numberOfDeduced (deducedOf s) ≡ cond (usableState s) 0 3
-deduced-number s = deduced-by (derivedOf (s .vectors)) (usableState s)

@@ -1,13 +1,13 @@
 -- What is worked out from the vectors: FreeType 2.13.3, ttinterp.c (Compute_Funcs, Project, Dual_Project, Project_x, Project_y), on words that
 -- wrap. FreeType works fdotp out in a C long and docs/src at 32 bits: they agree wherever no component lies outside -16,384..16,384
 -- (`fdotp-exact` of proofs/Laws.antt), and every entry refuses the rest. Distances wrap at 32 bits as document 01 says. Assumes nothing.
-use Prim.Native.Nat.{ℕ, _^_}
+use Prim.Native.Nat.{_^_}
 use mathlib.Core.Bool.{Bool, cond}
 use lib.IntN.{ℤ, pos}
 use lib.Signed.{ltZ, shrZ}
 use Rattle.int.specs.Word.{add32, sub32, abs32, mul32, eqZ}
 use Rattle.math.specs.Fixed.{dotFix14}
-use Rattle.answer.specs.Answer.{numberOf}
+use Rattle.answer.specs.Answer.{Said, saidBy, saidDone}
 use Rattle.answer.specs.declared.Refusal.the-variants.{State}
 use Rattle.point.specs.declared.CoordAxis.{CoordAxis}
 use Rattle.point.specs.declared.CoordAxis.the-variants.{Both, X, Y}
@@ -81,11 +81,11 @@ measuredOf s d = measuredBy (usableState s) d
 abbrev pub deducedOf : GraphicsState → Deduced
 deducedOf s = deducedBy (usableState s) (derivedOf (s .vectors))
 
--- document 01's number for what a direct call says
-abbrev pub numberOfMeasured : Measured → ℕ
-numberOfMeasured (Distance d) = 0
-numberOfMeasured (Refused r) = numberOf r
+-- what they say
+abbrev pub saidOfMeasured : Measured → Said
+saidOfMeasured (Distance d) = saidDone
+saidOfMeasured (Refused why) = saidBy why
 
-abbrev pub numberOfDeduced : Deduced → ℕ
-numberOfDeduced (Numbers d) = 0
-numberOfDeduced (RefusedNumbers r) = numberOf r
+abbrev pub saidOfDeduced : Deduced → Said
+saidOfDeduced (Numbers d) = saidDone
+saidOfDeduced (RefusedNumbers why) = saidBy why

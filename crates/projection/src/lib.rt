@@ -19,7 +19,7 @@ use int::wrapping_sub;
 use math::dot14;
 use point::CoordAxis;
 ghost use mathlib.Core.Path.{_≡_};
-ghost use Rattle.projection.specs.Projection.{axisOf, freedomAxisBy, rawFdotp, notSmall, derivedOf, alongOf, projectOf, dualProjectOf, measuredBy, deducedBy, measuredOf, deducedOf};
+ghost use Rattle.projection.specs.Projection.{axisOf, freedomAxisBy, rawFdotp, notSmall, derivedOf, alongOf, projectOf, dualProjectOf, measuredBy, deducedBy, measuredOf, deducedOf, saidOfMeasured, saidOfDeduced};
 
 // The numbers that go with three vectors.
 pub struct Derived {
@@ -36,10 +36,50 @@ pub enum Measured {
     Refused(Refusal),
 }
 
+impl Measured {
+    pub fn number(self) -> u32
+        ensures { λ r. ⌜ r ≡ saidOfMeasured self .number ⌝ }
+    {
+        match self {
+            Measured::Distance(_) => 0,
+            Measured::Refused(why) => why.number(),
+        }
+    }
+
+    pub fn detail(self) -> u64
+        ensures { λ r. ⌜ r ≡ saidOfMeasured self .detail ⌝ }
+    {
+        match self {
+            Measured::Distance(_) => 0,
+            Measured::Refused(why) => why.detail(),
+        }
+    }
+}
+
 // What the direct call for the derived numbers says.
 pub enum Deduced {
     Numbers(Derived),
     Refused(Refusal),
+}
+
+impl Deduced {
+    pub fn number(self) -> u32
+        ensures { λ r. ⌜ r ≡ saidOfDeduced self .number ⌝ }
+    {
+        match self {
+            Deduced::Numbers(_) => 0,
+            Deduced::Refused(why) => why.number(),
+        }
+    }
+
+    pub fn detail(self) -> u64
+        ensures { λ r. ⌜ r ≡ saidOfDeduced self .detail ⌝ }
+    {
+        match self {
+            Deduced::Numbers(_) => 0,
+            Deduced::Refused(why) => why.detail(),
+        }
+    }
 }
 
 // The axis that a vector lies on: one component that is 1 decides, whatever the other is.

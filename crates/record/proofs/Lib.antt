@@ -1,3 +1,4 @@
 mod Seen
 mod Verdict
 pub mod Whole
+pub mod Widths

@@ -1,33 +1,26 @@
 -- A record that is read is written as the same bytes: `written-as-read` holds of every byte string that `readOf` keeps. Assumes nothing.
-use mathlib.Core.Bool.{true}
-use mathlib.Core.List.{List, [], _++_, _∷_}
+use mathlib.Core.List.{List, [], _++_}
 use mathlib.Core.Path.{_∙_, _≡_, ap, ap₂, refl, sym}
-use Prim.Native.Nat.{_%_, _*_, _+_, _-_, _/_, _<_, _^_, suc, zero, ℕ}
+use Prim.Native.Nat.{_%_, _*_, _+_, _-_, _<_, _^_, suc, ℕ}
 use native.Mathlib.Omega.{arith}
 use lib.ListN.{getD, length}
 use Rattle.int.specs.Word.{ofBits}
 use Rattle.state_words.specs.Words.{stateOf, stateSize, stateWords}
 use Rattle.state_words.proofs.Back.{written-read}
-use Rattle.word_lists.specs.Lists.{bytesOf, endOf, flagOf, numbersOf, part, word, wordsOfNumbers, wrappingSum}
-use Rattle.word_lists.proofs.Back.{Bytes, Words, bytes-back, part-fits, part-join, word-fits}
-use Rattle.word_lists.proofs.Back.Words.{more}
-use Rattle.word_lists.proofs.Parts.{mapped-length, part-at, part-length}
-use Rattle.record.specs.Format.{Held, bodyWords, glyphWords, layoutFor, recordOf, summed, trailerWords, twilightWords, wordsOf}
+use Rattle.word_lists.specs.Lists.{bytesOf, endOf, numbersOf, part, word, wordsOfNumbers, wrappingSum}
+use Rattle.word_lists.proofs.Back.{Bytes, bytes-back, part-fits, part-join, word-fits}
+use Rattle.word_lists.proofs.Parts.{mapped-length}
+use Rattle.record.specs.Format.{Held, bodyWords, glyphWords, layoutFor, recordOf, trailerWords, twilightWords, wordsOf}
 use Rattle.record.specs.Read.{Kept, heldIn, layoutOf, openOf, readAs, readOf, trailerWord, wordCount}
 use Rattle.layout.specs.Order.{atControls, atCurrentX, atCurrentY, atEnds, atFlags, atOriginalX, atOriginalY, atSheet, atTrailer, atTwilightFlags, atTwilightOriginalX, atTwilightOriginalY, atTwilightX, atTwilightY, atUnscaledX, atUnscaledY}
 use Rattle.layout.specs.declared.Layout.{Layout}
 use Rattle.record.specs.declared.Opened.{Opened}
 use Rattle.record.specs.declared.Opened.the-variants.{Whole, Damaged}
-use Rattle.record_laws.proofs.Values.{cons, ends-back, flags-back, numbers-back}
+use Rattle.record_laws.proofs.Values.{cons, ends-back, flags-back, numbers-back, words-at}
 use Rattle.record.proofs.Whole.{Sound, layout-is, sound}
 
 zero-on : (k : ℕ) → k ≡ 0 + k
 zero-on k = omega arith
-
-words-at : (ws : List ℕ) (k : ℕ) → Words ws → getD ws k 0 < 2 ^ 32
-words-at [] k f = omega arith
-words-at (w ∷ ws) zero (more h f) = h
-words-at (w ∷ ws) (suc k) (more h f) = words-at ws k f
 
 module _ (bytes : List ℕ) (f : Bytes bytes) where
   abbrev at : ℕ → ℕ → List ℕ

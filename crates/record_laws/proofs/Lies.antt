@@ -5,14 +5,13 @@ use Prim.Native.Nat.{_+_, _<_, _^_, suc, ℕ}
 use native.Mathlib.Omega.{arith}
 use lib.ListN.{drop, getD, length, length-map}
 use lib.IntN.{ℤ}
-use mir.Val.{SFits}
 use mir.Facts.{fits-ofZ, toZ-ofZ}
-use mir.Syntax.{w32}
 use Rattle.int.specs.Word.{bitsOf}
 use Rattle.word_lists.specs.Lists.{bytesOf, endsOf, flagsOf, numbersOf, part, wordsOfNumbers}
 use Rattle.word_lists.proofs.Back.{Words, front-back}
 use Rattle.word_lists.proofs.Back.Words.{more, none}
 use Rattle.record_laws.proofs.Values.{cons}
+use Rattle.word_lists.proofs.Widths.{Below, Numbers, no-word, one-word}
 
 abbrev pub Lies : List ℕ → ℕ → List ℕ → Type 0
 Lies bytes first ws = part bytes first (length ws) ≡ ws
@@ -40,22 +39,13 @@ pub words-join : {xs ys : List ℕ} → Words xs → Words ys → Words (xs ++ y
 words-join none g = g
 words-join (more h f) g = more h (words-join f g)
 
--- every number is one of 32 bits, a flag of 8, an end of 16
-pub data Numbers : List ℤ → Type 0 where
-  no-number : Numbers []
-  one-number : {z : ℤ} {zs : List ℤ} → SFits w32 z → Numbers zs → Numbers (z ∷ zs)
-
-pub data Below (most : ℕ) : List ℕ → Type 0 where
-  no-word : Below most []
-  one-word : {w : ℕ} {ws : List ℕ} → w < most → Below most ws → Below most (w ∷ ws)
-
 pub number-words : {zs : List ℤ} → Numbers zs → Words (wordsOfNumbers zs)
-number-words no-number = none
-number-words (one-number h f) = more (fits-ofZ h .fits) (number-words f)
+number-words no-word = none
+number-words (one-word h f) = more (fits-ofZ h .fits) (number-words f)
 
 pub numbers-read : {zs : List ℤ} → Numbers zs → numbersOf (wordsOfNumbers zs) ≡ zs
-numbers-read no-number = refl
-numbers-read (one-number h f) = ap₂ (λ (x : ℤ) (xs : List ℤ). x ∷ xs) (toZ-ofZ h) (numbers-read f)
+numbers-read no-word = refl
+numbers-read (one-word h f) = ap₂ (λ (x : ℤ) (xs : List ℤ). x ∷ xs) (toZ-ofZ h) (numbers-read f)
 
 byte-word : {w : ℕ} → w < 256 → w < 2 ^ 32
 byte-word h = omega arith

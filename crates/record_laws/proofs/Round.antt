@@ -1,5 +1,5 @@
--- What is written reads back as written, for every record within limits: `kept-as-written`. Assumes nothing.
-use mathlib.Core.Bool.{Bool, true, cond, _&&_}
+-- What is written reads back as written, for all that a record can hold: `kept-as-written`. Assumes nothing.
+use mathlib.Core.Bool.{Bool, true, _&&_}
 use mathlib.Core.List.{List, [], _++_, _∷_}
 use mathlib.Core.Path.{_∙_, _≡_, ap, ap₂, refl, sym}
 use Prim.Native.Nat.{_%_, _*_, _+_, _-_, _/_, _<_, _≤_, _^_, suc, ℕ}
@@ -10,8 +10,8 @@ use mir.Val.{SFits}
 use mir.Facts.{fits-ofZ}
 use mir.Syntax.{w32}
 use Rattle.int.specs.Word.{bitsOf}
-use lib.Dec.{eqb, leb}
-use lib.ListN.{getD, length, length-append}
+use lib.Dec.{leb}
+use lib.ListN.{getD, length}
 use Rattle.graphics.specs.declared.GraphicsState.{GraphicsState}
 use Rattle.graphics.specs.declared.ZonePointer.{ZonePointer}
 use Rattle.graphics.specs.declared.ZonePointer.the-variants.{Glyph, Twilight}
@@ -20,20 +20,23 @@ use Rattle.round.specs.declared.RoundMode.the-variants.{DoubleGrid, DownToGrid,
 use mathlib.Core.Bool.{false}
 use Rattle.state_words.specs.Words.{factWord, isState, modeWord, stateSize, stateWords, zoneWord}
 use Rattle.word_lists.specs.Lists.{allAtMost, bytesOf, part, sumOf, word, wordsOfNumbers, wrappingSum}
-use Rattle.word_lists.proofs.Back.{Words}
+use Rattle.word_lists.proofs.Back.{Bytes, Words}
+use Rattle.word_lists.proofs.Back.Bytes.{more as more-bytes, none as none-bytes}
 use Rattle.word_lists.proofs.Back.Words.{more, none}
 use Rattle.word_lists.proofs.Storing.{bytes-length}
 use Rattle.record.specs.Format.{Held, bodyWords, glyphWords, layoutFor, recordOf, trailerWords, twilightWords, wordsOf}
-use Rattle.record.specs.Read.{Kept, countsFit, framed, heldIn, layoutOf, lengthFits, openOf, readAs, readOf, sumFits, trailerFits, trailerWord, wordCount, wordsFit}
-use Rattle.layout.specs.Order.{atEnds, atFlags, atTrailer, atTwilightFlags, edition, mostBytes, trailerSize}
+use Rattle.record.specs.Read.{Kept, countsFit, framed, layoutOf, openOf, readAs, readOf, sumFits, trailerFits, trailerWord, wordCount, wordsFit}
+use Rattle.layout.specs.Order.{atEnds, atFlags, atTrailer, atTwilightFlags, edition, mostBytes, recordSize, trailerSize}
 use Rattle.layout.specs.declared.Layout.{Layout}
 use Rattle.record.specs.declared.Opened.the-variants.{Whole}
-use Rattle.record_laws.proofs.Lies.{Below, Lies, end-words, flag-words, lies-all, lies-at, lies-left, lies-right, no-word, number-words, one-word, words-join}
+use Rattle.limits.specs.Limits.{mostContours, mostControlValues, mostPoints, mostWords}
+use Rattle.world.proofs.Alike.{fits-most}
+use Rattle.record_laws.proofs.Keepable.{Keepable}
+use Rattle.word_lists.proofs.Widths.{Below, no-word, one-word}
+use Rattle.record_laws.proofs.Lies.{Lies, end-words, flag-words, lies-all, lies-at, lies-left, lies-right, number-words, words-join}
 use Rattle.record.proofs.Whole.{verdict}
-use Rattle.record_laws.proofs.Written.{Keepable, b, body, body-lies, controls-long, ends-at, ends-lies, flags-at, flags-lies, flags-long, glyph-long, joined-long, l, read-as-written, rest-ws, sheet-long, state-lies, state-long, state-ws, twilight-long, twilightFlags-at, twilightFlags-lies, twilightFlags-long}
-
-both : {a c : Bool} → a ≡ true → c ≡ true → a && c ≡ true
-both e g = ap₂ (λ (x y : Bool). x && y) e g
+use Rattle.record_laws.proofs.Whence.{both}
+use Rattle.record_laws.proofs.Written.{b, controls-long, ends-at, ends-lies, flags-at, flags-lies, flags-long, glyph-long, joined-long, l, read-as-written, sheet-long, state-lies, state-long, twilight-long, twilightFlags-at, twilightFlags-lies, twilightFlags-long}
 
 mode-fits : (m : RoundMode) → leb (modeWord m) 7 ≡ true
 mode-fits Grid = refl
@@ -76,10 +79,13 @@ layout5 p c t k w = record { points = p; contours = c; twilight = t; controls = 
 same-layout : {p p′ c c′ t t′ k k′ w w′ : ℕ} → p ≡ p′ → c ≡ c′ → t ≡ t′ → k ≡ k′ → w ≡ w′ → layout5 p c t k w ≡ layout5 p′ c′ t′ k′ w′
 same-layout e0 e1 e2 e3 e4 = cc
 
--- within document 01's sizes and 24 KiB
-pub record Within (h : Held) : Type 0 where
-  pub counts : countsFit (layoutFor h) ≡ true
-  pub size : (atTrailer (layoutFor h) + trailerSize) * 4 ≤ mostBytes
+-- the counts of what is held are within document 01's sizes
+counts-fit : (h : Held) → Keepable h → countsFit (layoutFor h) ≡ true
+counts-fit h k =
+    let l = layoutFor h in
+    let m = fits-most (h .fixed) (h .sheet) (h .world) (k .sizes) in
+    both (both (both (both (le-leb (l .points) mostPoints (m .points)) (le-leb (l .contours) mostContours (m .contours))) (le-leb (l .twilight) mostPoints (m .twilight)))
+    (le-leb (l .controls) mostControlValues (m .controls))) (le-leb (l .words) mostWords (m .words))
 
 -- every word of a record is one of 32 bits
 mode-small : (m : RoundMode) → modeWord m < 2 ^ 32
@@ -97,6 +103,9 @@ bits-small f = fits-ofZ f .fits
 low-small : (n : ℕ) → n % 2 ^ 32 < 2 ^ 32
 low-small n = omega arith
 
+low-byte : (n : ℕ) → n % 256 < 256
+low-byte n = omega arith
+
 high-small : (n : ℕ) → n < 2 ^ 64 → n / 2 ^ 32 < 2 ^ 32
 high-small n h = omega arith
 
@@ -104,27 +113,28 @@ state-words-fit : (h : Held) → Keepable h → Words (stateWords (h .world .sta
 unfolding stateWords
 state-words-fit h k =
     let s = h .world .state in
-    let v = k .state .vectors in
-    let r = k .state .round in
+    let n = k .widths .world .state .signed in
+    let v = n .vectors in
+    let r = n .round in
     let p = s .pointers in
     let f = s .facts in
     let q = s .references in
     more (bits-small (v .0 .0)) (more (bits-small (v .0 .1)) (more (bits-small (v .1 .0)) (more (bits-small (v .1 .1)) (more (bits-small (v .2 .0)) (more (bits-small (v .2 .1))
     (more (mode-small (s .round .mode)) (more (bits-small (r .0)) (more (bits-small (r .1)) (more (bits-small (r .2))
-    (more (low-small (q .rp0)) (more (high-small (q .rp0) (k .rp0)) (more (low-small (q .rp1)) (more (high-small (q .rp1) (k .rp1)) (more (low-small (q .rp2)) (more (high-small (q .rp2) (k .rp2))
-    (more (k .loop)
+    (more (low-small (q .rp0)) (more (high-small (q .rp0) (k .widths .world .state .rp0)) (more (low-small (q .rp1)) (more (high-small (q .rp1) (k .widths .world .state .rp1)) (more (low-small (q .rp2)) (more (high-small (q .rp2) (k .widths .world .state .rp2))
+    (more (k .widths .world .state .loop)
     (more (zone-small (p .zp0)) (more (zone-small (p .zp1)) (more (zone-small (p .zp2))
     (more (fact-small (f .«backward_compatibility»)) (more (fact-small (f .pedantic)) (more (fact-small (f .«native_clear_type_x»)) (more (fact-small (f .«did_iup_x»)) (more (fact-small (f .«did_iup_y»))
-    (more (bits-small (k .state .cut-in)) none)))))))))))))))))))))))))
+    (more (bits-small (n .cut-in)) none)))))))))))))))))))))))))
 
 glyph-words-fit : (h : Held) → Keepable h → Words (glyphWords h)
 glyph-words-fit h k =
-    words-join (number-words (k .unscaledX)) (words-join (number-words (k .unscaledY)) (words-join (number-words (k .originalX)) (words-join (number-words (k .originalY))
-    (words-join (number-words (k .currentX)) (words-join (number-words (k .currentY)) (words-join (flag-words (k .flags)) (end-words (k .ends))))))))
+    words-join (number-words (k .widths .fixed .gux)) (words-join (number-words (k .widths .fixed .guy)) (words-join (number-words (k .widths .fixed .gox)) (words-join (number-words (k .widths .fixed .goy))
+    (words-join (number-words (k .widths .world .gx)) (words-join (number-words (k .widths .world .gy)) (words-join (flag-words (k .widths .world .gflags)) (end-words (k .widths .fixed .contours))))))))
 
 twilight-words-fit : (h : Held) → Keepable h → Words (twilightWords h)
 twilight-words-fit h k =
-    words-join (number-words (k .twilightOriginalX)) (words-join (number-words (k .twilightOriginalY)) (words-join (number-words (k .twilightX)) (words-join (number-words (k .twilightY)) (flag-words (k .twilightFlags)))))
+    words-join (number-words (k .widths .world .tox)) (words-join (number-words (k .widths .world .toy)) (words-join (number-words (k .widths .world .tx)) (words-join (number-words (k .widths .world .ty)) (flag-words (k .widths .world .tflags)))))
 
 trailer-words-fit : (l : Layout) → (atTrailer l + trailerSize) * 4 ≤ mostBytes → Words (trailerWords l)
 trailer-words-fit l h =
@@ -136,18 +146,27 @@ trailer-words-fit l h =
     let one : edition < 2 ^ 32 = omega arith in
     more a (more b (more c (more d (more e (more one (more (low-small (atTrailer l * 4)) none))))))
 
-words-fit : (h : Held) → Keepable h → Within h → Words (wordsOf h)
-words-fit h k v =
+words-fit : (h : Held) → Keepable h → Words (wordsOf h)
+words-fit h k =
     words-join
     (words-join
     (words-join (state-words-fit h k)
-    (words-join (glyph-words-fit h k) (words-join (twilight-words-fit h k) (words-join (number-words (k .controls)) (number-words (k .sheet))))))
-    (trailer-words-fit (layoutFor h) (v .size)))
+    (words-join (glyph-words-fit h k) (words-join (twilight-words-fit h k) (words-join (number-words (k .widths .fixed .controls)) (number-words (k .widths .sheet))))))
+    (trailer-words-fit (layoutFor h) (k .short)))
     (more (low-small (sumOf (bodyWords h ++ trailerWords (layoutFor h)))) none)
 
-module _ (h : Held) (k : Keepable h) (v : Within h) where
+-- a record is bytes
+words-bytes : (ws : List ℕ) → Bytes (bytesOf ws)
+words-bytes [] = none-bytes
+words-bytes (w ∷ ws) = more-bytes (low-byte w) (more-bytes (low-byte (w / 256)) (more-bytes (low-byte (w / 65536)) (more-bytes (low-byte (w / 16777216)) (words-bytes ws))))
+
+pub record-bytes : (h : Held) → Bytes (recordOf h)
+unfolding recordOf
+record-bytes h = words-bytes (wordsOf h)
+
+module _ (h : Held) (k : Keepable h) where
   fit : Words (wordsOf h)
-  fit = words-fit h k v
+  fit = words-fit h k
 
   abbrev bs : List ℕ
   bs = b h k fit
@@ -180,6 +199,11 @@ module _ (h : Held) (k : Keepable h) (v : Within h) where
 
   bytes-long : length bs ≡ (atTrailer lay + 8) * 4
   bytes-long = omega (arith, bytes-length (wordsOf h), all-long)
+
+  -- as many bytes as the layout says
+  pub record-long : length (recordOf h) ≡ recordSize lay
+  unfolding recordOf
+  record-long = bytes-long
 
   count-is : wordCount bs ≡ atTrailer lay + 8
   count-is = omega (arith, bytes-long)
@@ -218,11 +242,11 @@ module _ (h : Held) (k : Keepable h) (v : Within h) where
   back-same : trailerWord bs 6 ≡ atTrailer lay * 4
   back-same =
       let e : trailerWord bs 6 ≡ atTrailer lay * 4 % 2 ^ 32 = place 6 (suc (suc (suc (suc (suc (suc t)))))) (omega (arith, count-is, body-long)) ∙ nth 6 in
-      omega (arith, e, v .size)
+      omega (arith, e, k .short)
 
   frame-holds : framed bs ≡ true
   frame-holds =
-      both (both (both (eq-eqb (length bs % 4) 0 (omega (arith, bytes-long))) (le-leb (stateSize + trailerSize) (wordCount bs) (omega (arith, count-is)))) (ap countsFit layout-same ∙ v .counts))
+      both (both (both (eq-eqb (length bs % 4) 0 (omega (arith, bytes-long))) (le-leb (stateSize + trailerSize) (wordCount bs) (omega (arith, count-is)))) (ap countsFit layout-same ∙ counts-fit h k))
       (ap (trailerFits bs) layout-same
       ∙ both (both (eq-eqb (atTrailer lay + trailerSize) (wordCount bs) (sym count-is)) (eq-eqb (trailerWord bs 5) edition edition-same)) (eq-eqb (trailerWord bs 6) (atTrailer lay * 4) back-same))
 
@@ -231,9 +255,9 @@ module _ (h : Held) (k : Keepable h) (v : Within h) where
       ap (wordsFit bs) layout-same
       ∙ both (both (both
       (ap isState (lies-at bs (stateWords (h .world .state)) 0 stateSize refl (sym (state-long h k fit)) (state-lies h k fit)) ∙ state-is (h .world .state))
-      (ap (allAtMost 255) (lies-at bs (h .world .gflags) (atFlags lay) (lay .points) (flags-at h k fit) (sym (flags-long h k fit)) (flags-lies h k fit)) ∙ flags-within (k .flags)))
-      (ap (allAtMost 65535) (lies-at bs (h .fixed .contours) (atEnds lay) (lay .contours) (ends-at h k fit) refl (ends-lies h k fit)) ∙ ends-within (k .ends)))
-      (ap (allAtMost 255) (lies-at bs (h .world .tflags) (atTwilightFlags lay) (lay .twilight) (twilightFlags-at h k fit) (sym (twilightFlags-long h k fit)) (twilightFlags-lies h k fit)) ∙ flags-within (k .twilightFlags))
+      (ap (allAtMost 255) (lies-at bs (h .world .gflags) (atFlags lay) (lay .points) (flags-at h k fit) (sym (flags-long h k fit)) (flags-lies h k fit)) ∙ flags-within (k .widths .world .gflags)))
+      (ap (allAtMost 65535) (lies-at bs (h .fixed .contours) (atEnds lay) (lay .contours) (ends-at h k fit) refl (ends-lies h k fit)) ∙ ends-within (k .widths .fixed .contours)))
+      (ap (allAtMost 255) (lies-at bs (h .world .tflags) (atTwilightFlags lay) (lay .twilight) (twilightFlags-at h k fit) (sym (twilightFlags-long h k fit)) (twilightFlags-lies h k fit)) ∙ flags-within (k .widths .world .tflags))
 
   sum-holds : sumFits bs ≡ true
   sum-holds =
@@ -245,7 +269,7 @@ module _ (h : Held) (k : Keepable h) (v : Within h) where
   opens : openOf bs ≡ Whole lay
   unfolding openOf
   opens =
-      ap (λ (x : Bool). verdict (layoutOf bs) x (framed bs && wordsFit bs (layoutOf bs)) (sumFits bs)) (le-leb (length bs) mostBytes (omega (arith, bytes-long, v .size)))
+      ap (λ (x : Bool). verdict (layoutOf bs) x (framed bs && wordsFit bs (layoutOf bs)) (sumFits bs)) (le-leb (length bs) mostBytes (omega (arith, bytes-long, k .short)))
       ∙ ap₂ (λ (x y : Bool). verdict (layoutOf bs) true x y) (both frame-holds words-hold) sum-holds
       ∙ ap Whole layout-same
 

@@ -2,20 +2,26 @@
 use mathlib.Core.Bool.{true}
 use mathlib.Core.List.{List, [], _∷_}
 use mathlib.Core.Path.{_≡_, ap₂, refl}
-use Prim.Native.Nat.{_%_, _<_, _≤_, _^_, ℕ}
+use Prim.Native.Nat.{_%_, _<_, _≤_, _^_, suc, zero, ℕ}
 use native.Mathlib.Omega.{arith}
 use borrow.Author.Tests.{leb-true}
 use mir.Facts.{ofZ-toZ}
 use mir.Syntax.{w32}
 use lib.Dec.{leb}
+use lib.ListN.{getD}
 use Rattle.graphics.proofs.Laws.{and-left, and-right}
 use Rattle.int.specs.Word.{bitsOf, ofBits}
 use Rattle.word_lists.specs.Lists.{allAtMost, endsOf, flagsOf, numbersOf, wordsOfNumbers}
 use Rattle.word_lists.proofs.Back.{Words}
-use Rattle.word_lists.proofs.Back.Words.{none, more}
+use Rattle.word_lists.proofs.Back.Words.{more}
 
 pub cons : {a b : ℕ} {l m : List ℕ} → a ≡ b → l ≡ m → a ∷ l ≡ b ∷ m
 cons e es = ap₂ (λ (x : ℕ) (xs : List ℕ). x ∷ xs) e es
+
+pub words-at : (ws : List ℕ) (k : ℕ) → Words ws → getD ws k 0 < 2 ^ 32
+words-at [] k f = omega arith
+words-at (w ∷ ws) zero (more h f) = h
+words-at (w ∷ ws) (suc k) (more h f) = words-at ws k f
 
 word-written : (w : ℕ) → w < 2 ^ 32 → bitsOf (ofBits w) ≡ w
 word-written w h = ofZ-toZ {w = w32} (record { fits = h })

@@ -1,54 +1,23 @@
 -- What is written reads back: the state and every list of a written record stand where its layout says. Assumes nothing.
 use mathlib.Core.List.{List, [], _++_, _∷_}
 use mathlib.Core.Path.{_∙_, _≡_, ap, ap₂, refl, sym}
-use Prim.Native.Nat.{_*_, _+_, _<_, _^_, ℕ}
+use Prim.Native.Nat.{_+_, ℕ}
 use native.Mathlib.Omega.{arith}
 use lib.ListN.{length, length-append}
 use lib.IntN.{ℤ}
 use Rattle.graphics.specs.declared.GraphicsState.{GraphicsState}
 use Rattle.state_words.specs.Words.{stateOf, stateSize, stateWords}
-use Rattle.state_words.proofs.Back.{StateFits, read-written}
+use Rattle.state_words.proofs.Back.{read-written}
 use Rattle.word_lists.specs.Lists.{bytesOf, endsOf, flagsOf, numbersOf, part, wordsOfNumbers, wrappingSum}
 use Rattle.word_lists.proofs.Back.{Words}
 use Rattle.record.specs.Format.{Held, bodyWords, glyphWords, layoutFor, recordOf, trailerWords, twilightWords, wordsOf}
-use Rattle.layout.specs.Order.{atControls, atCurrentX, atCurrentY, atEnds, atFlags, atOriginalX, atOriginalY, atSheet, atTwilightFlags, atTwilightOriginalX, atTwilightOriginalY, atTwilightX, atTwilightY, atUnscaledX, atUnscaledY, atTrailer}
+use Rattle.layout.specs.Order.{atControls, atCurrentX, atCurrentY, atEnds, atFlags, atOriginalX, atOriginalY, atSheet, atTwilightFlags, atTwilightOriginalX, atTwilightOriginalY, atTwilightX, atTwilightY, atUnscaledX, atUnscaledY}
 use Rattle.record.specs.Read.{heldIn}
 use Rattle.layout.specs.declared.Layout.{Layout}
-use Rattle.world.specs.World.{fixed, world}
-use Rattle.record_laws.proofs.Lies.{Below, Lies, Numbers, ends-read as all-ends-read, flags-read as all-flags-read, lies-all, lies-at, lies-left, lies-right, number-count, numbers-read}
-
--- what a record can hold: lists of a zone equally long, and each value within its width
-pub record Keepable (h : Held) : Type 0 where
-  pub state : StateFits (h .world .state)
-  pub unscaledX : Numbers (h .fixed .gux)
-  pub unscaledY : Numbers (h .fixed .guy)
-  pub originalX : Numbers (h .fixed .gox)
-  pub originalY : Numbers (h .fixed .goy)
-  pub currentX : Numbers (h .world .gx)
-  pub currentY : Numbers (h .world .gy)
-  pub twilightOriginalX : Numbers (h .world .tox)
-  pub twilightOriginalY : Numbers (h .world .toy)
-  pub twilightX : Numbers (h .world .tx)
-  pub twilightY : Numbers (h .world .ty)
-  pub controls : Numbers (h .fixed .controls)
-  pub sheet : Numbers (h .sheet)
-  pub flags : Below 256 (h .world .gflags)
-  pub ends : Below 65536 (h .fixed .contours)
-  pub twilightFlags : Below 256 (h .world .tflags)
-  pub unscaledX-size : length (h .fixed .gux) ≡ length (h .world .gx)
-  pub unscaledY-size : length (h .fixed .guy) ≡ length (h .world .gx)
-  pub originalX-size : length (h .fixed .gox) ≡ length (h .world .gx)
-  pub originalY-size : length (h .fixed .goy) ≡ length (h .world .gx)
-  pub currentY-size : length (h .world .gy) ≡ length (h .world .gx)
-  pub flags-size : length (h .world .gflags) ≡ length (h .world .gx)
-  pub twilightOriginalX-size : length (h .world .tox) ≡ length (h .world .tx)
-  pub twilightOriginalY-size : length (h .world .toy) ≡ length (h .world .tx)
-  pub twilightY-size : length (h .world .ty) ≡ length (h .world .tx)
-  pub twilightFlags-size : length (h .world .tflags) ≡ length (h .world .tx)
-  pub loop : h .world .state .«loop_counter» < 2 ^ 32
-  pub rp0 : h .world .state .references .rp0 < 2 ^ 64
-  pub rp1 : h .world .state .references .rp1 < 2 ^ 64
-  pub rp2 : h .world .state .references .rp2 < 2 ^ 64
+use Rattle.world.specs.World.{Alike, fixed, world}
+use Rattle.world.proofs.Alike.{fits-alike}
+use Rattle.record_laws.proofs.Keepable.{Keepable}
+use Rattle.record_laws.proofs.Lies.{Lies, ends-read as all-ends-read, flags-read as all-flags-read, lies-all, lies-at, lies-left, lies-right, number-count, numbers-read}
 
 state-count : (s : GraphicsState) → length (stateWords s) ≡ stateSize
 unfolding stateWords
@@ -64,6 +33,12 @@ same-held : {s s′ : GraphicsState} {x0 y0 : List ℤ} {x1 y1 : List ℤ} {x2 y
 same-held e e0 e1 e2 e3 e4 e5 e6 e7 e8 e9 e10 e11 e12 e13 e14 = cc
 
 module _ (h : Held) (k : Keepable h) (fit : Words (wordsOf h)) where
+  alike : Alike (h .fixed) (h .world)
+  alike = fits-alike (h .fixed) (h .sheet) (h .world) (k .sizes)
+
+  twilight-alike : length (h .world .tox) ≡ length (h .world .tx)
+  twilight-alike = alike .9
+
   abbrev pub b : List ℕ
   b = bytesOf (wordsOf h)
 
@@ -230,43 +205,43 @@ module _ (h : Held) (k : Keepable h) (fit : Words (wordsOf h)) where
 
   -- how long each list is, as words
   unscaledX-long : length (wordsOfNumbers (h .fixed .gux)) ≡ l .points
-  unscaledX-long = number-count (h .fixed .gux) ∙ k .unscaledX-size
+  unscaledX-long = number-count (h .fixed .gux) ∙ alike .0
 
   unscaledY-long : length (wordsOfNumbers (h .fixed .guy)) ≡ l .points
-  unscaledY-long = number-count (h .fixed .guy) ∙ k .unscaledY-size
+  unscaledY-long = number-count (h .fixed .guy) ∙ alike .1
 
   originalX-long : length (wordsOfNumbers (h .fixed .gox)) ≡ l .points
-  originalX-long = number-count (h .fixed .gox) ∙ k .originalX-size
+  originalX-long = number-count (h .fixed .gox) ∙ alike .2
 
   originalY-long : length (wordsOfNumbers (h .fixed .goy)) ≡ l .points
-  originalY-long = number-count (h .fixed .goy) ∙ k .originalY-size
+  originalY-long = number-count (h .fixed .goy) ∙ alike .3
 
   currentX-long : length (wordsOfNumbers (h .world .gx)) ≡ l .points
   currentX-long = number-count (h .world .gx)
 
   currentY-long : length (wordsOfNumbers (h .world .gy)) ≡ l .points
-  currentY-long = number-count (h .world .gy) ∙ k .currentY-size
+  currentY-long = number-count (h .world .gy) ∙ alike .4
 
   pub flags-long : length (h .world .gflags) ≡ l .points
-  flags-long = k .flags-size
+  flags-long = alike .5
 
   pub ends-long : length (h .fixed .contours) ≡ l .contours
   ends-long = refl
 
   twilightOriginalX-long : length (wordsOfNumbers (h .world .tox)) ≡ l .twilight
-  twilightOriginalX-long = number-count (h .world .tox) ∙ k .twilightOriginalX-size
+  twilightOriginalX-long = number-count (h .world .tox) ∙ twilight-alike
 
   twilightOriginalY-long : length (wordsOfNumbers (h .world .toy)) ≡ l .twilight
-  twilightOriginalY-long = number-count (h .world .toy) ∙ k .twilightOriginalY-size
+  twilightOriginalY-long = number-count (h .world .toy) ∙ alike .6 ∙ twilight-alike
 
   twilightX-long : length (wordsOfNumbers (h .world .tx)) ≡ l .twilight
   twilightX-long = number-count (h .world .tx)
 
   twilightY-long : length (wordsOfNumbers (h .world .ty)) ≡ l .twilight
-  twilightY-long = number-count (h .world .ty) ∙ k .twilightY-size
+  twilightY-long = number-count (h .world .ty) ∙ alike .7
 
   pub twilightFlags-long : length (h .world .tflags) ≡ l .twilight
-  twilightFlags-long = k .twilightFlags-size
+  twilightFlags-long = alike .8
 
   pub controls-long : length (wordsOfNumbers (h .fixed .controls)) ≡ l .controls
   controls-long = number-count (h .fixed .controls)
@@ -332,52 +307,52 @@ module _ (h : Held) (k : Keepable h) (fit : Words (wordsOf h)) where
 
   -- what is read there
   unscaledX-read : numbersOf (part b (atUnscaledX l) (l .points)) ≡ h .fixed .gux
-  unscaledX-read = ap numbersOf (lies-at b (wordsOfNumbers (h .fixed .gux)) (atUnscaledX l) (l .points) unscaledX-at (sym unscaledX-long) unscaledX-lies) ∙ numbers-read (k .unscaledX)
+  unscaledX-read = ap numbersOf (lies-at b (wordsOfNumbers (h .fixed .gux)) (atUnscaledX l) (l .points) unscaledX-at (sym unscaledX-long) unscaledX-lies) ∙ numbers-read (k .widths .fixed .gux)
 
   unscaledY-read : numbersOf (part b (atUnscaledY l) (l .points)) ≡ h .fixed .guy
-  unscaledY-read = ap numbersOf (lies-at b (wordsOfNumbers (h .fixed .guy)) (atUnscaledY l) (l .points) unscaledY-at (sym unscaledY-long) unscaledY-lies) ∙ numbers-read (k .unscaledY)
+  unscaledY-read = ap numbersOf (lies-at b (wordsOfNumbers (h .fixed .guy)) (atUnscaledY l) (l .points) unscaledY-at (sym unscaledY-long) unscaledY-lies) ∙ numbers-read (k .widths .fixed .guy)
 
   originalX-read : numbersOf (part b (atOriginalX l) (l .points)) ≡ h .fixed .gox
-  originalX-read = ap numbersOf (lies-at b (wordsOfNumbers (h .fixed .gox)) (atOriginalX l) (l .points) originalX-at (sym originalX-long) originalX-lies) ∙ numbers-read (k .originalX)
+  originalX-read = ap numbersOf (lies-at b (wordsOfNumbers (h .fixed .gox)) (atOriginalX l) (l .points) originalX-at (sym originalX-long) originalX-lies) ∙ numbers-read (k .widths .fixed .gox)
 
   originalY-read : numbersOf (part b (atOriginalY l) (l .points)) ≡ h .fixed .goy
-  originalY-read = ap numbersOf (lies-at b (wordsOfNumbers (h .fixed .goy)) (atOriginalY l) (l .points) originalY-at (sym originalY-long) originalY-lies) ∙ numbers-read (k .originalY)
+  originalY-read = ap numbersOf (lies-at b (wordsOfNumbers (h .fixed .goy)) (atOriginalY l) (l .points) originalY-at (sym originalY-long) originalY-lies) ∙ numbers-read (k .widths .fixed .goy)
 
   currentX-read : numbersOf (part b (atCurrentX l) (l .points)) ≡ h .world .gx
-  currentX-read = ap numbersOf (lies-at b (wordsOfNumbers (h .world .gx)) (atCurrentX l) (l .points) currentX-at (sym currentX-long) currentX-lies) ∙ numbers-read (k .currentX)
+  currentX-read = ap numbersOf (lies-at b (wordsOfNumbers (h .world .gx)) (atCurrentX l) (l .points) currentX-at (sym currentX-long) currentX-lies) ∙ numbers-read (k .widths .world .gx)
 
   currentY-read : numbersOf (part b (atCurrentY l) (l .points)) ≡ h .world .gy
-  currentY-read = ap numbersOf (lies-at b (wordsOfNumbers (h .world .gy)) (atCurrentY l) (l .points) currentY-at (sym currentY-long) currentY-lies) ∙ numbers-read (k .currentY)
+  currentY-read = ap numbersOf (lies-at b (wordsOfNumbers (h .world .gy)) (atCurrentY l) (l .points) currentY-at (sym currentY-long) currentY-lies) ∙ numbers-read (k .widths .world .gy)
 
   flags-read : flagsOf (part b (atFlags l) (l .points)) ≡ h .world .gflags
-  flags-read = ap flagsOf (lies-at b (h .world .gflags) (atFlags l) (l .points) flags-at (sym flags-long) flags-lies) ∙ all-flags-read (k .flags)
+  flags-read = ap flagsOf (lies-at b (h .world .gflags) (atFlags l) (l .points) flags-at (sym flags-long) flags-lies) ∙ all-flags-read (k .widths .world .gflags)
 
   ends-read : endsOf (part b (atEnds l) (l .contours)) ≡ h .fixed .contours
-  ends-read = ap endsOf (lies-at b (h .fixed .contours) (atEnds l) (l .contours) ends-at (sym ends-long) ends-lies) ∙ all-ends-read (k .ends)
+  ends-read = ap endsOf (lies-at b (h .fixed .contours) (atEnds l) (l .contours) ends-at (sym ends-long) ends-lies) ∙ all-ends-read (k .widths .fixed .contours)
 
   twilightOriginalX-read : numbersOf (part b (atTwilightOriginalX l) (l .twilight)) ≡ h .world .tox
-  twilightOriginalX-read = ap numbersOf (lies-at b (wordsOfNumbers (h .world .tox)) (atTwilightOriginalX l) (l .twilight) twilightOriginalX-at (sym twilightOriginalX-long) twilightOriginalX-lies) ∙ numbers-read (k .twilightOriginalX)
+  twilightOriginalX-read = ap numbersOf (lies-at b (wordsOfNumbers (h .world .tox)) (atTwilightOriginalX l) (l .twilight) twilightOriginalX-at (sym twilightOriginalX-long) twilightOriginalX-lies) ∙ numbers-read (k .widths .world .tox)
 
   twilightOriginalY-read : numbersOf (part b (atTwilightOriginalY l) (l .twilight)) ≡ h .world .toy
-  twilightOriginalY-read = ap numbersOf (lies-at b (wordsOfNumbers (h .world .toy)) (atTwilightOriginalY l) (l .twilight) twilightOriginalY-at (sym twilightOriginalY-long) twilightOriginalY-lies) ∙ numbers-read (k .twilightOriginalY)
+  twilightOriginalY-read = ap numbersOf (lies-at b (wordsOfNumbers (h .world .toy)) (atTwilightOriginalY l) (l .twilight) twilightOriginalY-at (sym twilightOriginalY-long) twilightOriginalY-lies) ∙ numbers-read (k .widths .world .toy)
 
   twilightX-read : numbersOf (part b (atTwilightX l) (l .twilight)) ≡ h .world .tx
-  twilightX-read = ap numbersOf (lies-at b (wordsOfNumbers (h .world .tx)) (atTwilightX l) (l .twilight) twilightX-at (sym twilightX-long) twilightX-lies) ∙ numbers-read (k .twilightX)
+  twilightX-read = ap numbersOf (lies-at b (wordsOfNumbers (h .world .tx)) (atTwilightX l) (l .twilight) twilightX-at (sym twilightX-long) twilightX-lies) ∙ numbers-read (k .widths .world .tx)
 
   twilightY-read : numbersOf (part b (atTwilightY l) (l .twilight)) ≡ h .world .ty
-  twilightY-read = ap numbersOf (lies-at b (wordsOfNumbers (h .world .ty)) (atTwilightY l) (l .twilight) twilightY-at (sym twilightY-long) twilightY-lies) ∙ numbers-read (k .twilightY)
+  twilightY-read = ap numbersOf (lies-at b (wordsOfNumbers (h .world .ty)) (atTwilightY l) (l .twilight) twilightY-at (sym twilightY-long) twilightY-lies) ∙ numbers-read (k .widths .world .ty)
 
   twilightFlags-read : flagsOf (part b (atTwilightFlags l) (l .twilight)) ≡ h .world .tflags
-  twilightFlags-read = ap flagsOf (lies-at b (h .world .tflags) (atTwilightFlags l) (l .twilight) twilightFlags-at (sym twilightFlags-long) twilightFlags-lies) ∙ all-flags-read (k .twilightFlags)
+  twilightFlags-read = ap flagsOf (lies-at b (h .world .tflags) (atTwilightFlags l) (l .twilight) twilightFlags-at (sym twilightFlags-long) twilightFlags-lies) ∙ all-flags-read (k .widths .world .tflags)
 
   controls-read : numbersOf (part b (atControls l) (l .controls)) ≡ h .fixed .controls
-  controls-read = ap numbersOf (lies-at b (wordsOfNumbers (h .fixed .controls)) (atControls l) (l .controls) controls-at (sym controls-long) controls-lies) ∙ numbers-read (k .controls)
+  controls-read = ap numbersOf (lies-at b (wordsOfNumbers (h .fixed .controls)) (atControls l) (l .controls) controls-at (sym controls-long) controls-lies) ∙ numbers-read (k .widths .fixed .controls)
 
   sheet-read : numbersOf (part b (atSheet l) (l .words)) ≡ h .sheet
-  sheet-read = ap numbersOf (lies-at b (wordsOfNumbers (h .sheet)) (atSheet l) (l .words) sheet-at (sym sheet-long) sheet-lies) ∙ numbers-read (k .sheet)
+  sheet-read = ap numbersOf (lies-at b (wordsOfNumbers (h .sheet)) (atSheet l) (l .words) sheet-at (sym sheet-long) sheet-lies) ∙ numbers-read (k .widths .sheet)
 
   state-read : stateOf (part b 0 stateSize) ≡ h .world .state
-  state-read = ap stateOf (lies-at b state-ws 0 stateSize refl (sym state-long) state-lies) ∙ read-written (h .world .state) (k .state)
+  state-read = ap stateOf (lies-at b state-ws 0 stateSize refl (sym state-long) state-lies) ∙ read-written (h .world .state) (k .widths .world .state .signed)
 
   -- the state and every list stand where the layout says
   pub read-as-written : heldIn (recordOf h) (layoutFor h) ≡ h

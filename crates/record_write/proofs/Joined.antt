@@ -12,7 +12,7 @@ use Rattle.int.specs.Word.{bitsOf}
 use Rattle.state_words.specs.Words.{stateSize, stateWords}
 use Rattle.word_lists.specs.Lists.{bytesOf, part, placed, wordsOfNumbers, wrappingSum}
 use Rattle.word_lists.proofs.Sums.{written-sum}
-use Rattle.world.proofs.Alike.{fits-alike, fits-twilight}
+use Rattle.world.proofs.Alike.{fits-alike}
 use Rattle.world.specs.Sizes.{worldFits}
 use Rattle.layout.specs.Order.{atControls, atCurrentX, atCurrentY, atEnds, atFlags, atOriginalX, atOriginalY, atSheet, atTrailer, atTwilightFlags, atTwilightOriginalX, atTwilightOriginalY, atTwilightX, atTwilightY, atUnscaledX, atUnscaledY, recordSize, sumPlace, trailerSize}
 use Rattle.layout.specs.declared.Layout.{Layout}
@@ -67,7 +67,6 @@ sized h e =
     let f = h .fixed in
     let w = h .world in
     let a = fits-alike f (h .sheet) w e in
-    let o = fits-twilight f (h .sheet) w e in
     record {
       gux = number-count (f .gux) ∙ a .0;
       guy = number-count (f .guy) ∙ a .1;
@@ -77,8 +76,8 @@ sized h e =
       gy = number-count (w .gy) ∙ a .4;
       gflags = a .5;
       contours = refl;
-      tox = number-count (w .tox) ∙ o;
-      toy = number-count (w .toy) ∙ a .6 ∙ o;
+      tox = number-count (w .tox) ∙ a .9;
+      toy = number-count (w .toy) ∙ a .6 ∙ a .9;
       tx = number-count (w .tx);
       ty = number-count (w .ty) ∙ a .7;
       tflags = a .8;

@@ -1,14 +1,14 @@
 -- Rounding of 26.6 distances, by the mode: the OpenType instructions RTG, RTHG, RTDG, RDTG, RUTG, ROFF, SROUND and S45ROUND, and FreeType
 -- 2.13.3, ttinterp.c (Round_To_Grid, Round_To_Half_Grid, Round_To_Double_Grid, Round_Down_To_Grid, Round_Up_To_Grid, Round_None, Round_Super,
 -- Round_Super_45, with compensation 0), on words that wrap. Where a mirrored result would cross 0, docs/src gives 0; so does FreeType, but for
--- HalfGrid, where it gives 32 or -32: that happens within 63 of 2 ^ 31 alone. Assumes nothing.
-use Prim.Native.Nat.{ℕ}
+-- HalfGrid, where it gives 32 or -32: that happens within 63 of 2 ^ 31 alone. Super45 of -2 ^ 31 by -1 is undefined in FreeType's C and wraps in the
+-- Rust; by period 0 the Rust panics, and document 01 refuses that. Assumes nothing.
 use mathlib.Core.Bool.{Bool, true, false, not, cond}
 use lib.IntN.{ℤ, pos}
 use lib.Signed.{nonNeg, ltZ}
 use Rattle.int.specs.Word.{add32, sub32, neg32, mul32, quot32, eqZ, minZ, maxZ}
 use Rattle.math.specs.Fixed.{pixFloor, pixRound, pixCeil, padFloor, padRound}
-use Rattle.answer.specs.Answer.{numberOf}
+use Rattle.answer.specs.Answer.{Said, saidBy, saidDone}
 use Rattle.answer.specs.declared.Refusal.the-variants.{State}
 use Rattle.round.specs.declared.RoundMode.{RoundMode}
 use Rattle.round.specs.declared.RoundMode.the-variants.{Grid, HalfGrid, DoubleGrid, DownToGrid, UpToGrid, Off, Super, Super45}
@@ -88,10 +88,10 @@ usable s = usableBy (s .period) (s .mode)
 abbrev pub roundedOf : RoundState → ℤ → Rounded
 roundedOf s d = cond (usable s) (To (roundOf s d)) (Refused State)
 
--- document 01's number for what the direct call says
-abbrev pub numberOfRounded : Rounded → ℕ
-numberOfRounded (To d) = 0
-numberOfRounded (Refused r) = numberOf r
+-- what it says
+abbrev pub saidOfRounded : Rounded → Said
+saidOfRounded (To d) = saidDone
+saidOfRounded (Refused why) = saidBy why
 
 -- the state that a glyph starts with
 abbrev pub fresh : RoundState

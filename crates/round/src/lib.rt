@@ -24,7 +24,7 @@ ghost use mathlib.Core.Bool.{cond};
 ghost use lib.IntN.{pos};
 ghost use lib.Signed.{nonNeg};
 ghost use Rattle.int.specs.Word.{neg32, minZ, maxZ};
-ghost use Rattle.round.specs.Round.{mirrored, grid, halfGrid, doubleGrid, downToGrid, upToGrid, quotFloor, periodFloor, keepUp, keepDown, superBy, roundOf, usable, roundedOf};
+ghost use Rattle.round.specs.Round.{mirrored, grid, halfGrid, doubleGrid, downToGrid, upToGrid, quotFloor, periodFloor, keepUp, keepDown, superBy, roundOf, usable, roundedOf, saidOfRounded};
 ghost use Rattle.round.specs.Round.{fresh as Round·fresh};
 
 // The eight modes, in round.rs order, with the instruction that sets each.
@@ -59,6 +59,26 @@ pub struct RoundState {
 pub enum Rounded {
     To(i32),
     Refused(Refusal),
+}
+
+impl Rounded {
+    pub fn number(self) -> u32
+        ensures { λ r. ⌜ r ≡ saidOfRounded self .number ⌝ }
+    {
+        match self {
+            Rounded::To(_) => 0,
+            Rounded::Refused(why) => why.number(),
+        }
+    }
+
+    pub fn detail(self) -> u64
+        ensures { λ r. ⌜ r ≡ saidOfRounded self .detail ⌝ }
+    {
+        match self {
+            Rounded::To(_) => 0,
+            Rounded::Refused(why) => why.detail(),
+        }
+    }
 }
 
 // The answer y of a rounding at |d|, put back on d's side of 0, and never across it.

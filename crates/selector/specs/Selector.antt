@@ -1,6 +1,7 @@
 -- Super rounding from its selector: the OpenType instructions SROUND and S45ROUND, whose operand n has the period, the phase and the threshold in
 -- bits 7 and 6, 5 and 4, and 3 to 0; and FreeType 2.13.3, ttinterp.c (Ins_SROUND, Ins_S45ROUND, SetSuperRound), which works in 2.14 and comes down
--- to 26.6 at the end. Document 02, K2: only the operand's low byte counts. One rule over every operand and both kinds. Assumes nothing.
+-- to 26.6 at the end. Document 02, K2: only the operand's low byte counts. OpenType reserves both bits of the period set; FreeType and the Rust
+-- keep the grid's. One rule over every operand and both kinds. Assumes nothing.
 use Prim.Native.Nat.{ℕ, _*_, _/_, _%_, _^_}
 use mathlib.Core.Bool.{Bool, true, false, cond}
 use lib.Dec.{eqb}

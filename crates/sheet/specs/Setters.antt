@@ -1,6 +1,6 @@
 -- The lines that set the state and move no point: the OpenType instructions SVTCA, SPVTCA, SFVTCA, SRP0 to SRP2, SZP0 to SZP2, SZPS, SLOOP, RTG, RTHG,
 -- RTDG, RDTG, RUTG, ROFF, SROUND and S45ROUND. Document 01 gives the refusals 6, 9 and 10, and SLOOP's cap; document 02, K2, the last two lines.
--- Assumes nothing.
+-- A zone that isn't 0 or 1 is refused as in the Rust, pedantic or not; FreeType ignores it where it is not pedantic. Assumes nothing.
 use Prim.Native.Nat.{ℕ, _%_, min}
 use mathlib.Core.List.{List, [], _∷_}
 use mathlib.Core.Bool.{Bool, cond, _&&_, _||_}

@@ -1,5 +1,6 @@
 -- What each opcode's line takes, and how a line is read off a sheet: document 01, "A sheet and its lines", and
--- document 02, K1 (0x34 to 0x38, 0x81, 0x82) and K2 (0x76, 0x77). Assumes nothing.
+-- document 02, K1 (0x34 to 0x38, 0x81, 0x82) and K2 (0x76, 0x77). FreeType and the Rust take operands from a stack, where none is too many and a
+-- missing one is 0 unless pedantic; document 01 answers 5 and 6. Assumes nothing.
 use Prim.Native.Nat.{ℕ, zero, suc, _+_, _-_}
 use mathlib.Core.List.{List, [], _∷_}
 use mathlib.Core.Bool.{Bool, true, false, cond, _&&_}

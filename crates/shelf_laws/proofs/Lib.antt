@@ -1,1 +1,3 @@
 pub mod Shelved
+pub mod Reread
+pub mod Sample

@@ -1,121 +1,32 @@
 -- A record that is read is written whole after its replay: a run keeps the length of every list, so what was within the sizes still is, and the
 -- record has as many bytes as before. Assumes nothing.
-use mathlib.Core.Bool.{Bool, _&&_, cond, true}
+use mathlib.Core.Bool.{Bool, cond, true}
 use mathlib.Core.List.{List, _++_}
-use mathlib.Core.Path.{_∙_, _≡_, ap, ap₂, refl, subst, sym}
+use mathlib.Core.Path.{_∙_, _≡_, ap}
 use Prim.Native.Nat.{_≤_, ℕ}
 use native.Mathlib.Omega.{arith}
-use borrow.Author.Tests.{eq-eqb, le-leb, leb-true}
-use lib.Dec.{eqb, leb}
-use lib.IntN.{ℤ}
+use borrow.Author.Tests.{le-leb}
 use lib.ListN.{drop, length}
-use Rattle.graphics.proofs.Laws.{and-left, and-right}
-use Rattle.int.specs.Word.{ofBits}
-use Rattle.limits.specs.Limits.{mostContours, mostControlValues, mostPoints, mostWords}
-use Rattle.zone.specs.Sizes.{glyphFits, pairFits, placedFits, twilightFits}
-use Rattle.world.specs.Sizes.{fits, worldFits}
-use Rattle.onward.proofs.Loop.{Sizes, sizes}
+use Rattle.world.specs.Sizes.{worldFits}
+use Rattle.onward.proofs.Loop.{Sizes}
 use Rattle.laws.proofs.Keeps.{run-keeps, still-fits}
-use Rattle.word_lists.proofs.Parts.{mapped-length}
-use Rattle.word_lists.specs.Lists.{endOf, endsOf, flagOf, flagsOf, numbersOf, part}
-use Rattle.layout.specs.Order.{atControls, atCurrentX, atCurrentY, atEnds, atFlags, atOriginalX, atOriginalY, atSheet, atTwilightFlags, atTwilightOriginalX, atTwilightOriginalY, atTwilightX, atTwilightY, atUnscaledX, atUnscaledY, mostBytes, recordSize}
-use Rattle.layout.specs.declared.Layout.{Layout}
-use Rattle.record.proofs.Whole.{layout-is, layout-kept, sound}
+use Rattle.layout.specs.Order.{mostBytes, recordSize}
 use Rattle.record.specs.Format.{Held, layoutFor, recordOf}
-use Rattle.record.specs.Read.{countsFit, heldIn, layoutOf, openOf, readAs, readOf}
+use Rattle.record.specs.Read.{readOf}
 use Rattle.record.specs.Read.Read.{Kept}
-use Rattle.record.specs.declared.Opened.{Opened}
-use Rattle.record.specs.declared.Opened.the-variants.{Damaged, Whole}
+use Rattle.record_laws.proofs.Whence.{both, whence}
 use Rattle.record_write.specs.Written.{canWrite, sizeFor, writeOf, wrote}
 use Rattle.after.specs.After.{after, ranFrom, saidOf, shelved, shelvedAs}
 use Rattle.shelf.specs.Shelf.{onRead, shelfOf}
 
-both : {a c : Bool} → a ≡ true → c ≡ true → a && c ≡ true
-both e g = ap₂ (λ (x y : Bool). x && y) e g
-
--- ---- what is read is within the sizes
-module _ (bytes : List ℕ) where
-  abbrev nums : ℕ → ℕ → List ℤ
-  nums at n = numbersOf (part bytes at n)
-
-  abbrev flags : ℕ → ℕ → List ℕ
-  flags at n = flagsOf (part bytes at n)
-
-  same : (a b n : ℕ) → eqb (length (nums a n)) (length (nums b n)) ≡ true
-  same a b n = eq-eqb (length (nums a n)) (length (nums b n)) (mapped-length ofBits bytes a n ∙ sym (mapped-length ofBits bytes b n))
-
-  least : (a n most : ℕ) → n ≤ most → leb (length (nums a n)) most ≡ true
-  least a n most h = le-leb (length (nums a n)) most (omega (arith, mapped-length ofBits bytes a n, h))
-
-  pair : (a b n : ℕ) → n ≤ mostPoints → pairFits (nums a n) (nums b n) ≡ true
-  unfolding pairFits
-  pair a b n h = both (same b a n) (least a n mostPoints h)
-
-  marked : (a b c n : ℕ) → n ≤ mostPoints → placedFits (nums a n) (nums b n) (flags c n) ≡ true
-  unfolding placedFits
-  marked a b c n h = both (eq-eqb (length (flags c n)) (length (nums a n)) (mapped-length flagOf bytes c n ∙ sym (mapped-length ofBits bytes a n))) (pair a b n h)
-
-  five : (o p a b c n : ℕ) → n ≤ mostPoints → twilightFits (nums o n) (nums p n) (nums a n) (nums b n) (flags c n) ≡ true
-  unfolding twilightFits
-  five o p a b c n h = both (both (same o a n) (pair o p n h)) (marked a b c n h)
-
-  eight : (u v o p a b c e n k : ℕ) → n ≤ mostPoints → k ≤ mostContours
-      → glyphFits (nums u n) (nums v n) (nums o n) (nums p n) (nums a n) (nums b n) (flags c n) (endsOf (part bytes e k)) ≡ true
-  unfolding glyphFits
-  eight u v o p a b c e n k h g =
-      both (both (both (same u a n) (pair u v n h)) (five o p a b c n h))
-      (le-leb (length (endsOf (part bytes e k))) mostContours (omega (arith, mapped-length endOf bytes e k, g)))
-
-  pub read-fits : (l : Layout) → countsFit l ≡ true → worldFits (heldIn bytes l .fixed) (heldIn bytes l .sheet) (heldIn bytes l .world) ≡ true
-  unfolding fits
-  read-fits l e =
-      let four = and-left (leb (l .points) mostPoints && leb (l .contours) mostContours && leb (l .twilight) mostPoints && leb (l .controls) mostControlValues) (leb (l .words) mostWords) e in
-      let three = and-left (leb (l .points) mostPoints && leb (l .contours) mostContours && leb (l .twilight) mostPoints) (leb (l .controls) mostControlValues) four in
-      let two = and-left (leb (l .points) mostPoints && leb (l .contours) mostContours) (leb (l .twilight) mostPoints) three in
-      let n = leb-true (l .points) mostPoints (and-left (leb (l .points) mostPoints) (leb (l .contours) mostContours) two) in
-      let k = leb-true (l .contours) mostContours (and-right (leb (l .points) mostPoints) (leb (l .contours) mostContours) two) in
-      let m = leb-true (l .twilight) mostPoints (and-right (leb (l .points) mostPoints && leb (l .contours) mostContours) (leb (l .twilight) mostPoints) three) in
-      let v =
-      leb-true (l .controls) mostControlValues
-      (and-right (leb (l .points) mostPoints && leb (l .contours) mostContours && leb (l .twilight) mostPoints) (leb (l .controls) mostControlValues) four) in
-      let w =
-      leb-true (l .words) mostWords
-      (and-right (leb (l .points) mostPoints && leb (l .contours) mostContours && leb (l .twilight) mostPoints && leb (l .controls) mostControlValues) (leb (l .words) mostWords) e) in
-      both
-      (both
-      (both (eight (atUnscaledX l) (atUnscaledY l) (atOriginalX l) (atOriginalY l) (atCurrentX l) (atCurrentY l) (atFlags l) (atEnds l) (l .points) (l .contours) n k)
-      (five (atTwilightOriginalX l) (atTwilightOriginalY l) (atTwilightX l) (atTwilightY l) (atTwilightFlags l) (l .twilight) m))
-      (least (atControls l) (l .controls) mostControlValues v))
-      (least (atSheet l) (l .words) mostWords w)
-
--- ---- and is still so after the run
-after-layout : (h : Held) → layoutFor (after h) ≡ layoutFor h
+-- ---- what is within the sizes is still so after the run
+pub after-layout : (h : Held) → layoutFor (after h) ≡ layoutFor h
 after-layout h =
     ap (λ (z : Sizes). record { points = z .gx; contours = length (h .fixed .contours); twilight = z .tx; controls = length (h .fixed .controls); words = length (h .sheet) })
     (run-keeps (h .fixed) (h .sheet) (length (h .sheet)) 0 (h .world) .lengths)
 
-after-fits : (h : Held) → worldFits (after h .fixed) (after h .sheet) (after h .world) ≡ worldFits (h .fixed) (h .sheet) (h .world)
+pub after-fits : (h : Held) → worldFits (after h .fixed) (after h .sheet) (after h .world) ≡ worldFits (h .fixed) (h .sheet) (h .world)
 after-fits h = still-fits (h .fixed) (h .sheet) (h .world) (ranFrom h .world) (run-keeps (h .fixed) (h .sheet) (length (h .sheet)) 0 (h .world))
-
--- what a byte string holds, where it is read
-pub record Whence (bytes : List ℕ) (h : Held) : Type 0 where
-  pub fit : worldFits (h .fixed) (h .sheet) (h .world) ≡ true
-  pub size : recordSize (layoutFor h) ≡ length bytes
-  pub short : leb (length bytes) mostBytes ≡ true
-
-whence-whole : (bytes : List ℕ) (l : Layout) → openOf bytes ≡ Whole l → Whence bytes (heldIn bytes l)
-whence-whole bytes l e =
-    let m = layoutOf bytes in
-    let s = sound bytes l e in
-    let same-size : recordSize (layoutFor (heldIn bytes m)) ≡ length bytes = ap recordSize (layout-kept bytes m) ∙ omega (arith, s .adds-up, s .length-is) in
-    subst (λ (n : Layout). Whence bytes (heldIn bytes n)) (layout-is bytes l e) (record { fit = read-fits bytes m (s .counts-fit); size = same-size; short = le-leb (length bytes) mostBytes (s .size-is) })
-
-by-verdict : (bytes : List ℕ) (h : Held) (o : Opened) → openOf bytes ≡ o → readAs bytes o ≡ Kept h → Whence bytes h
-by-verdict bytes h (Whole l) e k = let g : heldIn bytes l ≡ h = cc k in subst (Whence bytes) g (whence-whole bytes l e)
-by-verdict bytes h (Damaged why) e k = record { fit = cc k; size = cc k; short = cc k }
-
-pub whence : (bytes : List ℕ) (h : Held) → readOf bytes ≡ Kept h → Whence bytes h
-whence bytes h e = by-verdict bytes h (openOf bytes) refl e
 
 -- a record that is read is written whole after its replay, with as many bytes, where there is room for them
 pub shelved-whole : (bytes out : List ℕ) (h : Held) → readOf bytes ≡ Kept h → length bytes ≤ length out
@@ -125,7 +36,7 @@ shelved-whole bytes out h e room =
     let w = whence bytes h e in
     let size : sizeFor (after h) ≡ length bytes = ap recordSize (after-layout h) ∙ w .size in
     let can : canWrite (after h) (length out) ≡ true =
-    both (both (after-fits h ∙ w .fit) (le-leb (sizeFor (after h)) mostBytes (omega (arith, size, leb-true (length bytes) mostBytes (w .short))))) (le-leb (sizeFor (after h)) (length out) (omega (arith, size, room))) in
+    both (both (after-fits h ∙ w .fit) (le-leb (sizeFor (after h)) mostBytes (omega (arith, size, w .short)))) (le-leb (sizeFor (after h)) (length out) (omega (arith, size, room))) in
     ap (onRead out) e
     ∙ ap (λ (t : Bool). shelvedAs (layoutFor h) (ranFrom h) (cond t (wrote (sizeFor (after h)) (recordOf (after h) ++ drop (sizeFor (after h)) out)) (wrote 0 out))) can
     ∙ ap (λ (n : ℕ). shelvedAs (layoutFor h) (ranFrom h) (wrote n (recordOf (after h) ++ drop n out))) size

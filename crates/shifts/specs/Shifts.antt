@@ -1,6 +1,8 @@
 -- SHC and SHZ: OpenType, SHC[a] and SHZ[a], and FreeType 2.13.3, ttinterp.c (Ins_SHC, Ins_SHZ): the twilight zone has one contour of all its points;
--- SHZ shifts zp2's zone whichever its operand names, as far as the last contour goes, and touches nothing. Document 02, K1, decides what a bad
--- contour and a bad zone come to, and that both are tested before the reference point. Assumes nothing.
+-- SHZ shifts zp2's zone whichever its operand names, as far as the last contour goes, and touches nothing. So does the Rust; OpenType's text speaks of
+-- the zone that the operand names. Document 02, K1, decides what a bad contour and a bad zone come to, and that both are tested before the reference
+-- point. The Rust, pedantic, looks at the reference point before SHC's contour and takes contour 1 of twilight; FreeType goes on, doing nothing, where
+-- a reference or a zone is bad and it is not pedantic. Assumes nothing.
 use Prim.Native.Nat.{ℕ, zero, suc}
 use mathlib.Core.Bool.{cond, false, true}
 use mathlib.Core.List.{List}

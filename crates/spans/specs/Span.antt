@@ -1,6 +1,6 @@
 -- Points in a row, each shifted as the reference point was: the loop of OpenType's SHC[a] and SHZ[a], and FreeType 2.13.3, ttinterp.c (Ins_SHC,
 -- Ins_SHZ), which leave the reference point itself where it is. It is SHP's loop over the numbers of the points. The Rust decides what a point
--- beyond the zone comes to: outline.rs refuses it there, with the points before it done. Assumes nothing.
+-- beyond the zone comes to: outline.rs refuses it there, with the points before it done; FreeType tests none. Assumes nothing.
 use Prim.Native.Nat.{ℕ, zero, suc, _-_}
 use mathlib.Core.Bool.{Bool, cond, not, _&&_}
 use mathlib.Core.List.{List, [], _∷_}

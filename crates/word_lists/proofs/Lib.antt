@@ -3,3 +3,4 @@ pub mod Filling
 pub mod Storing
 pub mod Back
 pub mod Sums
+pub mod Widths

@@ -37,7 +37,7 @@ alike-by f w g t =
     let a = glyph-alike (f .gux) (f .guy) (f .gox) (f .goy) (w .gx) (w .gy) (w .gflags) (f .contours) g in
     let o = twilight-alike (f .gox) (f .goy) (w .gx) (w .gy) (w .gflags) (a .2) in
     let m = twilight-alike (w .tox) (w .toy) (w .tx) (w .ty) (w .tflags) t in
-    (a .0, a .1 ∙ a .0, o .0, o .1 ∙ o .0, o .2, o .3, m .1, m .2, m .3)
+    (a .0, a .1 ∙ a .0, o .0, o .1 ∙ o .0, o .2, o .3, m .1, m .2, m .3, m .0)
 
 -- the tests of both zones, out of all four
 zones-fit : (f : Fixed) (sheet : List ℤ) (w : World) → worldFits f sheet w ≡ true
@@ -53,10 +53,6 @@ zones-fit f sheet w e =
 
 pub fits-alike : (f : Fixed) (sheet : List ℤ) (w : World) → worldFits f sheet w ≡ true → Alike f w
 fits-alike f sheet w e = let z = zones-fit f sheet w e in alike-by f w (z .0) (z .1)
-
--- the twilight zone's originals are as many as its points
-pub fits-twilight : (f : Fixed) (sheet : List ℤ) (w : World) → worldFits f sheet w ≡ true → length (w .tox) ≡ length (w .tx)
-fits-twilight f sheet w e = twilight-alike (w .tox) (w .toy) (w .tx) (w .ty) (w .tflags) (zones-fit f sheet w e .1) .0
 
 -- ---- the limits
 pair-most : (xs ys : List ℤ) → pairFits xs ys ≡ true → length xs ≤ mostPoints

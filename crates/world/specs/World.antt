@@ -49,6 +49,7 @@ Alike f w =
     × (length (w .toy) ≡ length (w .tox))
     × (length (w .ty) ≡ length (w .tx))
     × (length (w .tflags) ≡ length (w .tx))
+    × (length (w .tox) ≡ length (w .tx))
 
 -- what a line comes to, and the world after it
 pub record Lined : Type 0 where

@@ -1,5 +1,5 @@
 -- Which lists make a zone: document 01, "What the replayer holds" and "Sizes": a zone's lists share one length, which is within the limit.
--- Answer 2 where the test says no. Assumes nothing.
+-- Answer 2 where the test says no. FreeType gives the twilight zone max(30, 2 (n + control values)) points and no more. Assumes nothing.
 use Prim.Native.Nat.{ℕ}
 use mathlib.Core.Bool.{Bool, _&&_}
 use mathlib.Core.List.{List}

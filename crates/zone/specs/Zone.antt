@@ -9,7 +9,7 @@ use lib.Bits.{bitOr, bitXor}
 use lib.Dec.{ltb, leb}
 use lib.IntN.{ℤ, pos}
 use lib.ListN.{length, take, drop, getD, set}
-use Rattle.answer.specs.Answer.{numberOf, detailOf}
+use Rattle.answer.specs.Answer.{Said, saidBy, saidDone}
 use Rattle.answer.specs.declared.Refusal.{Refusal}
 use Rattle.answer.specs.declared.Refusal.the-variants.{Point, Range}
 use Rattle.answer.specs.declared.Call.{Call}
@@ -80,19 +80,11 @@ setOnCurveOf flags start end on =
     (marked Done (overPart (map (onCurve on)) start end flags))
     (marked (Refused (Range start)) flags)
 
--- ---- document 01's number and detail for what a call says
-abbrev pub numberOfFetched : Fetched → ℕ
-numberOfFetched (At place) = 0
-numberOfFetched (RefusedPlace why) = numberOf why
+-- ---- what a direct call says
+abbrev pub saidOfFetched : Fetched → Said
+saidOfFetched (At place) = saidDone
+saidOfFetched (RefusedPlace why) = saidBy why
 
-abbrev pub detailOfFetched : Fetched → ℕ
-detailOfFetched (At place) = 0
-detailOfFetched (RefusedPlace why) = detailOf why
-
-abbrev pub numberOfTouched : Touched → ℕ
-numberOfTouched (Is b) = 0
-numberOfTouched (RefusedMark why) = numberOf why
-
-abbrev pub detailOfTouched : Touched → ℕ
-detailOfTouched (Is b) = 0
-detailOfTouched (RefusedMark why) = detailOf why
+abbrev pub saidOfTouched : Touched → Said
+saidOfTouched (Is b) = saidDone
+saidOfTouched (RefusedMark why) = saidBy why

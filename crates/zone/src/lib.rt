@@ -20,7 +20,7 @@ ghost use mathlib.Core.List.{map};
 ghost use Prim.Native.Nat.{_≤_};
 ghost use lib.IntN.{pos};
 ghost use lib.ListN.{length, getD};
-ghost use Rattle.zone.specs.Zone.{fetchOf, placeOf, orAt, marked, touchOf, untouchOf, flipOf, touchedOf, onCurve, setOnCurveOf};
+ghost use Rattle.zone.specs.Zone.{fetchOf, placeOf, orAt, marked, touchOf, untouchOf, flipOf, touchedOf, onCurve, setOnCurveOf, saidOfFetched, saidOfTouched};
 ghost use Rattle.zone.specs.Sizes.{pairFits, flagsFit, placedFits, twilightFits, glyphFits};
 ghost use Rattle.zone.specs.Direct.{tryFetchOf, tryUnscaledOf, tryTouchOf, tryUntouchOf, tryFlipOf, tryTouchedOf, trySetOnCurveOf};
 
@@ -29,6 +29,26 @@ ghost use Rattle.zone.specs.Direct.{tryFetchOf, tryUnscaledOf, tryTouchO
 pub enum Fetched {
     At(Vector),
     Refused(Refusal),
+}
+
+impl Fetched {
+    pub fn number(self) -> u32
+        ensures { λ r. ⌜ r ≡ saidOfFetched self .number ⌝ }
+    {
+        match self {
+            Fetched::At(_) => 0,
+            Fetched::Refused(why) => why.number(),
+        }
+    }
+
+    pub fn detail(self) -> u64
+        ensures { λ r. ⌜ r ≡ saidOfFetched self .detail ⌝ }
+    {
+        match self {
+            Fetched::At(_) => 0,
+            Fetched::Refused(why) => why.detail(),
+        }
+    }
 }
 
 // The place of a point of the current or the original outline.
@@ -113,6 +133,26 @@ pub fn flip_on_curve(flags: &mut [u8], at: u64) -> Call
 pub enum Touched {
     Is(bool),
     Refused(Refusal),
+}
+
+impl Touched {
+    pub fn number(self) -> u32
+        ensures { λ r. ⌜ r ≡ saidOfTouched self .number ⌝ }
+    {
+        match self {
+            Touched::Is(_) => 0,
+            Touched::Refused(why) => why.number(),
+        }
+    }
+
+    pub fn detail(self) -> u64
+        ensures { λ r. ⌜ r ≡ saidOfTouched self .detail ⌝ }
+    {
+        match self {
+            Touched::Is(_) => 0,
+            Touched::Refused(why) => why.detail(),
+        }
+    }
 }
 
 // For both axes either mark will do.

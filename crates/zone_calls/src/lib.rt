@@ -15,6 +15,7 @@ use compare::Compared;
 use compare::Said;
 use compare::compare_flags;
 use compare::compare_words;
+use point::Axis;
 use point::CoordAxis;
 use zone::Fetched;
 use zone::Touched;
@@ -119,19 +120,19 @@ fn flags_agree(case: &[u8]) -> bool {
 fn iup_agrees_over(
     case: &[u8],
     list: u64,
-    mask: u8,
+    axis: Axis,
     unscaled: &[i32],
     original: &[i32],
     current: &mut [i32],
     flags: &[u8],
     contours: &[u16],
 ) -> bool {
-    let call = iup::try_iup(unscaled, original, current, flags, contours, mask);
+    let call = iup::try_iup(unscaled, original, current, flags, contours, axis);
     Said::of_call(call).agrees(compare_words(case, list, current), case)
 }
 
 // Along x or y, by the list of the unscaled coordinates.
-fn iup_agrees_along(case: &[u8], first: u64, mask: u8) -> bool {
+fn iup_agrees_along(case: &[u8], first: u64, axis: Axis) -> bool {
     let unscaled = words_of(case, first);
     let original = words_of(case, after(first, 2));
     let mut current = words_of(case, after(first, 4));
@@ -145,7 +146,7 @@ fn iup_agrees_along(case: &[u8], first: u64, mask: u8) -> bool {
     iup_agrees_over(
         case,
         after(first, 4),
-        mask,
+        axis,
         &unscaled[..n],
         &original[..m],
         &mut current[..k],
@@ -156,9 +157,9 @@ fn iup_agrees_along(case: &[u8], first: u64, mask: u8) -> bool {
 
 fn iup_agrees(case: &[u8]) -> bool {
     if word(case, 7) == 1 {
-        iup_agrees_along(case, 0, point::X_TOUCHED)
+        iup_agrees_along(case, 0, Axis::X)
     } else {
-        iup_agrees_along(case, 1, point::Y_TOUCHED)
+        iup_agrees_along(case, 1, Axis::Y)
     }
 }
 

@@ -206,12 +206,6 @@ impl<'a> Machine<'a> {
         self.engine.graphics.backward_compatibility
     }
 
-    /// Backward compatibility, and IUP has been along both axes.
-    pub fn is_past_both_iups(&self) -> bool {
-        let graphics = &self.engine.graphics;
-        graphics.backward_compatibility && graphics.did_iup_x && graphics.did_iup_y
-    }
-
     /// How many contours the zone has that zp2 names.
     pub fn contours_of_zp2(&self) -> u64 {
         self.engine.graphics.zp2().contours.len() as u64

@@ -34,6 +34,7 @@ pub fn turns() -> Vec<Case> {
         across_zero(),
         sloop_cap(),
         small_fdotp(),
+        range_to_the_last(),
     ]
     .concat()
 }
@@ -305,6 +306,34 @@ fn small_fdotp() -> Vec<Case> {
                     .control_values(&[100])
                     .state(|state| state.vectors = along(X, X, [fdotp, other]));
                 cases.push(scene.sheet(line).case(WHOLE_RUN));
+            }
+        }
+    }
+    cases
+}
+
+/// Range flips up to -1 and -2, before and after both IUPs, with the low point
+/// and without: after them -1 alone is refused, and 6 comes before that.
+fn range_to_the_last() -> Vec<Case> {
+    let mut cases = Vec::new();
+    for opcode in [0x81, 0x82] {
+        for after_both in [false, true] {
+            for high in [-1, -2] {
+                let scene = Scene::new(&[(3, 4), (41, -90), (7, 7)])
+                    .flags(&[1, 6, 0xF9])
+                    .state(|state| {
+                        state.backward_compatibility = true;
+                        state.x_interpolated = true;
+                        state.y_interpolated = after_both;
+                    });
+                for low in [0, 1, 2, 3, -1, -2, MIN, MAX] {
+                    let line = [opcode, 2, high, low];
+                    cases.push(scene.clone().sheet(&line).case(WHOLE_RUN));
+                }
+                for pedantic in [false, true] {
+                    let one = scene.clone().state(|state| state.pedantic = pedantic);
+                    cases.push(one.sheet(&[opcode, 1, high]).case(WHOLE_RUN));
+                }
             }
         }
     }

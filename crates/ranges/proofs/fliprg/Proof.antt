@@ -1,11 +1,11 @@
 -- `ranges::fliprg` meets its contract: by the number of operands and by whether points are held fast; else it is what `set_through` ensures.
 -- Assumes nothing.
-use mathlib.Core.Path.{sym, ap, _∙_}
+use mathlib.Core.Path.{ap, _∙_}
 use borrow.Author.Needs.{needs}
 use denote.Ref.{now}
 use Rattle.line.specs.declared.Stepped.{Stepped}
 use Rattle.looped.specs.Looped.{went}
-use Rattle.ranges.proofs.Cases.{too-few, held-fast, range-set}
+use Rattle.ranges.proofs.Cases.{too-few, none-set, range-set}
 use Rattle.ranges.proofs.fliprg.Statement.{statement}
 use Rattle.ranges.proofs.fliprg.Tie as tie
 
@@ -13,23 +13,23 @@ refused-requires : tie.Need-refused-requires
 refused-requires c κs = search needs
 
 returns : tie.Need-returns
-returns c = let i = c .before in let a = i .before .before .before .args in
+returns c = let i = c .before in let a = i .before .before .args in
     ap (λ (line : Stepped). went line (now (a .flags))) (c .refused .ensures)
     ∙ too-few (a .s) (a .opcode) (now (a .operands)) (now (a .flags)) (i .if1 .taken)
 
-past-both-iups-requires : tie.Need-past-both-iups-requires
-past-both-iups-requires c κs = search needs
+index-at-requires : tie.Need-index-at-requires
+index-at-requires c κs = search needs
+
+held-fast-requires : tie.Need-held-fast-requires
+held-fast-requires c κs = search needs
 
 done-requires : tie.Need-done-requires
 done-requires c κs = search needs
 
 returns-2 : tie.Need-returns-2
-returns-2 c = let i = c .before in let p = i .before in let a = p .before .before .before .before .args in
+returns-2 c = let d = c .before in let p = d .before in let h = p .before in let i = h .before in let a = i .before .before .args in
     ap (λ (line : Stepped). went line (now (a .flags))) (c .done .ensures)
-    ∙ held-fast (a .s) (a .opcode) (now (a .operands)) (now (a .flags)) (p .before .if1 .left) (sym (p .past-both-iups .ensures) ∙ i .if2 .taken)
-
-index-at-requires : tie.Need-index-at-requires
-index-at-requires c κs = search needs
+    ∙ none-set (a .s) (a .opcode) (now (a .operands)) (now (a .flags)) (i .if1 .left) (h .index-at .ensures) (p .held-fast .ensures) (d .if2 .taken)
 
 index-at-requires-2 : tie.Need-index-at-requires-2
 index-at-requires-2 c κs = search needs
@@ -44,9 +44,9 @@ same-length : tie.Need-same-length
 same-length c = search needs
 
 returns-3 : tie.Need-returns-3
-returns-3 c = let t = c .before .before in let o = t .before in let l = o .before .before in let h = l .before in let i = h .before in let p = i .before in let a = p .before .before .before .before .args in
-    range-set (a .s) (a .opcode) (now (a .operands)) (now (a .flags)) (p .before .if1 .left) (sym (p .past-both-iups .ensures) ∙ i .if2 .left)
-    (h .index-at .ensures) (l .index-at2 .ensures) (o .is-odd .ensures) (t .set-through .ensures)
+returns-3 c = let t = c .before .before in let o = t .before in let l = o .before .before in let d = l .before in let p = d .before in let h = p .before in let i = h .before in let a = i .before .before .args in
+    range-set (a .s) (a .opcode) (now (a .operands)) (now (a .flags)) (i .if1 .left) (h .index-at .ensures) (p .held-fast .ensures) (d .if2 .left)
+    (l .index-at2 .ensures) (o .is-odd .ensures) (t .set-through .ensures)
 
 pub fliprg-spec : {M : Type 1} → statement M
 fliprg-spec =
@@ -54,10 +54,10 @@ fliprg-spec =
     (tie.spec
     refused-requires
     returns
-    past-both-iups-requires
+    index-at-requires
+    held-fast-requires
     done-requires
     returns-2
-    index-at-requires
     index-at-requires-2
     is-odd-requires
     set-through-requires

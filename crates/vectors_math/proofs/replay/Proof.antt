@@ -2,7 +2,6 @@
 use Prim.Native.Nat.{_-_, _≤_}
 use native.Mathlib.Omega.{arith}
 use lib.ListN.{length}
-use Rattle.round.proofs.Numbers.{rows}
 use Rattle.vectors_math.proofs.replay.Statement.{statement}
 use Rattle.vectors_math.proofs.replay.Tie as tie
 

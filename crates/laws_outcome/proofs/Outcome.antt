@@ -1,0 +1,251 @@
+-- One outcome: any pair of outcomes that a contract allows for one input is equal. Every contract of a public call says that the outcome, with the lists
+-- that were lent, equals a definition applied to the input, so that both outcomes equal one thing, and so does each part of them: `one-outcome` and
+-- `one-part` are that for every call. Below is what they say of each call that users make, `NAME-has-one-outcome` for the call NAME: two outcomes, r₁ with
+-- the lists that it left and r₂ with those that it left, both as the contract allows for one input, are equal part by part. `tests/contracts` holds each
+-- premise to the contract's own text. Assumes nothing.
+use Prim.Native.Nat.{ℕ}
+use mathlib.Core.Bool.{Bool}
+use mathlib.Core.List.{List, _++_}
+use mathlib.Core.Path.{_∙_, _≡_, ap, sym}
+use lib.IntN.{ℤ}
+use lib.ListN.{drop, length}
+use Rattle.answer.specs.declared.Call.{Call}
+use Rattle.point.specs.declared.Axis.{Axis}
+use Rattle.point.specs.declared.CoordAxis.{CoordAxis}
+use Rattle.round.specs.Round.{roundedOf}
+use Rattle.round.specs.declared.RoundState.{RoundState}
+use Rattle.round.specs.declared.Rounded.{Rounded}
+use Rattle.graphics.specs.declared.GraphicsState.{GraphicsState}
+use Rattle.graphics.specs.declared.Vector.{Vector}
+use Rattle.graphics.specs.declared.ZonePointer.{ZonePointer}
+use Rattle.projection.specs.Projection.{deducedOf, dualProjectOf, measuredOf, projectOf}
+use Rattle.projection.specs.declared.Deduced.{Deduced}
+use Rattle.projection.specs.declared.Measured.{Measured}
+use Rattle.zone.specs.Direct.{tryFetchOf, tryFlipOf, trySetOnCurveOf, tryTouchOf, tryTouchedOf, tryUnscaledOf, tryUntouchOf}
+use Rattle.zone.specs.Zone.{Marked, marked}
+use Rattle.zone.specs.declared.Fetched.{Fetched}
+use Rattle.zone.specs.declared.Touched.{Touched}
+use Rattle.moves.specs.Apply.{BothMoved, BothShifted, bothMoved, bothShifted}
+use Rattle.moves.specs.declared.Displaced.{Displaced}
+use Rattle.direct.specs.Direct.{tryDisplacementOf, tryMoveOriginalOf, tryMovePointOf, tryMoveZp2Of}
+use Rattle.iup.specs.Iup.{Went, triedOf, went}
+use Rattle.state_words.specs.Words.{written}
+use Rattle.world.specs.World.{fixed, world}
+use Rattle.onward.specs.Onward.{Ran, ran}
+use Rattle.onward.specs.declared.Outcome.{Outcome}
+use Rattle.replay.specs.Run.{runOf}
+use Rattle.exports.specs.Call.{Left, callOf, left}
+use Rattle.record.specs.Format.{held}
+use Rattle.record.specs.Read.{openOf}
+use Rattle.record.specs.declared.Opened.{Opened}
+use Rattle.record_write.specs.Written.{Wrote, writeOf, wrote}
+use Rattle.after.specs.After.{Shelved, shelved}
+use Rattle.after.specs.declared.Replayed.{Replayed}
+use Rattle.shelf.specs.Shelf.{shelfOf}
+use Rattle.record_print.specs.Print.{Front, printOf}
+
+-- ---- the law
+pub one-outcome : {A : Type 0} {x y said : A} → x ≡ said → y ≡ said → x ≡ y
+one-outcome p q = p ∙ sym q
+
+-- and of each part: the answer, the state, a list
+pub one-part : {A B : Type 0} (part : A → B) {x y said : A} → x ≡ said → y ≡ said → part x ≡ part y
+one-part part p q = ap part (one-outcome p q)
+
+-- ---- a run, and the record of what a run is given
+-- what `run` hands back beside the lists
+abbrev outcomeOf : Ran → Outcome
+outcomeOf x = record { answer = x .answer; place = x .place; lines = x .lines; state = x .world .state }
+
+module _ (start budget : ℕ) (sheet controls gux guy gox goy gx gy : List ℤ) (gflags contours : List ℕ) (tox toy tx ty : List ℤ) (tflags : List ℕ) where
+  pub run-has-one-outcome : (s : GraphicsState)
+      (r₁ : Outcome) (gx₁ gy₁ : List ℤ) (gflags₁ : List ℕ) (tox₁ toy₁ tx₁ ty₁ : List ℤ) (tflags₁ : List ℕ)
+      (r₂ : Outcome) (gx₂ gy₂ : List ℤ) (gflags₂ : List ℕ) (tox₂ toy₂ tx₂ ty₂ : List ℤ) (tflags₂ : List ℕ)
+      → ran r₁ gx₁ gy₁ gflags₁ tox₁ toy₁ tx₁ ty₁ tflags₁
+      ≡ runOf (fixed controls gux guy gox goy contours) sheet budget start (world s gx gy gflags tox toy tx ty tflags)
+      → ran r₂ gx₂ gy₂ gflags₂ tox₂ toy₂ tx₂ ty₂ tflags₂
+      ≡ runOf (fixed controls gux guy gox goy contours) sheet budget start (world s gx gy gflags tox toy tx ty tflags)
+      → (r₁ ≡ r₂)
+      × (gx₁ ≡ gx₂)
+      × (gy₁ ≡ gy₂)
+      × (gflags₁ ≡ gflags₂)
+      × (tox₁ ≡ tox₂)
+      × (toy₁ ≡ toy₂)
+      × (tx₁ ≡ tx₂)
+      × (ty₁ ≡ ty₂)
+      × (tflags₁ ≡ tflags₂)
+  run-has-one-outcome s r₁ gx₁ gy₁ gflags₁ tox₁ toy₁ tx₁ ty₁ tflags₁ r₂ gx₂ gy₂ gflags₂ tox₂ toy₂ tx₂ ty₂ tflags₂ p q = (
+    one-part outcomeOf p q,
+    one-part (λ (x : Ran). x .world .gx) p q,
+    one-part (λ (x : Ran). x .world .gy) p q,
+    one-part (λ (x : Ran). x .world .gflags) p q,
+    one-part (λ (x : Ran). x .world .tox) p q,
+    one-part (λ (x : Ran). x .world .toy) p q,
+    one-part (λ (x : Ran). x .world .tx) p q,
+    one-part (λ (x : Ran). x .world .ty) p q,
+    one-part (λ (x : Ran). x .world .tflags) p q,
+  )
+
+  pub taleviqa-run-has-one-outcome : (state answer : List ℕ)
+      (r₁ : ℕ) (state₁ answer₁ : List ℕ) (gx₁ gy₁ : List ℤ) (gflags₁ : List ℕ) (tox₁ toy₁ tx₁ ty₁ : List ℤ) (tflags₁ : List ℕ)
+      (r₂ : ℕ) (state₂ answer₂ : List ℕ) (gx₂ gy₂ : List ℤ) (gflags₂ : List ℕ) (tox₂ toy₂ tx₂ ty₂ : List ℤ) (tflags₂ : List ℕ)
+      → left r₁ state₁ answer₁ gx₁ gy₁ gflags₁ tox₁ toy₁ tx₁ ty₁ tflags₁
+      ≡ callOf (fixed controls gux guy gox goy contours) sheet budget start state answer gx gy gflags tox toy tx ty tflags
+      → left r₂ state₂ answer₂ gx₂ gy₂ gflags₂ tox₂ toy₂ tx₂ ty₂ tflags₂
+      ≡ callOf (fixed controls gux guy gox goy contours) sheet budget start state answer gx gy gflags tox toy tx ty tflags
+      → (r₁ ≡ r₂)
+      × (state₁ ≡ state₂)
+      × (answer₁ ≡ answer₂)
+      × (gx₁ ≡ gx₂)
+      × (gy₁ ≡ gy₂)
+      × (gflags₁ ≡ gflags₂)
+      × (tox₁ ≡ tox₂)
+      × (toy₁ ≡ toy₂)
+      × (tx₁ ≡ tx₂)
+      × (ty₁ ≡ ty₂)
+      × (tflags₁ ≡ tflags₂)
+  taleviqa-run-has-one-outcome
+      state answer
+      r₁ state₁ answer₁ gx₁ gy₁ gflags₁ tox₁ toy₁ tx₁ ty₁ tflags₁
+      r₂ state₂ answer₂ gx₂ gy₂ gflags₂ tox₂ toy₂ tx₂ ty₂ tflags₂
+      p q = (
+        one-part (λ (x : Left). x .number) p q,
+        one-part (λ (x : Left). x .state) p q,
+        one-part (λ (x : Left). x .answer) p q,
+        one-part (λ (x : Left). x .gx) p q,
+        one-part (λ (x : Left). x .gy) p q,
+        one-part (λ (x : Left). x .gflags) p q,
+        one-part (λ (x : Left). x .tox) p q,
+        one-part (λ (x : Left). x .toy) p q,
+        one-part (λ (x : Left). x .tx) p q,
+        one-part (λ (x : Left). x .ty) p q,
+        one-part (λ (x : Left). x .tflags) p q,
+      )
+
+  pub write-has-one-outcome : (s : GraphicsState) (out : List ℕ) (r₁ : ℕ) (out₁ : List ℕ) (r₂ : ℕ) (out₂ : List ℕ)
+      → wrote r₁ out₁ ≡ writeOf (held (fixed controls gux guy gox goy contours) sheet (world s gx gy gflags tox toy tx ty tflags)) out
+      → wrote r₂ out₂ ≡ writeOf (held (fixed controls gux guy gox goy contours) sheet (world s gx gy gflags tox toy tx ty tflags)) out
+      → (r₁ ≡ r₂) × (out₁ ≡ out₂)
+  write-has-one-outcome s out r₁ out₁ r₂ out₂ p q = (one-part (λ (x : Wrote). x .size) p q, one-part (λ (x : Wrote). x .bytes) p q)
+
+-- ---- bytes and words
+pub open-has-one-outcome : (bytes : List ℕ) (r₁ r₂ : Opened) → r₁ ≡ openOf bytes → r₂ ≡ openOf bytes → r₁ ≡ r₂
+open-has-one-outcome bytes r₁ r₂ p q = one-outcome p q
+
+pub replay-has-one-outcome : (bytes out : List ℕ) (r₁ : Replayed) (out₁ : List ℕ) (r₂ : Replayed) (out₂ : List ℕ)
+    → shelved r₁ out₁ ≡ shelfOf bytes out → shelved r₂ out₂ ≡ shelfOf bytes out → (r₁ ≡ r₂) × (out₁ ≡ out₂)
+replay-has-one-outcome bytes out r₁ out₁ r₂ out₂ p q = (one-part (λ (x : Shelved). x .said) p q, one-part (λ (x : Shelved). x .out) p q)
+
+pub print-has-one-outcome : (bytes text : List ℕ) (r₁ : ℕ) (text₁ : List ℕ) (r₂ : ℕ) (text₂ : List ℕ)
+    → r₁ ≡ length (printOf bytes) → Front r₁ text₁ → text₁ ≡ printOf bytes ++ drop r₁ text
+    → r₂ ≡ length (printOf bytes) → Front r₂ text₂ → text₂ ≡ printOf bytes ++ drop r₂ text
+    → (r₁ ≡ r₂) × (text₁ ≡ text₂)
+print-has-one-outcome bytes text r₁ text₁ r₂ text₂ n₁ front₁ p n₂ front₂ q =
+    let same : r₁ ≡ r₂ = one-outcome n₁ n₂ in (same, p ∙ ap (λ (n : ℕ). printOf bytes ++ drop n text) same ∙ sym q)
+
+pub write-state-has-one-outcome : (s : GraphicsState) (words words₁ words₂ : List ℕ) → words₁ ≡ written s words → words₂ ≡ written s words → words₁ ≡ words₂
+write-state-has-one-outcome s words words₁ words₂ p q = one-outcome p q
+
+-- ---- the direct calls that change no list
+module _ (xs ys : List ℤ) (at : ℕ) (r₁ r₂ : Fetched) where
+  pub try-fetch-has-one-outcome : r₁ ≡ tryFetchOf xs ys at → r₂ ≡ tryFetchOf xs ys at → r₁ ≡ r₂
+  try-fetch-has-one-outcome p q = one-outcome p q
+
+  pub try-unscaled-has-one-outcome : r₁ ≡ tryUnscaledOf xs ys at → r₂ ≡ tryUnscaledOf xs ys at → r₁ ≡ r₂
+  try-unscaled-has-one-outcome p q = one-outcome p q
+
+pub try-is-touched-has-one-outcome : (flags : List ℕ) (at : ℕ) (axis : CoordAxis) (r₁ r₂ : Touched)
+    → r₁ ≡ tryTouchedOf flags at axis → r₂ ≡ tryTouchedOf flags at axis → r₁ ≡ r₂
+try-is-touched-has-one-outcome flags at axis r₁ r₂ p q = one-outcome p q
+
+pub try-round-has-one-outcome : (self : RoundState) (d : ℤ) (r₁ r₂ : Rounded) → r₁ ≡ roundedOf self d → r₂ ≡ roundedOf self d → r₁ ≡ r₂
+try-round-has-one-outcome self d r₁ r₂ p q = one-outcome p q
+
+pub try-derive-has-one-outcome : (s : GraphicsState) (r₁ r₂ : Deduced) → r₁ ≡ deducedOf s → r₂ ≡ deducedOf s → r₁ ≡ r₂
+try-derive-has-one-outcome s r₁ r₂ p q = one-outcome p q
+
+module _ (s : GraphicsState) (a b : Vector) (r₁ r₂ : Measured) where
+  pub try-project-has-one-outcome : r₁ ≡ measuredOf s (projectOf (s .vectors) a b) → r₂ ≡ measuredOf s (projectOf (s .vectors) a b) → r₁ ≡ r₂
+  try-project-has-one-outcome p q = one-outcome p q
+
+  pub try-dual-project-has-one-outcome : r₁ ≡ measuredOf s (dualProjectOf (s .vectors) a b) → r₂ ≡ measuredOf s (dualProjectOf (s .vectors) a b) → r₁ ≡ r₂
+  try-dual-project-has-one-outcome p q = one-outcome p q
+
+  pub try-dual-project-unscaled-has-one-outcome :
+      r₁ ≡ measuredOf s (dualProjectOf (s .vectors) a b) → r₂ ≡ measuredOf s (dualProjectOf (s .vectors) a b) → r₁ ≡ r₂
+  try-dual-project-unscaled-has-one-outcome p q = one-outcome p q
+
+pub try-point-displacement-has-one-outcome : (gox goy gcx gcy tox toy tcx tcy : List ℤ) (s : GraphicsState) (opcode : ℕ) (r₁ r₂ : Displaced)
+    → r₁ ≡ tryDisplacementOf gox goy gcx gcy tox toy tcx tcy s opcode → r₂ ≡ tryDisplacementOf gox goy gcx gcy tox toy tcx tcy s opcode → r₁ ≡ r₂
+try-point-displacement-has-one-outcome gox goy gcx gcy tox toy tcx tcy s opcode r₁ r₂ p q = one-outcome p q
+
+-- ---- the direct calls that change flags
+both-marked : {m : Marked} (r₁ : Call) (flags₁ : List ℕ) (r₂ : Call) (flags₂ : List ℕ)
+    → marked r₁ flags₁ ≡ m → marked r₂ flags₂ ≡ m → (r₁ ≡ r₂) × (flags₁ ≡ flags₂)
+both-marked r₁ flags₁ r₂ flags₂ p q = (one-part (λ (x : Marked). x .call) p q, one-part (λ (x : Marked). x .flags) p q)
+
+module _ (flags : List ℕ) (r₁ : Call) (flags₁ : List ℕ) (r₂ : Call) (flags₂ : List ℕ) where
+  pub try-touch-has-one-outcome : (at : ℕ) (axis : CoordAxis)
+      → marked r₁ flags₁ ≡ tryTouchOf flags at axis → marked r₂ flags₂ ≡ tryTouchOf flags at axis → (r₁ ≡ r₂) × (flags₁ ≡ flags₂)
+  try-touch-has-one-outcome at axis p q = both-marked r₁ flags₁ r₂ flags₂ p q
+
+  pub try-untouch-has-one-outcome : (at : ℕ) (axis : CoordAxis)
+      → marked r₁ flags₁ ≡ tryUntouchOf flags at axis → marked r₂ flags₂ ≡ tryUntouchOf flags at axis → (r₁ ≡ r₂) × (flags₁ ≡ flags₂)
+  try-untouch-has-one-outcome at axis p q = both-marked r₁ flags₁ r₂ flags₂ p q
+
+  pub try-flip-on-curve-has-one-outcome : (at : ℕ)
+      → marked r₁ flags₁ ≡ tryFlipOf flags at → marked r₂ flags₂ ≡ tryFlipOf flags at → (r₁ ≡ r₂) × (flags₁ ≡ flags₂)
+  try-flip-on-curve-has-one-outcome at p q = both-marked r₁ flags₁ r₂ flags₂ p q
+
+  pub try-set-on-curve-has-one-outcome : (start end : ℕ) (on : Bool)
+      → marked r₁ flags₁ ≡ trySetOnCurveOf flags start end on → marked r₂ flags₂ ≡ trySetOnCurveOf flags start end on → (r₁ ≡ r₂) × (flags₁ ≡ flags₂)
+  try-set-on-curve-has-one-outcome start end on p q = both-marked r₁ flags₁ r₂ flags₂ p q
+
+-- ---- the direct calls that change coordinates
+pub try-iup-has-one-outcome : (unscaled original current : List ℤ) (flags contours : List ℕ) (axis : Axis) (r₁ : Call) (current₁ : List ℤ) (r₂ : Call) (current₂ : List ℤ)
+    → went r₁ current₁ ≡ triedOf axis flags contours unscaled original current
+    → went r₂ current₂ ≡ triedOf axis flags contours unscaled original current
+    → (r₁ ≡ r₂) × (current₁ ≡ current₂)
+try-iup-has-one-outcome unscaled original current flags contours axis r₁ current₁ r₂ current₂ p q =
+    (one-part (λ (x : Went). x .answer) p q, one-part (λ (x : Went). x .current) p q)
+
+pub try-move-original-has-one-outcome : (s : GraphicsState) (zone : ZonePointer) (at : ℕ) (distance : ℤ) (gx gy tx ty : List ℤ)
+    (r₁ : Call) (gx₁ gy₁ tx₁ ty₁ : List ℤ) (r₂ : Call) (gx₂ gy₂ tx₂ ty₂ : List ℤ)
+    → bothShifted r₁ gx₁ gy₁ tx₁ ty₁ ≡ tryMoveOriginalOf gx gy tx ty s zone at distance
+    → bothShifted r₂ gx₂ gy₂ tx₂ ty₂ ≡ tryMoveOriginalOf gx gy tx ty s zone at distance
+    → (r₁ ≡ r₂) × (gx₁ ≡ gx₂) × (gy₁ ≡ gy₂) × (tx₁ ≡ tx₂) × (ty₁ ≡ ty₂)
+try-move-original-has-one-outcome s zone at distance gx gy tx ty r₁ gx₁ gy₁ tx₁ ty₁ r₂ gx₂ gy₂ tx₂ ty₂ p q = (
+  one-part (λ (x : BothShifted). x .call) p q,
+  one-part (λ (x : BothShifted). x .gx) p q,
+  one-part (λ (x : BothShifted). x .gy) p q,
+  one-part (λ (x : BothShifted). x .tx) p q,
+  one-part (λ (x : BothShifted). x .ty) p q,
+)
+
+module _ (s : GraphicsState) (gx gy : List ℤ) (gflags : List ℕ) (tx ty : List ℤ) (tflags : List ℕ)
+    (r₁ : Call) (gx₁ gy₁ : List ℤ) (gflags₁ : List ℕ) (tx₁ ty₁ : List ℤ) (tflags₁ : List ℕ)
+    (r₂ : Call) (gx₂ gy₂ : List ℤ) (gflags₂ : List ℕ) (tx₂ ty₂ : List ℤ) (tflags₂ : List ℕ)
+  where
+    both-moved : {m : BothMoved} → bothMoved r₁ gx₁ gy₁ gflags₁ tx₁ ty₁ tflags₁ ≡ m → bothMoved r₂ gx₂ gy₂ gflags₂ tx₂ ty₂ tflags₂ ≡ m
+        → (r₁ ≡ r₂) × (gx₁ ≡ gx₂) × (gy₁ ≡ gy₂) × (gflags₁ ≡ gflags₂) × (tx₁ ≡ tx₂) × (ty₁ ≡ ty₂) × (tflags₁ ≡ tflags₂)
+    both-moved p q = (
+      one-part (λ (x : BothMoved). x .call) p q,
+      one-part (λ (x : BothMoved). x .gx) p q,
+      one-part (λ (x : BothMoved). x .gy) p q,
+      one-part (λ (x : BothMoved). x .gflags) p q,
+      one-part (λ (x : BothMoved). x .tx) p q,
+      one-part (λ (x : BothMoved). x .ty) p q,
+      one-part (λ (x : BothMoved). x .tflags) p q,
+    )
+
+    pub try-move-point-has-one-outcome : (zone : ZonePointer) (at : ℕ) (distance : ℤ)
+        → bothMoved r₁ gx₁ gy₁ gflags₁ tx₁ ty₁ tflags₁ ≡ tryMovePointOf gx gy gflags tx ty tflags s zone at distance
+        → bothMoved r₂ gx₂ gy₂ gflags₂ tx₂ ty₂ tflags₂ ≡ tryMovePointOf gx gy gflags tx ty tflags s zone at distance
+        → (r₁ ≡ r₂) × (gx₁ ≡ gx₂) × (gy₁ ≡ gy₂) × (gflags₁ ≡ gflags₂) × (tx₁ ≡ tx₂) × (ty₁ ≡ ty₂) × (tflags₁ ≡ tflags₂)
+    try-move-point-has-one-outcome zone at distance p q = both-moved p q
+
+    pub try-move-zp2-point-has-one-outcome : (at : ℕ) (dx dy : ℤ) (touches : Bool)
+        → bothMoved r₁ gx₁ gy₁ gflags₁ tx₁ ty₁ tflags₁ ≡ tryMoveZp2Of gx gy gflags tx ty tflags s at dx dy touches
+        → bothMoved r₂ gx₂ gy₂ gflags₂ tx₂ ty₂ tflags₂ ≡ tryMoveZp2Of gx gy gflags tx ty tflags s at dx dy touches
+        → (r₁ ≡ r₂) × (gx₁ ≡ gx₂) × (gy₁ ≡ gy₂) × (gflags₁ ≡ gflags₂) × (tx₁ ≡ tx₂) × (ty₁ ≡ ty₂) × (tflags₁ ≡ tflags₂)
+    try-move-zp2-point-has-one-outcome at dx dy touches p q = both-moved p q

@@ -1,0 +1,5 @@
+mod Steps
+mod Setters
+mod Contours
+mod Lines
+pub mod Run

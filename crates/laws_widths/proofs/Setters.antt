@@ -1,0 +1,178 @@
+-- A line that sets the state keeps its values in their width: vectors are set to axes, a reference to an operand widened to 64 bits, the loop counter
+-- to at most 65,535, and a selector's round state is small. Assumes nothing.
+use mathlib.Core.Bool.{Bool}
+use mathlib.Core.List.{List}
+use Prim.Native.Nat.{_%_, _*_, _+_, _/_, _<_, _^_, _≤_, min, ℕ}
+use native.Mathlib.Nat.{le-trans, mul-le-mul}
+use native.Mathlib.Omega.{arith}
+use lib.Dec.{eqb, ltb}
+use lib.IntN.{_*ℤ_, _-ℤ_, natAbs, negℤ, pos, ℤ}
+use lib.Signed.{mag, natAbs-le, nonNeg, quotZ}
+use mir.Facts.{fits-ofZ, sfits-lit}
+use mir.Syntax.{w32}
+use mir.Val.{SFits}
+use Rattle.graphics.specs.State.{allAlong, inMode, measuredAlong, movedAlong, rp0At, rp1At, rp2At, withFacts, withLoopCounter, withPointers, withReferences, withRound, withVectors}
+use Rattle.graphics.specs.declared.Facts.{Facts}
+use Rattle.graphics.specs.declared.GraphicsState.{GraphicsState}
+use Rattle.graphics.specs.declared.References.{References}
+use Rattle.graphics.specs.declared.Vectors.{Vectors}
+use Rattle.graphics.specs.declared.ZonePointer.the-variants.{Glyph, Twilight}
+use Rattle.graphics.specs.declared.ZonePointer.{ZonePointer}
+use Rattle.graphics.specs.declared.ZonePointers.{ZonePointers}
+use Rattle.int.proofs.Ints.{mag-add, mag-mul, mag-neg, mag-quot}
+use Rattle.int.proofs.Tests.{either}
+use Rattle.int.proofs.Words.{shr-fits, wide-fits}
+use Rattle.int.specs.Word.{bitsOf, eqZ, indexOf}
+use Rattle.line.specs.declared.Stepped.{Stepped}
+use Rattle.places.specs.Lines.{indexAt}
+use Rattle.record.proofs.Widths.{StateInWidth}
+use Rattle.round.specs.declared.RoundState.{RoundState}
+use Rattle.selector.proofs.Facts.{period-most}
+use Rattle.selector.specs.Selector.{gridPeriod, periodBy, phaseBy, stateBy, superOf, thresholdBy}
+use Rattle.sheet.specs.Setters.{axisBy, loopBy, modeBy, onOperand, operandBy, pointerBy, referenceBy, setBy, takesOperand, vectorsBy, zoneBy}
+use Rattle.state_words.proofs.Back.{RoundFits, VectorFits, VectorsFit}
+use Rattle.word_lists.proofs.Widths.{Numbers, every-at, no-word, one-word}
+use Rattle.laws_widths.proofs.Steps.{zero-fits}
+
+-- ---- an operand as an index
+pub index-fits : {z : ℤ} → SFits w32 z → indexOf z < 2 ^ 64
+index-fits f = fits-ofZ (wide-fits f) .fits
+
+pub index-at-fits : {operands : List ℤ} → Numbers operands → (k : ℕ) → indexAt operands k < 2 ^ 64
+index-at-fits f k = index-fits (every-at f zero-fits k)
+
+-- ---- one group set
+pub record ReferencesFit (p : References) : Type 0 where
+  pub rp0 : p .rp0 < 2 ^ 64
+  pub rp1 : p .rp1 < 2 ^ 64
+  pub rp2 : p .rp2 < 2 ^ 64
+
+-- a state by its groups
+by-groups : (t : GraphicsState) → VectorsFit (t .vectors) → RoundFits (t .round) → ReferencesFit (t .references) → t .«loop_counter» < 2 ^ 32 → SFits w32 (t .«cut_in») → StateInWidth t
+by-groups t v r p n c = record { signed = record { vectors = v; round = r; cut-in = c }; loop = n; rp0 = p .rp0; rp1 = p .rp1; rp2 = p .rp2 }
+
+module _ {s : GraphicsState} (f : StateInWidth s) where
+  pub references-fit : ReferencesFit (s .references)
+  references-fit = record { rp0 = f .rp0; rp1 = f .rp1; rp2 = f .rp2 }
+
+  pub with-vectors-fits : (v : Vectors) → VectorsFit v → StateInWidth (withVectors s v)
+  with-vectors-fits v g = by-groups (withVectors s v) g (f .signed .round) references-fit (f .loop) (f .signed .cut-in)
+
+  pub with-round-fits : (r : RoundState) → RoundFits r → StateInWidth (withRound s r)
+  with-round-fits r g = by-groups (withRound s r) (f .signed .vectors) g references-fit (f .loop) (f .signed .cut-in)
+
+  pub with-references-fits : (p : References) → ReferencesFit p → StateInWidth (withReferences s p)
+  with-references-fits p g = by-groups (withReferences s p) (f .signed .vectors) (f .signed .round) g (f .loop) (f .signed .cut-in)
+
+  pub with-loop-fits : (count : ℕ) → count < 2 ^ 32 → StateInWidth (withLoopCounter s count)
+  with-loop-fits count h = by-groups (withLoopCounter s count) (f .signed .vectors) (f .signed .round) references-fit h (f .signed .cut-in)
+
+  pub with-pointers-fits : (p : ZonePointers) → StateInWidth (withPointers s p)
+  with-pointers-fits p = by-groups (withPointers s p) (f .signed .vectors) (f .signed .round) references-fit (f .loop) (f .signed .cut-in)
+
+  pub with-facts-fits : (b : Facts) → StateInWidth (withFacts s b)
+  with-facts-fits b = by-groups (withFacts s b) (f .signed .vectors) (f .signed .round) references-fit (f .loop) (f .signed .cut-in)
+
+  -- a loop that has ended
+  pub reset-fits : StateInWidth (withLoopCounter s 1)
+  reset-fits = with-loop-fits 1 (omega arith)
+
+-- ---- references
+module _ {p : References} (f : ReferencesFit p) (at : ℕ) (h : at < 2 ^ 64) where
+  pub rp0-fits : ReferencesFit (rp0At p at)
+  rp0-fits = record { rp0 = h; rp1 = f .rp1; rp2 = f .rp2 }
+
+  pub rp1-fits : ReferencesFit (rp1At p at)
+  rp1-fits = record { rp0 = f .rp0; rp1 = h; rp2 = f .rp2 }
+
+  pub rp2-fits : ReferencesFit (rp2At p at)
+  rp2-fits = record { rp0 = f .rp0; rp1 = f .rp1; rp2 = h }
+
+-- ---- a selector's round state: no part of it is above 2 ^ 20 in 2.14
+small-fits : {z : ℤ} → mag z ≤ 2 ^ 20 → SFits w32 z
+small-fits h = record { sfits = omega (arith, h) }
+
+difference-small : (a b : ℕ) → a ≤ 2 ^ 16 → b ≤ 4 → mag (pos a -ℤ pos b) ≤ a + 6
+difference-small a b h k = omega (arith, mag-add (pos a) (negℤ (pos b)), mag-neg (pos b))
+
+eighths-small : (period field : ℕ) → period ≤ 0x8000 → field < 16 → mag (quotZ ((pos field -ℤ pos 4) *ℤ pos period) (pos 8)) ≤ 2 ^ 20
+eighths-small period field h k =
+    let z = pos field -ℤ pos 4 in
+    let a : natAbs z ≤ 22 = natAbs-le z (omega (arith, difference-small field 4 (omega arith) (omega arith), k)) in
+    let b : mag (z *ℤ pos period) ≤ 22 * 0x8000 = le-trans (mag-mul z (pos period)) (mul-le-mul a h) in
+    let c : natAbs (z *ℤ pos period) ≤ 22 * 0x8000 + 1 = natAbs-le (z *ℤ pos period) (omega (arith, b)) in
+    omega (arith, mag-quot (z *ℤ pos period) (pos 8), c)
+
+threshold-small : (period field : ℕ) → period ≤ 0x8000 → field < 16 → mag (thresholdBy period field) ≤ 2 ^ 20
+unfolding thresholdBy
+threshold-small period field h k =
+    either (λ (z : ℤ). mag z ≤ 2 ^ 20) (eqb field 0) (omega (arith, difference-small period 1 (omega (arith, h)) (omega arith), h)) (eighths-small period field h k)
+
+phase-small : (period field : ℕ) → period ≤ 0x8000 → field < 4 → phaseBy period field ≤ 2 ^ 20
+unfolding phaseBy
+phase-small period field h k = let m : period * field ≤ 0x8000 * 4 = mul-le-mul {m₂ = 4} h (omega (arith, k)) in omega (arith, m)
+
+pub super-fits : (diagonal : Bool) (word : ℤ) → RoundFits (superOf diagonal word)
+unfolding stateBy
+super-fits diagonal word =
+    let n = bitsOf word % 256 in
+    let period = periodBy (gridPeriod diagonal) (n / 64) in
+    let most : period ≤ 0x8000 = period-most diagonal (n / 64) in (
+      shr-fits (thresholdBy period (n % 16)) (2 ^ 8) (small-fits (threshold-small period (n % 16) most (omega arith))),
+      shr-fits (pos (phaseBy period (n / 16 % 4))) (2 ^ 8) (small-fits (phase-small period (n / 16 % 4) most (omega arith))),
+      shr-fits (pos period) (2 ^ 8) (small-fits (omega (arith, most))),
+    )
+
+-- ---- the lines
+axis-fits : (op : ℕ) → VectorFits (axisBy op)
+unfolding axisBy
+axis-fits op = either VectorFits (eqb (op % 2) 1) (sfits-lit tt, sfits-lit tt) (sfits-lit tt, sfits-lit tt)
+
+-- an outcome whose state is in width
+abbrev pub Within : Stepped → Type 0
+Within r = StateInWidth (r .state)
+
+module _ {s : GraphicsState} (f : StateInWidth s) where
+  vectors-within : (op : ℕ) → StateInWidth (vectorsBy s op)
+  unfolding vectorsBy
+  vectors-within op =
+      let a = axis-fits op in
+      let v = f .signed .vectors in
+      let axis = axisBy op in
+      either StateInWidth (ltb op 0x02) (with-vectors-fits f (allAlong axis) (a, a, a))
+      (either StateInWidth (ltb op 0x04) (with-vectors-fits f (measuredAlong (s .vectors) axis) (a, a, v .2)) (with-vectors-fits f (movedAlong (s .vectors) axis) (v .0, v .1, a)))
+
+  reference-within : (op at : ℕ) → at < 2 ^ 64 → StateInWidth (referenceBy s op at)
+  unfolding referenceBy
+  reference-within op at h =
+      let p = references-fit f in
+      with-references-fits f _ (either ReferencesFit (eqb op 0x10) (rp0-fits p at h) (either ReferencesFit (eqb op 0x11) (rp1-fits p at h) (rp2-fits p at h)))
+
+  pointer-within : (op : ℕ) (zone : ZonePointer) → StateInWidth (pointerBy s op zone)
+  unfolding pointerBy
+  pointer-within op zone = with-pointers-fits f _
+
+  zone-within : (op : ℕ) (word : ℤ) → Within (zoneBy s op word)
+  unfolding zoneBy
+  zone-within op word = either Within (eqZ word (pos 0)) (pointer-within op Twilight) (either Within (eqZ word (pos 1)) (pointer-within op Glyph) f)
+
+  loop-within : (word : ℤ) → Within (loopBy s word)
+  unfolding loopBy
+  loop-within word = either Within (nonNeg word) (with-loop-fits f (min (natAbs word) 65535) (omega arith)) f
+
+  operand-within : (op : ℕ) (word : ℤ) → SFits w32 word → Within (operandBy s op word)
+  unfolding operandBy
+  operand-within op word h =
+      either Within (ltb op 0x13) (reference-within op (indexOf word) (index-fits h))
+      (either Within (ltb op 0x17) (zone-within op word)
+      (either Within (ltb op 0x18) (loop-within word) (with-round-fits f (superOf (eqb op 0x77) word) (super-fits (eqb op 0x77) word))))
+
+  on-operand-within : (g : ℤ → Stepped) → ((word : ℤ) → SFits w32 word → Within (g word)) → {operands : List ℤ} → Numbers operands → Within (onOperand s g operands)
+  on-operand-within g ok no-word = f
+  on-operand-within g ok (one-word {w} h k) = ok w h
+
+  pub set-within : (op : ℕ) {operands : List ℤ} → Numbers operands → StateInWidth (setBy s op operands .state)
+  unfolding setBy
+  set-within op k =
+      either Within (ltb op 0x06) (vectors-within op)
+      (either Within (takesOperand op) (on-operand-within (operandBy s op) (operand-within op) k) (with-round-fits f (inMode (s .round) (modeBy op)) (f .signed .round)))

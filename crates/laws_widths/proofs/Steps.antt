@@ -1,0 +1,131 @@
+-- The steps that lines are made of keep a point's values in their width: a new coordinate is a wrapped sum or comes from another list, and a flag's
+-- new bits are below 256. Assumes nothing.
+use mathlib.Core.Bool.{Bool, _&&_, false, true}
+use mathlib.Core.List.{List, map}
+use Prim.Native.Nat.{_-_, _<_, ℕ}
+use native.Mathlib.Omega.{arith}
+use lib.Bits.{and-lt, bitOr, bitXor, or-lt, xor-lt}
+use lib.Dec.{leb, ltb}
+use lib.IntN.{pos, ℤ}
+use lib.ListN.{getD, length}
+use mir.Facts.{sfits-lit}
+use mir.Syntax.{w32}
+use mir.Val.{SFits}
+use Rattle.graphics.specs.declared.Facts.{Facts}
+use Rattle.graphics.specs.declared.Vector.{Vector}
+use Rattle.graphics.specs.declared.Vectors.{Vectors}
+use Rattle.graphics.specs.declared.ZonePointer.the-variants.{Glyph, Twilight}
+use Rattle.graphics.specs.declared.ZonePointer.{ZonePointer}
+use Rattle.int.proofs.Tests.{either}
+use Rattle.int.proofs.Wraps.{add32-fits}
+use Rattle.looped.specs.Looped.{Points, Zones, points, zones}
+use Rattle.moves.specs.Apply.{Moved, applyIn, applyOf}
+use Rattle.moves.specs.Move.{bitsFor, isNot0, moveOf, movedAt, stepBy, zp2MoveOf}
+use Rattle.moves.specs.declared.Move.{Move}
+use Rattle.places.specs.Lines.{Pair, putAt}
+use Rattle.point.specs.declared.CoordAxis.{CoordAxis}
+use Rattle.point.specs.declared.CoordAxis.the-variants.{Both, X, Y}
+use Rattle.projection.specs.Projection.{fdotpOf, freedomAxisOf}
+use Rattle.state_words.proofs.Back.{VectorFits}
+use Rattle.word_lists.proofs.Widths.{Below, Numbers, every-at, every-drop, every-join, every-map, every-set, every-take}
+use Rattle.zone.specs.Zone.{Marked, changeAt, markedAt, onCurve, orAt, overPart, placeOf, setOnCurveOf}
+
+-- ---- coordinates
+pub zero-fits : SFits w32 (pos 0)
+zero-fits = sfits-lit tt
+
+-- a point that is read; (0, 0) outside
+pub place-fits : {xs ys : List ℤ} → Numbers xs → Numbers ys → (at : ℕ) → VectorFits (placeOf xs ys at)
+place-fits f g at = (every-at f zero-fits at, every-at g zero-fits at)
+
+-- a point that is put
+pub record PairFits (p : Pair) : Type 0 where
+  pub xs : Numbers (p .xs)
+  pub ys : Numbers (p .ys)
+
+pub put-fits : (place : Vector) → VectorFits place → (at : ℕ) {xs ys : List ℤ} → Numbers xs → Numbers ys → PairFits (putAt place at xs ys)
+put-fits place v at f g = record { xs = every-set f (v .0) at; ys = every-set g (v .1) at }
+
+-- a coordinate that is moved, by whatever it is
+pub moved-fits : {l : List ℤ} → Numbers l → (at : ℕ) (by : ℤ) (moves : Bool) → Numbers (movedAt l at by moves)
+moved-fits {l} f at by moves = either Numbers moves (every-set f (add32-fits (getD l at (pos 0)) by) at) f
+
+-- ---- flags
+module _ {flags : List ℕ} (fits : Below 256 flags) where
+  module _ (g : ℕ → ℕ) (small : (flag : ℕ) → flag < 256 → g flag < 256) where
+    pub change-fits : (at : ℕ) → Below 256 (changeAt g flags at)
+    change-fits at = every-set fits (small (getD flags at 0) (every-at fits (omega arith) at)) at
+
+    pub marked-fits : (at : ℕ) → Below 256 (markedAt g flags at .flags)
+    unfolding markedAt
+    marked-fits at = either (λ (m : Marked). Below 256 (m .flags)) (ltb at (length flags)) (change-fits at) fits
+
+    part-fits : (start end : ℕ) → Below 256 (overPart (map g) start end flags)
+    unfolding overPart
+    part-fits start end =
+        every-join (every-take fits start) (every-join (every-map g small (every-take (every-drop fits start) (end - start))) (every-drop fits end))
+
+  pub or-fits : (at mask : ℕ) → mask < 256 → Below 256 (orAt flags at mask)
+  or-fits at mask h = change-fits (λ (flag : ℕ). bitOr flag mask) (λ flag k. or-lt 8 flag mask k h) at
+
+  pub flip-fits : (at : ℕ) → Below 256 (markedAt (λ (flag : ℕ). bitXor flag 1) flags at .flags)
+  flip-fits at = marked-fits (λ (flag : ℕ). bitXor flag 1) (λ flag k. xor-lt 8 flag 1 k (omega arith)) at
+
+  pub on-curve-fits : (start end : ℕ) (on : Bool) → Below 256 (setOnCurveOf flags start end on .flags)
+  unfolding setOnCurveOf
+  on-curve-fits start end on =
+      either (λ (m : Marked). Below 256 (m .flags)) (leb start end && leb end (length flags)) (part-fits (onCurve on) (on-curve-small on) start end) fits
+    where
+      on-curve-small : (b : Bool) (flag : ℕ) → flag < 256 → onCurve b flag < 256
+      on-curve-small true flag k = or-lt 8 flag 1 k (omega arith)
+      on-curve-small false flag k = and-lt 8 flag 254 k (omega arith)
+
+-- ---- the touch bits of a move
+bits-small : (x y : Bool) → bitsFor x y < 256
+bits-small true true = omega arith
+bits-small true false = omega arith
+bits-small false true = omega arith
+bits-small false false = omega arith
+
+step-small : (f : Vector) (fdotp d : ℤ) (axis : CoordAxis) → stepBy f fdotp d axis .touch < 256
+unfolding stepBy
+step-small f fdotp d X = omega arith
+step-small f fdotp d Y = omega arith
+step-small f fdotp d Both = bits-small (isNot0 (f .x)) (isNot0 (f .y))
+
+pub move-small : (v : Vectors) (f : Facts) (d : ℤ) → moveOf v f d .touch < 256
+unfolding moveOf
+move-small v f d = step-small (v .freedom) (fdotpOf v) d (freedomAxisOf v)
+
+pub zp2-small : (v : Vectors) (f : Facts) (dx dy : ℤ) (touches : Bool) → zp2MoveOf v f dx dy touches .touch < 256
+unfolding zp2MoveOf
+zp2-small v f dx dy touches = bits-small (isNot0 (v .freedom .x) && touches) (isNot0 (v .freedom .y) && touches)
+
+-- ---- points and flags
+pub record PointsFit (p : Points) : Type 0 where
+  pub xs : Numbers (p .xs)
+  pub ys : Numbers (p .ys)
+  pub flags : Below 256 (p .flags)
+
+pub record ZonesFit (z : Zones) : Type 0 where
+  pub glyph : PointsFit (z .glyph)
+  pub twilight : PointsFit (z .twilight)
+
+pub apply-fits : (m : Move) → m .touch < 256 → (at : ℕ) (p : Points) → PointsFit p
+    → let r = applyOf m at (p .xs) (p .ys) (p .flags) in PointsFit (points (r .xs) (r .ys) (r .flags))
+unfolding applyOf
+apply-fits m h at p f =
+    either (λ (r : Moved). PointsFit (points (r .xs) (r .ys) (r .flags))) (ltb at (length (p .xs)))
+    (record {
+      xs = moved-fits (f .xs) at (m .dx) (m .«moves_x»);
+      ys = moved-fits (f .ys) at (m .dy) (m .«moves_y»);
+      flags = or-fits (f .flags) at (m .touch) h;
+    })
+    (record { xs = f .xs; ys = f .ys; flags = f .flags })
+
+pub apply-in-fits : (m : Move) → m .touch < 256 → (at : ℕ) (z : Zones) → ZonesFit z → (zone : ZonePointer)
+    → let r = applyIn m at (z .glyph .xs) (z .glyph .ys) (z .glyph .flags) (z .twilight .xs) (z .twilight .ys) (z .twilight .flags) zone in
+    ZonesFit (zones (r .gx) (r .gy) (r .gflags) (r .tx) (r .ty) (r .tflags))
+unfolding applyIn
+apply-in-fits m h at z k Glyph = record { glyph = apply-fits m h at (z .glyph) (k .glyph); twilight = k .twilight }
+apply-in-fits m h at z k Twilight = record { glyph = k .glyph; twilight = apply-fits m h at (z .twilight) (k .twilight) }
