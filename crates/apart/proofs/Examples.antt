@@ -9,7 +9,14 @@ use lib.IntN.{negsuc, pos, ℤ}
 use Rattle.world.specs.World.{Fixed, World, fixed, world}
 use Rattle.graphics.specs.declared.GraphicsState.{GraphicsState}
 use Rattle.answer.specs.declared.Refusal.the-variants.{ControlValue}
-use Rattle.miap.specs.Miap.{miapOf}
+use Rattle.line_miap.specs.Miap.{miapOf}
+use Rattle.line_mdap.specs.Mdap.{mdapDistance, mdapOf, outsideMdap, roundingStep}
+use Rattle.line_iup.specs.Iup.{iupLineOf, markedFor}
+use Rattle.line_isect.specs.Isect.{isectOf, putTouched}
+use Rattle.line_steps.specs.Numbers.{fromOrigin}
+use Rattle.line_steps.specs.Steps.{controlAt, five as takeFive, laidIn, madeIn, moveIn, one, pointOr, two}
+use Rattle.places.specs.Places.{fetchIn}
+use Rattle.opcodes.specs.Table.{lineOf, needOf, rowOf}
 use Rattle.point.specs.Flag.{bit}
 use Rattle.onward.specs.Onward.{Ran, onCall, replayOf}
 use Rattle.onward.specs.declared.Answer.the-variants.{Refused}
@@ -22,22 +29,16 @@ use Rattle.point.specs.declared.Axis.the-variants.{X, Y}
 use Rattle.int.specs.Word.{abs32, add32, maxZ, minZ, mul32, neg32, quot32, sub32, wrap32}
 use Rattle.graphics.specs.State.{allAlong, freshState, usableState, vectorInRange, vectorsInRange, withVectors, yAxis}
 use Rattle.projection.specs.Projection.{alongOf, axisOf, freedomAxisBy, notSmall, rawFdotp}
-use Rattle.moves.specs.Apply.{applyOf}
-use Rattle.sheet.specs.Setters.{axisBy, setBy, vectorsBy}
+use Rattle.moves.specs.Apply.{applyIn, applyOf}
+use Rattle.line_set.specs.Setters.{axisBy, setBy, setOf, vectorsBy}
 use Rattle.iup.specs.Contour.{contourOf, points, touchedOf}
 use Rattle.isect.specs.Crossing.{crossOf, crossingOf, dotOf, meet, middleBy, movedOf}
-use Rattle.sheet.specs.Table.{decodeBy, decodeOf, needOf}
-use Rattle.intersect.specs.Intersection.{endsIn, isectOf, meetingOf, putIn, putTouched}
-use Rattle.places.specs.Places.{fetchIn}
+use Rattle.opcodes.specs.Decode.{decodeBy, decodeOf}
 use Rattle.zone.specs.Zone.{fetchOf}
-use Rattle.outline.specs.Numbers.{fromOrigin, mdapDistance, roundingStep}
 use Rattle.zone.specs.Sizes.{glyphFits, pairFits, placedFits, twilightFits}
 use Rattle.round.specs.Round.{grid, keepDown, keepUp, quotFloor}
 use Rattle.math.specs.Fixed.{halfUp, mulDiv, multipleBelow, padFloor, padRound, withSign}
-use Rattle.lines.specs.Dispatch.{instructionOf, lineBy, lineOf}
-use Rattle.interpolate.specs.Interpolated.{iupBy, iupOn, markedFor}
 use Rattle.iup.specs.Iup.{iupOf, past, walkOf}
-use Rattle.outline.specs.Absolute.{mdapAt, mdapIn, mdapOf, placeBy}
 use Rattle.axes.specs.Axes.{interpolatesAcross, mixes}
 use Rattle.moves.specs.Move.{moveOf, stepBy}
 use Rattle.apart.proofs.Plain.{horizontal-runs-agree, vertical-runs-agree}
@@ -121,7 +122,7 @@ abbrev moving : List ℤ
 moving = pos 47 ∷ pos 1 ∷ pos 0 ∷ pos 48 ∷ pos 0 ∷ pos 49 ∷ pos 0 ∷ []
 
 pub reaches : linesReached (held here heights) moving 3 0 (start here heights) ≡ 47 ∷ 48 ∷ 49 ∷ []
-unfolding linesReached reachedOnEntry reachedFrom afterCall entryOf fits glyphFits twilightFits pairFits placedFits usableState vectorsInRange vectorInRange stepOf onDecoded decodeOf decodeBy needOf lineOf lineBy instructionOf mdapOf mdapIn mdapAt mdapDistance fromOrigin roundingStep grid alongOf axisOf rawFdotp notSmall fetchOf placeBy applyOf moveOf stepBy freedomAxisBy add32 sub32 neg32 abs32 wrap32 maxZ minZ keepUp keepDown padFloor padRound multipleBelow quotFloor iupBy markedFor iupOn iupOf walkOf past contourOf points touchedOf
+unfolding linesReached reachedOnEntry reachedFrom afterCall entryOf fits glyphFits twilightFits pairFits placedFits usableState vectorsInRange vectorInRange stepOf onDecoded decodeOf decodeBy needOf lineOf rowOf setOf one two takeFive controlAt pointOr fetchIn madeIn moveIn laidIn applyIn putTouched outsideMdap mdapOf mdapDistance fromOrigin roundingStep grid alongOf axisOf rawFdotp notSmall fetchOf applyOf moveOf stepBy freedomAxisBy add32 sub32 neg32 abs32 wrap32 maxZ minZ keepUp keepDown padFloor padRound multipleBelow quotFloor markedFor iupLineOf iupOf walkOf past contourOf points touchedOf
 reaches = refl
 
 pub ends-alike : SameVertically (runOf (held here heights) moving 3 0 (start here heights)) (runOf (held there heights) moving 3 0 (start there heights))
@@ -136,12 +137,12 @@ raised = five (pos 64) (pos 124) (pos 24) (pos 88) (pos 24)
 pub rise-alike :
     (runOf (held here heights) moving 3 0 (start here heights) .world .gy ≡ raised)
     × (runOf (held there heights) moving 3 0 (start there heights) .world .gy ≡ raised)
-unfolding runOf runOnEntry entryOf fits glyphFits twilightFits pairFits placedFits usableState vectorsInRange vectorInRange replayOf stepOf onDecoded onCall decodeOf decodeBy needOf lineOf lineBy instructionOf mdapOf mdapIn mdapAt mdapDistance fromOrigin roundingStep grid alongOf axisOf rawFdotp notSmall fetchOf placeBy applyOf moveOf stepBy freedomAxisBy add32 sub32 neg32 abs32 wrap32 maxZ minZ keepUp keepDown padFloor padRound multipleBelow quotFloor iupBy markedFor iupOn iupOf walkOf past contourOf points touchedOf
+unfolding runOf runOnEntry entryOf fits glyphFits twilightFits pairFits placedFits usableState vectorsInRange vectorInRange replayOf stepOf onDecoded onCall decodeOf decodeBy needOf lineOf rowOf setOf one two takeFive controlAt pointOr fetchIn madeIn moveIn laidIn applyIn putTouched outsideMdap mdapOf mdapDistance fromOrigin roundingStep grid alongOf axisOf rawFdotp notSmall fetchOf applyOf moveOf stepBy freedomAxisBy add32 sub32 neg32 abs32 wrap32 maxZ minZ keepUp keepDown padFloor padRound multipleBelow quotFloor markedFor iupLineOf iupOf walkOf past contourOf points touchedOf
 rise-alike = (refl, refl)
 
 -- the same lines with level vectors, and starts that differ in y
 pub reaches-level : linesReached (held heights here) moving 3 0 (level heights here) ≡ 47 ∷ 48 ∷ 49 ∷ []
-unfolding linesReached reachedOnEntry reachedFrom afterCall entryOf fits glyphFits twilightFits pairFits placedFits usableState vectorsInRange vectorInRange stepOf onDecoded decodeOf decodeBy needOf lineOf lineBy instructionOf mdapOf mdapIn mdapAt mdapDistance fromOrigin roundingStep grid alongOf axisOf rawFdotp notSmall fetchOf placeBy applyOf moveOf stepBy freedomAxisBy add32 sub32 neg32 abs32 wrap32 maxZ minZ keepUp keepDown padFloor padRound multipleBelow quotFloor iupBy markedFor iupOn iupOf walkOf past contourOf points touchedOf
+unfolding linesReached reachedOnEntry reachedFrom afterCall entryOf fits glyphFits twilightFits pairFits placedFits usableState vectorsInRange vectorInRange stepOf onDecoded decodeOf decodeBy needOf lineOf rowOf setOf one two takeFive controlAt pointOr fetchIn madeIn moveIn laidIn applyIn putTouched outsideMdap mdapOf mdapDistance fromOrigin roundingStep grid alongOf axisOf rawFdotp notSmall fetchOf applyOf moveOf stepBy freedomAxisBy add32 sub32 neg32 abs32 wrap32 maxZ minZ keepUp keepDown padFloor padRound multipleBelow quotFloor markedFor iupLineOf iupOf walkOf past contourOf points touchedOf
 reaches-level = refl
 
 pub ends-alike-level : SameHorizontally (runOf (held heights here) moving 3 0 (level heights here)) (runOf (held heights there) moving 3 0 (level heights there))
@@ -152,7 +153,7 @@ ends-alike-level =
 pub move-alike-level :
     (runOf (held heights here) moving 3 0 (level heights here) .world .gx ≡ raised)
     × (runOf (held heights there) moving 3 0 (level heights there) .world .gx ≡ raised)
-unfolding runOf runOnEntry entryOf fits glyphFits twilightFits pairFits placedFits usableState vectorsInRange vectorInRange replayOf stepOf onDecoded onCall decodeOf decodeBy needOf lineOf lineBy instructionOf mdapOf mdapIn mdapAt mdapDistance fromOrigin roundingStep grid alongOf axisOf rawFdotp notSmall fetchOf placeBy applyOf moveOf stepBy freedomAxisBy add32 sub32 neg32 abs32 wrap32 maxZ minZ keepUp keepDown padFloor padRound multipleBelow quotFloor iupBy markedFor iupOn iupOf walkOf past contourOf points touchedOf
+unfolding runOf runOnEntry entryOf fits glyphFits twilightFits pairFits placedFits usableState vectorsInRange vectorInRange replayOf stepOf onDecoded onCall decodeOf decodeBy needOf lineOf rowOf setOf one two takeFive controlAt pointOr fetchIn madeIn moveIn laidIn applyIn putTouched outsideMdap mdapOf mdapDistance fromOrigin roundingStep grid alongOf axisOf rawFdotp notSmall fetchOf applyOf moveOf stepBy freedomAxisBy add32 sub32 neg32 abs32 wrap32 maxZ minZ keepUp keepDown padFloor padRound multipleBelow quotFloor markedFor iupLineOf iupOf walkOf past contourOf points touchedOf
 move-alike-level = (refl, refl)
 
 -- ---- a pair that is refused
@@ -162,7 +163,7 @@ refusing = pos 47 ∷ pos 1 ∷ pos 0 ∷ pos 63 ∷ pos 2 ∷ pos 5 ∷ pos 0 �
 
 -- the refused line is reached
 pub reaches-refused : linesReached (held here heights) refusing 9 0 (start here heights) ≡ 47 ∷ 63 ∷ []
-unfolding linesReached reachedOnEntry reachedFrom afterCall entryOf fits glyphFits twilightFits pairFits placedFits usableState vectorsInRange vectorInRange stepOf onDecoded decodeOf decodeBy needOf lineOf lineBy instructionOf miapOf mdapOf mdapIn mdapAt mdapDistance fromOrigin roundingStep grid alongOf axisOf rawFdotp notSmall fetchOf placeBy applyOf moveOf stepBy freedomAxisBy add32 sub32 neg32 abs32 wrap32 maxZ minZ keepUp keepDown padFloor padRound multipleBelow quotFloor
+unfolding linesReached reachedOnEntry reachedFrom afterCall entryOf fits glyphFits twilightFits pairFits placedFits usableState vectorsInRange vectorInRange stepOf onDecoded decodeOf decodeBy needOf lineOf rowOf setOf one two takeFive controlAt pointOr fetchIn madeIn moveIn laidIn applyIn putTouched outsideMdap miapOf mdapOf mdapDistance fromOrigin roundingStep grid alongOf axisOf rawFdotp notSmall fetchOf applyOf moveOf stepBy freedomAxisBy add32 sub32 neg32 abs32 wrap32 maxZ minZ keepUp keepDown padFloor padRound multipleBelow quotFloor
 reaches-refused = refl
 
 pub refused-alike : SameVertically (runOf (held here heights) refusing 9 0 (start here heights)) (runOf (held there heights) refusing 9 0 (start there heights))
@@ -177,7 +178,7 @@ RefusedSecond r =
 
 pub refused-second :
     RefusedSecond (runOf (held here heights) refusing 9 0 (start here heights)) × RefusedSecond (runOf (held there heights) refusing 9 0 (start there heights))
-unfolding runOf runOnEntry entryOf fits glyphFits twilightFits pairFits placedFits usableState vectorsInRange vectorInRange replayOf stepOf onDecoded onCall decodeOf decodeBy needOf lineOf lineBy instructionOf miapOf mdapOf mdapIn mdapAt mdapDistance fromOrigin roundingStep grid alongOf axisOf rawFdotp notSmall fetchOf placeBy applyOf moveOf stepBy freedomAxisBy add32 sub32 neg32 abs32 wrap32 maxZ minZ keepUp keepDown padFloor padRound multipleBelow quotFloor
+unfolding runOf runOnEntry entryOf fits glyphFits twilightFits pairFits placedFits usableState vectorsInRange vectorInRange replayOf stepOf onDecoded onCall decodeOf decodeBy needOf lineOf rowOf setOf one two takeFive controlAt pointOr fetchIn madeIn moveIn laidIn applyIn putTouched outsideMdap miapOf mdapOf mdapDistance fromOrigin roundingStep grid alongOf axisOf rawFdotp notSmall fetchOf applyOf moveOf stepBy freedomAxisBy add32 sub32 neg32 abs32 wrap32 maxZ minZ keepUp keepDown padFloor padRound multipleBelow quotFloor
 refused-second = ((refl, refl, refl, refl), (refl, refl, refl, refl))
 
 -- ---- what stays across the axis
@@ -190,14 +191,14 @@ abbrev marked : World
 marked = started vertical here heights (3 ∷ 1 ∷ 2 ∷ 0 ∷ 1 ∷ [])
 
 pub reaches-rising : linesReached (held here heights) rising 2 0 marked ≡ 47 ∷ 48 ∷ []
-unfolding linesReached reachedOnEntry reachedFrom afterCall entryOf fits glyphFits twilightFits pairFits placedFits usableState vectorsInRange vectorInRange stepOf onDecoded decodeOf decodeBy needOf lineOf lineBy instructionOf mdapOf mdapIn mdapAt mdapDistance fromOrigin roundingStep grid alongOf axisOf rawFdotp notSmall fetchOf placeBy applyOf moveOf stepBy freedomAxisBy add32 sub32 neg32 abs32 wrap32 maxZ minZ keepUp keepDown padFloor padRound multipleBelow quotFloor iupBy markedFor iupOn iupOf walkOf past contourOf points touchedOf
+unfolding linesReached reachedOnEntry reachedFrom afterCall entryOf fits glyphFits twilightFits pairFits placedFits usableState vectorsInRange vectorInRange stepOf onDecoded decodeOf decodeBy needOf lineOf rowOf setOf one two takeFive controlAt pointOr fetchIn madeIn moveIn laidIn applyIn putTouched outsideMdap mdapOf mdapDistance fromOrigin roundingStep grid alongOf axisOf rawFdotp notSmall fetchOf applyOf moveOf stepBy freedomAxisBy add32 sub32 neg32 abs32 wrap32 maxZ minZ keepUp keepDown padFloor padRound multipleBelow quotFloor markedFor iupLineOf iupOf walkOf past contourOf points touchedOf
 reaches-rising = refl
 
 -- every point rises, and point 0 is touched in y
 pub rises :
     (runOf (held here heights) rising 2 0 marked .world .gy ≡ raised)
     × (runOf (held here heights) rising 2 0 marked .world .gflags ≡ 7 ∷ 1 ∷ 2 ∷ 0 ∷ 1 ∷ [])
-unfolding runOf runOnEntry entryOf fits glyphFits twilightFits pairFits placedFits usableState vectorsInRange vectorInRange replayOf stepOf onDecoded onCall decodeOf decodeBy needOf lineOf lineBy instructionOf mdapOf mdapIn mdapAt mdapDistance fromOrigin roundingStep grid alongOf axisOf rawFdotp notSmall fetchOf placeBy applyOf moveOf stepBy freedomAxisBy add32 sub32 neg32 abs32 wrap32 maxZ minZ keepUp keepDown padFloor padRound multipleBelow quotFloor iupBy markedFor iupOn iupOf walkOf past contourOf points touchedOf
+unfolding runOf runOnEntry entryOf fits glyphFits twilightFits pairFits placedFits usableState vectorsInRange vectorInRange replayOf stepOf onDecoded onCall decodeOf decodeBy needOf lineOf rowOf setOf one two takeFive controlAt pointOr fetchIn madeIn moveIn laidIn applyIn putTouched outsideMdap mdapOf mdapDistance fromOrigin roundingStep grid alongOf axisOf rawFdotp notSmall fetchOf applyOf moveOf stepBy freedomAxisBy add32 sub32 neg32 abs32 wrap32 maxZ minZ keepUp keepDown padFloor padRound multipleBelow quotFloor markedFor iupLineOf iupOf walkOf past contourOf points touchedOf
 rises = (refl, refl)
 
 pub stays-across :
@@ -215,7 +216,7 @@ abbrev moved : World
 moved = started vertical there heights (2 ∷ 0 ∷ 0 ∷ 0 ∷ 0 ∷ [])
 
 pub reaches-sliding : linesReached (held here heights) sliding 1 0 moved ≡ 49 ∷ []
-unfolding linesReached reachedOnEntry reachedFrom afterCall entryOf fits glyphFits twilightFits pairFits placedFits usableState vectorsInRange vectorInRange stepOf onDecoded decodeOf decodeBy needOf lineOf lineBy instructionOf iupBy markedFor iupOn iupOf walkOf past contourOf points touchedOf add32 sub32 wrap32
+unfolding linesReached reachedOnEntry reachedFrom afterCall entryOf fits glyphFits twilightFits pairFits placedFits usableState vectorsInRange vectorInRange stepOf onDecoded decodeOf decodeBy needOf lineOf rowOf setOf one two takeFive controlAt pointOr fetchIn madeIn moveIn laidIn applyIn putTouched outsideMdap markedFor iupLineOf iupOf walkOf past contourOf points touchedOf add32 sub32 wrap32
 reaches-sliding = refl
 
 -- it mixes no axes
@@ -226,7 +227,7 @@ slides-free = (ap (none (mixes Y)) reaches-sliding, ap (none (interpolatesAcross
 
 -- all but point 0 move by 7
 pub slides : runOf (held here heights) sliding 1 0 moved .world .gx ≡ five (pos 7) (pos 4) (pos 107) (pos 7) (pos 71)
-unfolding runOf runOnEntry entryOf fits glyphFits twilightFits pairFits placedFits usableState vectorsInRange vectorInRange replayOf stepOf onDecoded onCall decodeOf decodeBy needOf lineOf lineBy instructionOf iupBy markedFor iupOn iupOf walkOf past contourOf points touchedOf add32 sub32 wrap32
+unfolding runOf runOnEntry entryOf fits glyphFits twilightFits pairFits placedFits usableState vectorsInRange vectorInRange replayOf stepOf onDecoded onCall decodeOf decodeBy needOf lineOf rowOf setOf one two takeFive controlAt pointOr fetchIn madeIn moveIn laidIn applyIn putTouched outsideMdap markedFor iupLineOf iupOf walkOf past contourOf points touchedOf add32 sub32 wrap32
 slides = refl
 
 -- ---- an intersection
@@ -251,7 +252,7 @@ pub differs-by-isect :
     ∷ height4 (runOf (held (upright (pos 32)) heights) crossing 1 0 (start (upright (pos 32)) heights))
     ∷ []
     ≡ five (pos 40) (pos 100) (pos 0) (pos 64) (pos 32) ∷ five (pos 40) (pos 100) (pos 0) (pos 64) (pos 48) ∷ []
-unfolding runOf runOnEntry entryOf fits glyphFits twilightFits pairFits placedFits usableState vectorsInRange vectorInRange replayOf stepOf onDecoded onCall decodeOf decodeBy needOf lineOf lineBy instructionOf isectOf meetingOf endsIn fetchIn fetchOf putIn putTouched crossingOf meet middleBy crossOf dotOf add32 sub32 neg32 abs32 mul32 quot32 mulDiv halfUp withSign wrap32 movedOf
+unfolding runOf runOnEntry entryOf fits glyphFits twilightFits pairFits placedFits usableState vectorsInRange vectorInRange replayOf stepOf onDecoded onCall decodeOf decodeBy needOf lineOf rowOf setOf one two takeFive controlAt pointOr fetchIn madeIn moveIn laidIn applyIn putTouched outsideMdap isectOf fetchOf crossingOf meet middleBy crossOf dotOf add32 sub32 neg32 abs32 mul32 quot32 mulDiv halfUp withSign wrap32 movedOf
 differs-by-isect = refl
 
 -- ---- a vector that is turned across
@@ -269,5 +270,5 @@ pub differs-by-turning :
     ∷ height4 (runOf (held (upright (pos 40)) heights) turning 2 0 (start (upright (pos 40)) heights))
     ∷ []
     ≡ heights ∷ five (pos 64) (pos 100) (pos 0) (pos 64) (pos 0) ∷ []
-unfolding runOf runOnEntry entryOf fits glyphFits twilightFits pairFits placedFits usableState vectorsInRange vectorInRange replayOf stepOf onDecoded onCall decodeOf decodeBy needOf lineOf lineBy instructionOf setBy vectorsBy axisBy mdapOf mdapIn mdapAt mdapDistance fromOrigin roundingStep grid alongOf axisOf rawFdotp notSmall fetchOf placeBy applyOf moveOf stepBy freedomAxisBy add32 sub32 neg32 abs32 mul32 mulDiv halfUp withSign wrap32 maxZ minZ keepUp keepDown padFloor padRound multipleBelow quotFloor
+unfolding runOf runOnEntry entryOf fits glyphFits twilightFits pairFits placedFits usableState vectorsInRange vectorInRange replayOf stepOf onDecoded onCall decodeOf decodeBy needOf lineOf rowOf setOf one two takeFive controlAt pointOr fetchIn madeIn moveIn laidIn applyIn putTouched outsideMdap setBy vectorsBy axisBy mdapOf mdapDistance fromOrigin roundingStep grid alongOf axisOf rawFdotp notSmall fetchOf applyOf moveOf stepBy freedomAxisBy add32 sub32 neg32 abs32 mul32 mulDiv halfUp withSign wrap32 maxZ minZ keepUp keepDown padFloor padRound multipleBelow quotFloor
 differs-by-turning = refl

@@ -8,18 +8,18 @@ use lib.ListN.{drop, getD, length, take}
 use lib.Dec.{eqb, ltb}
 use lib.IntN.{pos, ℤ}
 use Rattle.point.specs.declared.Axis.{Axis}
-use Rattle.sheet.specs.declared.Decoded.{Decoded}
+use Rattle.opcodes.specs.declared.Decoded.{Decoded}
 use Rattle.world.specs.World.{Fixed, World, world}
-use Rattle.sheet.specs.declared.Decoded.the-variants.{Operands, Refused as RefusedLine}
+use Rattle.opcodes.specs.declared.Decoded.the-variants.{Operands, Refused as RefusedLine}
 use Rattle.answer.specs.declared.Refusal.{Refusal}
 use Rattle.answer.specs.declared.Refusal.the-variants.{Line, Surplus}
 use Rattle.answer.specs.declared.Call.the-variants.{Refused as RefusedCall}
 use Rattle.axes.specs.Axes.{Straight, fixedSeen, mixes, worldSeen, xSeen, ySeen}
 use Rattle.step.specs.Step.{Went, landedIn, onDecoded, stepOf}
-use Rattle.sheet.specs.Table.{decodeBy, decodeOf, needOf, takesBy, unknown}
+use Rattle.opcodes.specs.Decode.{decodeBy, decodeOf}
+use Rattle.opcodes.specs.Table.{needOf, operandsOf, rowOf, unknown}
 use Rattle.int.specs.Word.{indexOf}
-use Rattle.axes.proofs.Lines.{line-seen}
-use Rattle.axes.proofs.Straight.{line-straight}
+use Rattle.axes.proofs.Table.{line-seen, line-straight}
 use Rattle.apart.specs.Reached.{opcodeAt}
 use Rattle.axes.proofs.Seen.{x-again, y-again}
 use Rattle.int.proofs.Tests.{either}
@@ -44,7 +44,7 @@ read-named sheet counter at op count =
     (either (Named op) (eqb (needOf op) unknown) (nothing-read op Line)
     (either (Named op) (ltb (length sheet) (at + 2)) (nothing-read op Line)
     (either (Named op) (ltb (length sheet - (at + 2)) count) (nothing-read op Line)
-    (either (Named op) (ltb (takesBy (needOf op) counter) count) (nothing-read op Surplus) (its-own op (at + 2) (at + 2 + count))))))
+    (either (Named op) (ltb (operandsOf (rowOf op .takes) counter) count) (nothing-read op Surplus) (its-own op (at + 2) (at + 2 + count))))))
 
 pub all-named : (sheet : List ℤ) (counter at : ℕ) → Named (opcodeAt sheet at) (decodeOf sheet counter at)
 unfolding decodeOf

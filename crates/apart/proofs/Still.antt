@@ -10,23 +10,23 @@ use borrow.Author.Tests.{not-true}
 use lib.IntN.{ℤ}
 use Rattle.point.specs.declared.Axis.{Axis}
 use Rattle.answer.specs.declared.Call.{Call}
-use Rattle.sheet.specs.declared.Decoded.{Decoded}
+use Rattle.opcodes.specs.declared.Decoded.{Decoded}
 use Rattle.answer.specs.declared.Call.the-variants.{Done, Refused as RefusedCall}
 use Rattle.world.specs.World.{Fixed, World}
-use Rattle.sheet.specs.declared.Decoded.the-variants.{Operands, Refused as RefusedLine}
+use Rattle.opcodes.specs.declared.Decoded.the-variants.{Operands, Refused as RefusedLine}
 use Rattle.onward.specs.Onward.{Ran, onCall, onWent, replayOf}
 use Rattle.replay.specs.Run.{onEntry as runOnEntry, runOf}
 use Rattle.step.specs.Step.{onDecoded, stepOf}
 use Rattle.axes.specs.Axes.{Straight, interpolatesAcross, mixes}
 use Rattle.axes.proofs.Inert.{stays, then}
-use Rattle.axes.proofs.Still.{WorldStill, line-still}
+use Rattle.axes.proofs.Held.{StillSince}
 use Rattle.point.specs.declared.Axis.the-variants.{X, Y}
 use Rattle.apart.specs.Reached.{afterCall, afterLine, entered, linesReached, none, onEntry as reachedOnEntry, opcodeAt, reachedFrom}
 use Rattle.graphics.specs.State.{allAlong, xAxis, yAxis}
 use Rattle.graphics.proofs.Laws.{and-left, and-right}
 use Rattle.point.specs.Flag.{bit}
-use Rattle.sheet.specs.Table.{decodeOf}
-use Rattle.axes.proofs.Lines.{or-left, or-right}
+use Rattle.opcodes.specs.Decode.{decodeOf}
+use Rattle.axes.proofs.Table.{line-still, or-left, or-right}
 use Rattle.apart.proofs.Steps.{Named, all-named, step-straight}
 
 -- a line that looks or works across the axis
@@ -34,7 +34,7 @@ abbrev pub worksAcross : Axis → ℕ → Bool
 worksAcross a op = mixes a op || interpolatesAcross a op
 
 on-still : (a : Axis) (f : Fixed) (sheet : List ℤ) (at : ℕ) (w : World) → Straight a (w .state) → (op : ℕ) → worksAcross a op ≡ false → (d : Decoded) → Named op d
-    → WorldStill a w (onDecoded f sheet at w d .world)
+    → StillSince a w (onDecoded f sheet at w d .world)
 unfolding onDecoded Named
 on-still a f sheet at w e op m (Operands read first end) n =
     let it = ap (worksAcross a) n ∙ m in
@@ -42,30 +42,30 @@ on-still a f sheet at w e op m (Operands read first end) n =
 on-still a f sheet at w e op m (RefusedLine why) n = stays a (w .gx) (w .gy) (w .gflags)
 
 step-still : (a : Axis) (f : Fixed) (sheet : List ℤ) (at : ℕ) (w : World) → Straight a (w .state) → worksAcross a (opcodeAt sheet at) ≡ false
-    → WorldStill a w (stepOf f sheet at w .world)
+    → StillSince a w (stepOf f sheet at w .world)
 unfolding stepOf
 step-still a f sheet at w e m =
     on-still a f sheet at w e (opcodeAt sheet at) m (decodeOf sheet (w .state .«loop_counter») at) (all-named sheet (w .state .«loop_counter») at)
 
 module _ (a : Axis) (f : Fixed) (sheet : List ℤ) where
-  by-test : (w : World) (t : Bool) (r s : Ran) → (t ≡ true → WorldStill a w (r .world)) → WorldStill a w (s .world) → WorldStill a w (cond t r s .world)
+  by-test : (w : World) (t : Bool) (r s : Ran) → (t ≡ true → StillSince a w (r .world)) → StillSince a w (s .world) → StillSince a w (cond t r s .world)
   by-test w true r s p q = p refl
   by-test w false r s p q = q
 
   after : (b n : ℕ) → ((at : ℕ) (x : World) → Straight a (x .state) → none (worksAcross a) (reachedFrom f sheet b at x) ≡ true
-      → WorldStill a x (replayOf f sheet b (suc n) at x .world))
-      → (w : World) (call : Call) (place : ℕ) (x : World) → WorldStill a w x → Straight a (x .state)
+      → StillSince a x (replayOf f sheet b (suc n) at x .world))
+      → (w : World) (call : Call) (place : ℕ) (x : World) → StillSince a w x → Straight a (x .state)
       → none (worksAcross a) (afterCall (reachedFrom f sheet b) place x call) ≡ true
-      → WorldStill a w (onCall (replayOf f sheet b (suc n)) n place x call .world)
+      → StillSince a w (onCall (replayOf f sheet b (suc n)) n place x call .world)
   unfolding onCall afterCall
   after b n ih w Done place x k e free = then (ih place x e free) k
   after b n ih w (RefusedCall why) place x k e free = k
 
   turn : (b n at : ℕ) (w : World) → ((p : ℕ) (x : World) → Straight a (x .state) → none (worksAcross a) (reachedFrom f sheet b p x) ≡ true
-      → WorldStill a x (replayOf f sheet b (suc n) p x .world))
+      → StillSince a x (replayOf f sheet b (suc n) p x .world))
       → Straight a (w .state)
       → not (worksAcross a (opcodeAt sheet at)) && none (worksAcross a) (afterLine (reachedFrom f sheet b) (stepOf f sheet at w)) ≡ true
-      → WorldStill a w (onWent (replayOf f sheet b (suc n)) n (stepOf f sheet at w) .world)
+      → StillSince a w (onWent (replayOf f sheet b (suc n)) n (stepOf f sheet at w) .world)
   turn b n at w ih e free =
       let g = stepOf f sheet at w in
       let m = not-true (worksAcross a (opcodeAt sheet at)) (and-left (not (worksAcross a (opcodeAt sheet at))) _ free) in
@@ -78,7 +78,7 @@ module _ (a : Axis) (f : Fixed) (sheet : List ℤ) where
   free-here false op ops e free = cc e
 
   replay-still : (b n at : ℕ) (w : World) → Straight a (w .state) → none (worksAcross a) (reachedFrom f sheet b at w) ≡ true
-      → WorldStill a w (replayOf f sheet b n at w .world)
+      → StillSince a w (replayOf f sheet b n at w .world)
   unfolding replayOf reachedFrom
   replay-still zero n at w e free =
       by-test w (ltb at (length sheet)) _ _ (λ _. stays a (w .gx) (w .gy) (w .gflags)) (stays a (w .gx) (w .gy) (w .gflags))
@@ -89,7 +89,7 @@ module _ (a : Axis) (f : Fixed) (sheet : List ℤ) where
 
 entry-still : (a : Axis) (f : Fixed) (sheet : List ℤ) (budget start : ℕ) (w : World) → Straight a (w .state) → (call : Call)
     → none (worksAcross a) (reachedOnEntry (reachedFrom f sheet budget start w) call) ≡ true
-    → WorldStill a w (runOnEntry f sheet budget start w call .world)
+    → StillSince a w (runOnEntry f sheet budget start w call .world)
 unfolding runOnEntry reachedOnEntry
 entry-still a f sheet budget start w e Done free = replay-still a f sheet budget 0 start w e free
 entry-still a f sheet budget start w e (RefusedCall why) free = stays a (w .gx) (w .gy) (w .gflags)
@@ -97,7 +97,7 @@ entry-still a f sheet budget start w e (RefusedCall why) free = stays a (w .gx) 
 -- no glyph point's coordinate or touch mark across the axis has changed
 pub across-still : (a : Axis) (f : Fixed) (sheet : List ℤ) (budget start : ℕ) (w : World) → Straight a (w .state)
     → none (worksAcross a) (linesReached f sheet budget start w) ≡ true
-    → WorldStill a w (runOf f sheet budget start w .world)
+    → StillSince a w (runOf f sheet budget start w .world)
 unfolding runOf linesReached
 across-still a f sheet budget start w e free =
     entry-still a f sheet budget start w e (entered f sheet start w) free
@@ -105,8 +105,8 @@ across-still a f sheet budget start w e free =
 -- the same of the public call: whatever a call of `run` returns and leaves, by its contract
 pub run-still : (a : Axis) (f : Fixed) (sheet : List ℤ) (budget start : ℕ) (w : World) (r : Ran) → r ≡ runOf f sheet budget start w → Straight a (w .state)
     → none (worksAcross a) (linesReached f sheet budget start w) ≡ true
-    → WorldStill a w (r .world)
-run-still a f sheet budget start w r e straight free = subst (λ (x : Ran). WorldStill a w (x .world)) (sym e) (across-still a f sheet budget start w straight free)
+    → StillSince a w (r .world)
+run-still a f sheet budget start w r e straight free = subst (λ (x : Ran). StillSince a w (x .world)) (sym e) (across-still a f sheet budget start w straight free)
 
 -- ---- the two instances
 neither : (m i r s t : Bool) → not m && r ≡ true → not i && s ≡ true → (r ≡ true → s ≡ true → t ≡ true) → not (m || i) && t ≡ true

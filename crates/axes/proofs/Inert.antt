@@ -1,4 +1,4 @@
--- A move along an axis leaves every point's coordinate and mark across it, and so does a loop of such moves: with the vectors along the axis, a move's
+-- A move along an axis leaves every point's coordinate and mark across it: with the vectors along the axis, a move's
 -- part across is 0 and its touch mark across is not set. Assumes nothing.
 use mathlib.Core.Bool.{Bool, cond, false, true}
 use mathlib.Core.List.{List}
@@ -12,24 +12,18 @@ use Prim.Native.Nat.{ℕ}
 use Rattle.point.specs.declared.Axis.{Axis}
 use Rattle.answer.specs.declared.Call.the-variants.{Done, Refused as RefusedCall}
 use Rattle.graphics.specs.declared.Facts.{Facts}
-use Rattle.graphics.specs.declared.ZonePointer.the-variants.{Glyph, Twilight}
 use Rattle.moves.specs.declared.Move.{Move}
 use Rattle.answer.specs.declared.Refusal.the-variants.{Point}
-use Rattle.looped.specs.Looped.{Points, Zones, shiftAt, shiftEachIn, shiftUnlessIdle}
 use Rattle.axes.specs.Axes.{Still, across, markAcross, marksAcross, unitOf}
 use Rattle.graphics.specs.declared.Vectors.{Vectors}
 use Rattle.point.specs.declared.Axis.the-variants.{X, Y}
-use Rattle.graphics.specs.declared.ZonePointer.{ZonePointer}
 use Rattle.graphics.specs.State.{allAlong}
 use Rattle.moves.specs.Apply.{applyOf, moved}
 use Rattle.projection.specs.Projection.{axisOf, freedomAxisBy, rawFdotp}
 use Rattle.point.specs.Flag.{bit}
 use Rattle.zone.specs.Zone.{orAt}
-use Rattle.looped.proofs.Keeps.{each-keeps}
-use Rattle.moves.specs.Move.{isIdle, moveOf, movedAt, stepBy, zp2MoveOf}
-use Rattle.iup.specs.Parts.{marks}
+use Rattle.moves.specs.Move.{moveOf, movedAt, stepBy, zp2MoveOf}
 use Rattle.point.proofs.Bits.{or-keeps}
-use Rattle.looped.specs.Each.{pass}
 
 pub stays : (a : Axis) (xs ys : List ℤ) (flags : List ℕ) → Still a xs ys flags xs ys flags
 stays a xs ys flags = record { coordinates = refl; marks = refl }
@@ -89,22 +83,6 @@ pub apply-still : (a : Axis) (m : Move) → Inert a m → (at : ℕ) (xs ys : Li
     → Still a xs ys flags (applyOf m at xs ys flags .xs) (applyOf m at xs ys flags .ys) (applyOf m at xs ys flags .flags)
 unfolding applyOf
 apply-still a m i at xs ys flags = apply-by a m i at xs ys flags (ltb at (length xs))
-
--- ---- a zone's points
-abbrev pub PointsStill : Axis → Points → Points → Type 0
-PointsStill a p q = Still a (p .xs) (p .ys) (p .flags) (q .xs) (q .ys) (q .flags)
-
-pub shift-by-still : (a : Axis) (m : Move) → Inert a m → (p : Points) (idle : Bool) (at : ℕ) (q : Points) → PointsStill a p q → PointsStill a p (cond idle pass (shiftAt m) at q .left)
-shift-by-still a m i p true at q k = k
-shift-by-still a m i p false at q k = then (apply-still a m i at (q .xs) (q .ys) (q .flags)) k
-
-pub shift-in-still : (a : Axis) (m : Move) → Inert a m → (count : ℕ) (operands : List ℤ) (z : Zones) (zone : ZonePointer)
-    → PointsStill a (z .glyph) (shiftEachIn m count operands z zone .left .glyph)
-unfolding shiftEachIn
-shift-in-still a m i count operands z Glyph =
-    each-keeps (λ (q : Points). PointsStill a (z .glyph) q) (shiftUnlessIdle m) (λ at q k. shift-by-still a m i (z .glyph) (isIdle m) at q k) count operands (z .glyph)
-    (stays a (z .glyph .xs) (z .glyph .ys) (z .glyph .flags))
-shift-in-still a m i count operands z Twilight = stays a (z .glyph .xs) (z .glyph .ys) (z .glyph .flags)
 
 -- ---- bit 0 is no touch mark
 pub on-curve-apart : (a : Axis) → bit (markAcross a) 1 ≡ 0

@@ -1,162 +1,298 @@
--- A line seen along an axis: with the vectors along it, and where it doesn't mix the axes, a line leaves the vectors along it, and what is seen after it
--- is what is seen after the same line over what is seen. By the instruction that the opcode names. Assumes nothing.
-use mathlib.Core.Bool.{Bool, _&&_, _||_, false, true}
-use mathlib.Core.List.{List}
-use mathlib.Core.Path.{_∙_, _≡_, ap, ap₂, refl}
-use native.Mathlib.Omega.{arith}
-use lib.Dec.{eqb, leb}
-use borrow.Author.Tests.{eqb-false, eqb-true, leb-true}
-use Prim.Native.Nat.{ℕ}
-use lib.IntN.{ℤ}
-use Rattle.lines.specs.declared.Instruction.the-variants.{Alignrp, Flippt, Fliprg, Isect, Iup, Mdap, Miap, Msirp, Set, Shc, Shp, Shpix, Shz}
-use Rattle.places.specs.Placed.{AllPlaced, BothPlaced}
+-- Each line seen along an axis: with the vectors along it, what is seen after the line is what would be seen if every coordinate across the axis were 0. A line's law is
+-- the chain of its steps' laws, in the order of its definition. Assumes nothing.
+use Prim.Native.Nat.{ℕ, _-_, suc}
+use mathlib.Core.Bool.{Bool, _&&_, cond, false, true}
+use mathlib.Core.List.{List, [], _∷_}
+use mathlib.Core.Path.{_≡_, ap, ap₂, refl, sym, _∙_}
+use lib.Dec.{eqb, ltb}
+use lib.IntN.{ℤ, pos}
+use lib.ListN.{length, length-set, set}
+use Rattle.answer.specs.declared.Refusal.the-variants.{Compatibility, Contour}
+use Rattle.answer.specs.declared.Refusal.the-variants.{ZonePointer as BadZone}
+use Rattle.answer.specs.declared.Refusal.{Refusal}
+use Rattle.axes.proofs.Seen.{displaced-seen}
+use Rattle.axes.proofs.Seen.{level-by, place-seen, placeSeen, project-seen, seen-by-test, x-again, x-length, x-set, y-again, y-set}
+use Rattle.axes.specs.Axes.{Straight, fixedSeen, linedSeen, unitOf, worldSeen, xSeen, ySeen}
+use Rattle.point.specs.declared.Axis.the-variants.{X, Y}
 use Rattle.point.specs.declared.Axis.{Axis}
-use Rattle.world.specs.World.{Fixed, World, lined}
-use Rattle.lines.specs.declared.Instruction.{Instruction}
-use Rattle.interpolate.specs.Interpolated.{Interpolated}
-use Rattle.line.specs.declared.Stepped.{Stepped}
-use Rattle.axes.specs.Axes.{Straight, fixedSeen, linedSeen, mixes, turnsAcross, worldSeen, xSeen, ySeen}
-use Rattle.looped.specs.Looped.{Went, Zones, flipptOf}
-use Rattle.ranges.specs.Ranges.{fliprgOf}
-use Rattle.lines.specs.Dispatch.{between, instructionOf, intoAll, intoAxes, intoFlags, intoPlaces, intoState, intoZones, lineBy, lineOf, zonesOf}
-use Rattle.sheet.specs.Setters.{setBy}
-use Rattle.axes.proofs.Align.{alignrp-seen}
-use Rattle.axes.proofs.Miap.{allSeen, miap-seen}
-use Rattle.axes.proofs.Mdap.{bothSeen, mdap-seen}
-use Rattle.axes.proofs.Iup.{interpolatedSeen, iup-seen}
-use Rattle.axes.proofs.Msirp.{msirp-seen}
-use Rattle.axes.proofs.Looped.{shp-seen, wentSeen}
-use Rattle.axes.proofs.Shifts.{shc-seen, shpix-seen, shz-seen}
-use Rattle.axes.proofs.Seen.{x-again, y-again}
-use Rattle.int.proofs.Tests.{either}
+use Rattle.graphics.specs.State.{allAlong, pastBothIups}
+use Rattle.graphics.specs.declared.GraphicsState.{GraphicsState}
+use Rattle.graphics.specs.declared.Vector.{Vector}
+use Rattle.graphics.specs.declared.Vectors.{Vectors}
+use Rattle.graphics.specs.declared.ZonePointer.the-variants.{Glyph, Twilight}
+use Rattle.graphics.specs.declared.ZonePointer.{ZonePointer}
+use Rattle.int.specs.Word.{indexOf, neg32, sub32}
+use Rattle.iup.specs.Iup.{Went, iupOf}
+use Rattle.laws_lines.proofs.Stays.{align-point-state, flip-point-state, shift-but-state, shift-point-state}
+use Rattle.line_alignrp.specs.Alignrp.{alignPoint, alignrpOf}
+use Rattle.line_flip.specs.Flip.{flipPoint, flipptOf, fliprgOf, heldFast, setThrough}
+use Rattle.line_iup.specs.Iup.{iupLineOf, markedFor, walkedIn, withX, withY}
+use Rattle.line_mdap.specs.Mdap.{mdapDistance, mdapOf, outsideMdap, roundingStep, roundsIn}
+use Rattle.line_miap.specs.Miap.{miapOf}
+use Rattle.line_miap.specs.Numbers.{controlPlace, miapDistance}
+use Rattle.line_msirp.specs.Msirp.{bothThere, madePlace, movedPlace, msirpOf, referencesAfter}
+use Rattle.line_shc_shz.specs.Shc.{pointAfter, shcOf, shzOf}
+use Rattle.line_span.specs.Span.{pointsFrom, sameZone, shiftBut, spanIn}
+use Rattle.line_shift.specs.Shift.{pixelMove, shpOf, shpixOf}
+use Rattle.line_steps.specs.Numbers.{fromOrigin}
+use Rattle.line_steps.specs.Steps.{byDisplaced, displacedIn, displacement, doneIn, inState, laidIn, looped, madeIn, moveIn, onBoth, one, passedOver, pointOr, refusedIn, shiftPoint, two}
+use Rattle.moves.specs.Displacement.{referenceOf}
+use Rattle.moves.specs.Move.{isIdle, moveOf, originalMoveOf, zp2MoveOf}
+use Rattle.moves.specs.declared.Displaced.the-variants.{By}
+use Rattle.moves.specs.declared.Displaced.the-variants.{Refused as RefusedDisplacement}
+use Rattle.moves.specs.declared.Displaced.{Displaced}
+use Rattle.moves.specs.declared.Displacement.{Displacement}
+use Rattle.moves.specs.declared.Move.{Move}
+use Rattle.places.specs.Lines.{isOdd}
+use Rattle.places.specs.Places.{sizeOf}
+use Rattle.projection.specs.Projection.{projectOf}
+use Rattle.world.specs.World.{Fixed, Lined, World, world}
+use Rattle.zone.specs.Zone.{flipOf, placeOf}
+use Rattle.axes.proofs.Steps.{Alike, Same, control-seen, done-seen, each-seen, first-seen, flags-seen, from-origin-seen, laid-seen, looped-seen, made-seen, move-seen, one-seen, passed-seen, point-seen, refused-seen, state-seen, two-seen, world-again}
+use Rattle.axes.proofs.Walk.{across, wentLevel}
 
--- ---- which lines intersect
--- a number for each instruction, by which one is told from the others
-abbrev pub lineNumber : Instruction → ℕ
-lineNumber Set = 0
-lineNumber Isect = 1
-lineNumber Mdap = 2
-lineNumber Iup = 3
-lineNumber Shp = 4
-lineNumber Shc = 5
-lineNumber Shz = 6
-lineNumber Shpix = 7
-lineNumber Msirp = 8
-lineNumber Alignrp = 9
-lineNumber Miap = 10
-lineNumber Flippt = 11
-lineNumber Fliprg = 12
+-- a line that sees nothing across the axis
+abbrev pub LineSeen : Axis → (Fixed → ℕ → List ℤ → World → Lined) → Type 0
+LineSeen a line = (f : Fixed) (op : ℕ) (operands : List ℤ) (w : World) → Straight a (w .state) → Same a (line (fixedSeen a f) op operands (worldSeen a w)) (line f op operands w)
 
-abbrev pub isIntersection : Instruction → Bool
-isIntersection i = eqb (lineNumber i) (lineNumber Isect)
+-- what ends with rp0 and rp1 set
+both-set-seen : (a : Axis) (at : ℕ) (v w : World) → Alike a v w → Same a (doneIn (onBoth at v)) (doneIn (onBoth at w))
+both-set-seen a at v w e = ap (λ (x : World). doneIn (onBoth at x)) (e .seen)
 
-pub or-left : (a b : Bool) → a || b ≡ false → a ≡ false
-or-left false b e = refl
-or-left true b e = cc e
+-- a distance between places that look alike
+project-alike : (a : Axis) (v : Vectors) → v ≡ allAlong (unitOf a) → (p q r s : Vector) → placeSeen a p ≡ placeSeen a q → placeSeen a r ≡ placeSeen a s → projectOf v p r ≡ projectOf v q s
+project-alike a v e p q r s h k = sym (project-seen a v e p r) ∙ ap₂ (projectOf v) h k ∙ project-seen a v e q s
 
-pub or-right : (a b : Bool) → a || b ≡ false → b ≡ false
-or-right false b e = e
-or-right true b e = cc e
+-- ---- MDAP
+mdap-distance-seen : (a : Axis) (w : World) → Straight a (w .state) → (rounds : Bool) (p q : Vector) → placeSeen a p ≡ placeSeen a q
+    → mdapDistance rounds (w .state .round) (w .state .vectors) p ≡ mdapDistance rounds (w .state .round) (w .state .vectors) q
+unfolding mdapDistance
+mdap-distance-seen a w straight rounds p q h =
+    ap (λ (d : ℤ). cond rounds (roundingStep (w .state .round) d) (pos 0)) (from-origin-seen a (w .state .vectors) straight p q h)
 
--- ---- what is seen after a line
-world-again : (a : Axis) (w : World) (r : Stepped) → linedSeen a (intoState (worldSeen a w) r) ≡ linedSeen a (intoState w r)
-world-again a w r =
-    ap₂ (λ (u v : List ℤ). lined r u v (w .gflags) (xSeen a (xSeen a (w .tox))) (ySeen a (ySeen a (w .toy))) (xSeen a (xSeen a (w .tx))) (ySeen a (ySeen a (w .ty))) (w .tflags))
-    (x-again a (w .gx))
-    (y-again a (w .gy))
-    ∙ ap₂ (λ (u v : List ℤ). lined r (xSeen a (w .gx)) (ySeen a (w .gy)) (w .gflags) u v (xSeen a (xSeen a (w .tx))) (ySeen a (ySeen a (w .ty))) (w .tflags))
-    (x-again a (w .tox))
-    (y-again a (w .toy))
-    ∙ ap₂ (λ (u v : List ℤ). lined r (xSeen a (w .gx)) (ySeen a (w .gy)) (w .gflags) (xSeen a (w .tox)) (ySeen a (w .toy)) u v (w .tflags))
-    (x-again a (w .tx))
-    (y-again a (w .ty))
+outside-seen : (a : Axis) (at : ℕ) (w : World) (why : Refusal) → Same a (outsideMdap at (worldSeen a w) why) (outsideMdap at w why)
+unfolding outsideMdap
+outside-seen a at w why =
+    seen-by-test (linedSeen a) (w .state .facts .pedantic) (refused-seen a (world-again a w) why) (both-set-seen a at (worldSeen a w) w (world-again a w))
 
--- the twilight originals that a line leaves
-originals-again : (a : Axis) (w : World) (r : Stepped) (gx gy : List ℤ) (gflags : List ℕ) (tx ty : List ℤ) (tflags : List ℕ)
-    → lined r gx gy gflags (xSeen a (xSeen a (w .tox))) (ySeen a (ySeen a (w .toy))) tx ty tflags ≡ lined r gx gy gflags (xSeen a (w .tox)) (ySeen a (w .toy)) tx ty tflags
-originals-again a w r gx gy gflags tx ty tflags = ap₂ (λ (u v : List ℤ). lined r gx gy gflags u v tx ty tflags) (x-again a (w .tox)) (y-again a (w .toy))
+pub mdap-seen : (a : Axis) → LineSeen a mdapOf
+unfolding mdapOf
+mdap-seen a f op operands w straight =
+    let s = w .state in
+    let zone = s .pointers .zp0 in
+    let same = world-again a w in
+    one-seen a same operands _ _ λ point.
+    let at = indexOf point in
+    let end : World → Lined = λ v. doneIn (onBoth at v) in
+    point-seen a _ _ _ _ (outside-seen a at w)
+    (λ p q h. ap (λ (d : ℤ). linedSeen a (moveIn zone d at (worldSeen a w) end)) (mdap-distance-seen a w straight (roundsIn w op) p q h)
+    ∙ move-seen a end end (both-set-seen a at) zone (mdapDistance (roundsIn w op) (s .round) (s .vectors) q) at same)
+    zone at same
 
-into-places : (a : Axis) (w : World) (p q : BothPlaced) → bothSeen a p ≡ bothSeen a q → linedSeen a (intoPlaces (worldSeen a w) p) ≡ linedSeen a (intoPlaces w q)
-into-places a w p q e =
-    originals-again a w (p .stepped) (xSeen a (p .gx)) (ySeen a (p .gy)) (p .gflags) (xSeen a (p .tx)) (ySeen a (p .ty)) (p .tflags)
-    ∙ ap (λ (b : BothPlaced). lined (b .stepped) (b .gx) (b .gy) (b .gflags) (xSeen a (w .tox)) (ySeen a (w .toy)) (b .tx) (b .ty) (b .tflags)) e
+-- ---- a twilight point made, at places that look alike
+x-put : (a : Axis) (xs : List ℤ) (at : ℕ) (p q : Vector) → placeSeen a p ≡ placeSeen a q → xSeen a (set xs at (p .x)) ≡ xSeen a (set xs at (q .x))
+x-put X xs at p q e = ap (λ (v : Vector). set xs at (v .x)) e
+x-put Y xs at p q e = level-by (set xs at (p .x)) (set xs at (q .x)) (length-set xs at (p .x) ∙ sym (length-set xs at (q .x)))
 
-into-zones : (a : Axis) (w : World) (p q : Went Zones) → wentSeen a p ≡ wentSeen a q → linedSeen a (intoZones (worldSeen a w) p) ≡ linedSeen a (intoZones w q)
-into-zones a w p q e =
-    originals-again a w (p .stepped) (xSeen a (p .left .glyph .xs)) (ySeen a (p .left .glyph .ys)) (p .left .glyph .flags) (xSeen a (p .left .twilight .xs))
-    (ySeen a (p .left .twilight .ys))
-    (p .left .twilight .flags)
-    ∙ ap
-    (λ (g : Went Zones). lined (g .stepped) (g .left .glyph .xs) (g .left .glyph .ys) (g .left .glyph .flags) (xSeen a (w .tox)) (ySeen a (w .toy))
-    (g .left .twilight .xs)
-    (g .left .twilight .ys)
-    (g .left .twilight .flags))
-    e
+y-put : (a : Axis) (ys : List ℤ) (at : ℕ) (p q : Vector) → placeSeen a p ≡ placeSeen a q → ySeen a (set ys at (p .y)) ≡ ySeen a (set ys at (q .y))
+y-put X ys at p q e = level-by (set ys at (p .y)) (set ys at (q .y)) (length-set ys at (p .y) ∙ sym (length-set ys at (q .y)))
+y-put Y ys at p q e = ap (λ (v : Vector). set ys at (v .y)) e
 
-into-all : (a : Axis) (p q : AllPlaced) → allSeen a p ≡ allSeen a q → linedSeen a (intoAll p) ≡ linedSeen a (intoAll q)
-into-all a p q e = ap intoAll e
+made-alike : (a : Axis) (at : ℕ) (p q : Vector) (zone : ZonePointer) (w : World) → placeSeen a p ≡ placeSeen a q → worldSeen a (madeIn at p w zone) ≡ worldSeen a (madeIn at q w zone)
+unfolding madeIn
+made-alike a at p q Glyph w e = refl
+made-alike a at p q Twilight w e =
+    ap₂ (λ (x y : List ℤ). world (w .state) (xSeen a (w .gx)) (ySeen a (w .gy)) (w .gflags) x y (xSeen a (set (w .tx) at (p .x))) (ySeen a (set (w .ty) at (p .y))) (w .tflags))
+    (x-put a (w .tox) at p q e) (y-put a (w .toy) at p q e)
+    ∙ ap₂ (λ (x y : List ℤ). world (w .state) (xSeen a (w .gx)) (ySeen a (w .gy)) (w .gflags) (xSeen a (set (w .tox) at (q .x))) (ySeen a (set (w .toy) at (q .y))) x y (w .tflags))
+    (x-put a (w .tx) at p q e) (y-put a (w .ty) at p q e)
 
-into-axes : (a : Axis) (w : World) (p q : Interpolated) → interpolatedSeen a p ≡ interpolatedSeen a q → linedSeen a (intoAxes (worldSeen a w) p) ≡ linedSeen a (intoAxes w q)
-into-axes a w p q e =
-    ap₂ (λ (u v : List ℤ). lined (p .stepped) (xSeen a (p .gx)) (ySeen a (p .gy)) (w .gflags) u v (xSeen a (xSeen a (w .tx))) (ySeen a (ySeen a (w .ty))) (w .tflags))
-    (x-again a (w .tox))
-    (y-again a (w .toy))
-    ∙ ap₂ (λ (u v : List ℤ). lined (p .stepped) (xSeen a (p .gx)) (ySeen a (p .gy)) (w .gflags) (xSeen a (w .tox)) (ySeen a (w .toy)) u v (w .tflags))
-    (x-again a (w .tx))
-    (y-again a (w .ty))
-    ∙ ap (λ (i : Interpolated). lined (i .stepped) (i .gx) (i .gy) (w .gflags) (xSeen a (w .tox)) (ySeen a (w .toy)) (xSeen a (w .tx)) (ySeen a (w .ty)) (w .tflags)) e
+-- ---- MIAP
+pub miap-seen : (a : Axis) → LineSeen a miapOf
+unfolding miapOf
+miap-seen a f op operands w straight =
+    let s = w .state in
+    let zone = s .pointers .zp0 in
+    let same = world-again a w in
+    two-seen a same operands _ _ λ entry point.
+    control-seen a same f (indexOf entry) _ _ λ control.
+    let at = indexOf point in
+    let place = controlPlace (s .vectors .freedom) control in
+    let made = made-seen a at place zone same in
+    let distance : ℤ → ℤ = λ own. miapDistance (isOdd op) (s .facts .«native_clear_type_x») (s .round) (s .«cut_in») control own in
+    let end : World → Lined = λ v. doneIn (onBoth at v) in
+    point-seen a _ _ _ _ (refused-seen a made)
+    (λ p q h. ap (λ (own : ℤ). linedSeen a (moveIn zone (distance own) at (madeIn at place (worldSeen a w) zone) end)) (from-origin-seen a (s .vectors) straight p q h)
+    ∙ move-seen a end end (both-set-seen a at) zone (distance (fromOrigin (s .vectors) q)) at made)
+    zone at made
 
--- a flip reads no coordinate
-into-flags : (a : Axis) (w : World) (g : Went (List ℕ)) → linedSeen a (intoFlags (worldSeen a w) g) ≡ linedSeen a (intoFlags w g)
-into-flags a w g =
-    world-again a
-    (record { state = w .state; gx = w .gx; gy = w .gy; gflags = g .left; tox = w .tox; toy = w .toy; tx = w .tx; ty = w .ty; tflags = w .tflags })
-    (g .stepped)
+-- ---- MSIRP
+-- where a twilight point is made is seen along the axis
+made-place-seen : (a : Axis) (v : Vectors) (d : ℤ) (p : Vector) → placeSeen a (madePlace v d (placeSeen a p)) ≡ placeSeen a (madePlace v d p)
+unfolding madePlace
+made-place-seen X v d p = refl
+made-place-seen Y v d p = refl
 
-by-seen : (a : Axis) (f : Fixed) (op : ℕ) (operands : List ℤ) (w : World) → Straight a (w .state) → (i : Instruction) → isIntersection i ≡ false
-    → linedSeen a (lineBy (fixedSeen a f) op operands (worldSeen a w) i) ≡ linedSeen a (lineBy f op operands w i)
-unfolding lineBy
-by-seen a f op operands w straight Set e = world-again a w (setBy (w .state) op operands)
-by-seen a f op operands w straight Isect e = cc e
-by-seen a f op operands w straight Mdap e =
-    into-places a w _ _ (mdap-seen a (w .state) straight op operands (w .gx) (w .gy) (w .gflags) (w .tx) (w .ty) (w .tflags))
-by-seen a f op operands w straight Iup e =
-    into-axes a w _ _ (iup-seen a (w .state) op (f .gux) (f .guy) (f .gox) (f .goy) (w .gx) (w .gy) (w .gflags) (f .contours))
-by-seen a f op operands w straight Shp e = into-zones a w _ _ (shp-seen a (w .state) straight op operands (f .gox) (f .goy) (w .tox) (w .toy) (zonesOf w))
-by-seen a f op operands w straight Shc e =
-    into-zones a w _ _ (shc-seen a (w .state) straight op (f .gox) (f .goy) (w .tox) (w .toy) (zonesOf w) operands (f .contours))
-by-seen a f op operands w straight Shz e =
-    into-zones a w _ _ (shz-seen a (w .state) straight op (f .gox) (f .goy) (w .tox) (w .toy) (zonesOf w) operands (f .contours))
-by-seen a f op operands w straight Shpix e = into-zones a w _ _ (shpix-seen a (w .state) operands (zonesOf w))
-by-seen a f op operands w straight Msirp e =
-    into-all a _ _ (msirp-seen a (w .state) straight op operands (w .gx) (w .gy) (w .gflags) (w .tox) (w .toy) (w .tx) (w .ty) (w .tflags))
-by-seen a f op operands w straight Alignrp e = into-zones a w _ _ (alignrp-seen a (w .state) straight operands (zonesOf w))
-by-seen a f op operands w straight Miap e =
-    into-all a _ _ (miap-seen a (w .state) straight op operands (f .controls) (w .gx) (w .gy) (w .gflags) (w .tox) (w .toy) (w .tx) (w .ty) (w .tflags))
-by-seen a f op operands w straight Flippt e = into-flags a w (flipptOf (w .state) operands (w .gflags))
-by-seen a f op operands w straight Fliprg e = into-flags a w (fliprgOf (w .state) op operands (w .gflags))
+made-from-seen : (a : Axis) (v : Vectors) (d : ℤ) (at : ℕ) (zone : ZonePointer) (w : World)
+    → Alike a (madeIn at (madePlace v d (placeOf (xSeen a (w .tox)) (ySeen a (w .toy)) at)) (worldSeen a w) zone) (madeIn at (madePlace v d (placeOf (w .tox) (w .toy) at)) w zone)
+made-from-seen a v d at zone w =
+    let p = placeOf (w .tox) (w .toy) at in
+    record {
+      seen =
+          ap (λ (q : Vector). worldSeen a (madeIn at (madePlace v d q) (worldSeen a w) zone)) (place-seen a (w .tox) (w .toy) at)
+          ∙ made-alike a at (madePlace v d (placeSeen a p)) (madePlace v d p) zone (worldSeen a w) (made-place-seen a v d p)
+          ∙ made-seen a at (madePlace v d p) zone (world-again a w) .seen;
+    }
 
--- the one opcode that intersects
-one-intersects : (op : ℕ) (t : Bool) → eqb op 0x0F ≡ t → between 0x0F 0x0F op ≡ t
-one-intersects op true e = let same = eqb-true op 0x0F e in rw same
-one-intersects op false e = apart (leb 0x0F op) (leb op 0x0F) refl refl
-  where
-    apart : (l m : Bool) → leb 0x0F op ≡ l → leb op 0x0F ≡ m → l && m ≡ false
-    apart false m p q = refl
-    apart true false p q = refl
-    apart true true p q = absurd (eqb-false op 0x0F e (omega (arith, leb-true 0x0F op p, leb-true op 0x0F q)))
+both-there-seen : (a : Axis) (at : ℕ) (w : World) (rest rest' : Lined) → Same a rest rest' → (zone : ZonePointer) → Same a (bothThere at (worldSeen a w) rest zone) (bothThere at w rest' zone)
+unfolding bothThere
+both-there-seen a at w rest rest' h Glyph =
+    let same = world-again a w in
+    point-seen a _ _ _ _ (passed-seen a same) (λ p q k. point-seen a _ _ _ _ (passed-seen a same) (λ p q k. h) (w .state .pointers .zp0) (w .state .references .rp0) same) Glyph at same
+both-there-seen a at w rest rest' h Twilight =
+    let same = world-again a w in
+    point-seen a _ _ _ _ (passed-seen a same) (λ p q k. point-seen a _ _ _ _ (passed-seen a same) (λ p q k. h) Twilight at same) (w .state .pointers .zp0) (w .state .references .rp0) same
 
-abbrev NoIntersection : Instruction → Type 0
-NoIntersection i = isIntersection i ≡ false
+pub msirp-seen : (a : Axis) → LineSeen a msirpOf
+unfolding msirpOf
+msirp-seen a f op operands w straight =
+    let s = w .state in
+    let zone = s .pointers .zp1 in
+    two-seen a (world-again a w) operands _ _ λ distance point.
+    let at = indexOf point in
+    let made = made-from-seen a (s .vectors) distance at zone w in
+    let end : World → Lined = λ v. doneIn (inState v (referencesAfter s op at)) in
+    both-there-seen a at w _ _
+    (point-seen a _ _ _ _ (refused-seen a made)
+    (λ p q h. point-seen a _ _ _ _ (refused-seen a made)
+    (λ r t k. ap (λ (d : ℤ). linedSeen a (moveIn zone (sub32 distance d) at (madeIn at (madePlace (s .vectors) distance (placeOf (xSeen a (w .tox)) (ySeen a (w .toy)) at)) (worldSeen a w) zone) end)) (project-alike a (s .vectors) straight p q r t h k)
+    ∙ move-seen a end end (λ u v e. ap end (e .seen)) zone (sub32 distance (projectOf (s .vectors) q t)) at made)
+    (s .pointers .zp0) (s .references .rp0) made)
+    zone at made)
+    zone
 
-pub no-intersection : (op : ℕ) → eqb op 0x0F ≡ false → NoIntersection (instructionOf op)
-unfolding instructionOf
-no-intersection op e =
-    rw (one-intersects op false e)
-    (either NoIntersection (between 0x2E 0x2F op) refl (either NoIntersection (between 0x30 0x31 op) refl (either NoIntersection (between 0x32 0x33 op) refl (either NoIntersection (between 0x34 0x35 op) refl (either NoIntersection (between 0x36 0x37 op) refl (either NoIntersection (between 0x38 0x38 op) refl (either NoIntersection (between 0x3A 0x3B op) refl (either NoIntersection (between 0x3C 0x3C op) refl (either NoIntersection (between 0x3E 0x3F op) refl (either NoIntersection (between 0x80 0x80 op) refl (either NoIntersection (between 0x81 0x82 op) refl refl)))))))))))
+-- ---- ALIGNRP
+align-point-level : (a : Axis) (z : ℤ) (w : World) → Straight a (w .state) → Same a (alignPoint z (worldSeen a w)) (alignPoint z w)
+align-point-level a z w straight =
+    let s = w .state in
+    let same = world-again a w in
+    let at = indexOf z in
+    let zone = s .pointers .zp1 in
+    point-seen a _ _ _ _ (refused-seen a same)
+    (λ p q h. point-seen a _ _ _ _ (refused-seen a same)
+    (λ r t k. ap (λ (d : ℤ). linedSeen a (moveIn zone (neg32 d) at (worldSeen a w) doneIn)) (project-alike a (s .vectors) straight p q r t h k)
+    ∙ move-seen a doneIn doneIn (done-seen a) zone (neg32 (projectOf (s .vectors) q t)) at same)
+    (s .pointers .zp0) (s .references .rp0) same)
+    zone at same
 
-pub line-seen : (a : Axis) (f : Fixed) (op : ℕ) (operands : List ℤ) (w : World) → Straight a (w .state) → mixes a op ≡ false
-    → linedSeen a (lineOf (fixedSeen a f) op operands (worldSeen a w)) ≡ linedSeen a (lineOf f op operands w)
-unfolding lineOf
-line-seen a f op operands w straight e =
-    by-seen a f op operands w straight (instructionOf op) (no-intersection op (or-left (eqb op 0x0F) (turnsAcross a op) e))
+pub alignrp-seen : (a : Axis) → LineSeen a alignrpOf
+unfolding alignrpOf
+alignrp-seen a f op operands w straight = looped-seen a alignPoint (align-point-level a) align-point-state operands w straight
+
+-- ---- FLIPPT, FLIPRGON, FLIPRGOFF: they read no coordinate
+flip-point-level : (a : Axis) (z : ℤ) (w : World) → Straight a (w .state) → Same a (flipPoint z (worldSeen a w)) (flipPoint z w)
+unfolding flipPoint
+flip-point-level a z w straight =
+    let same = world-again a w in
+    seen-by-test (linedSeen a) (pastBothIups (w .state .facts)) (done-seen a (worldSeen a w) w same) (flags-seen a same (λ flags. flipOf flags (indexOf z)))
+
+pub flippt-seen : (a : Axis) → LineSeen a flipptOf
+unfolding flipptOf
+flippt-seen a f op operands w straight = looped-seen a flipPoint (flip-point-level a) flip-point-state operands w straight
+
+pub fliprg-seen : (a : Axis) → LineSeen a fliprgOf
+unfolding fliprgOf
+fliprg-seen a f op operands w straight =
+    let same = world-again a w in
+    two-seen a same operands _ _ λ high low.
+    seen-by-test (linedSeen a) (heldFast (w .state .facts) (indexOf high)) (done-seen a (worldSeen a w) w same) (flags-seen a same (λ flags. setThrough flags (indexOf low) (indexOf high) (isOdd op)))
+
+-- ---- the shifts
+by-displaced-seen : (a : Axis) (w : World) (rest rest' : Displacement → Lined) → ((d : Displacement) → Same a (rest d) (rest' d)) → (d : Displaced)
+    → Same a (byDisplaced (worldSeen a w) rest d) (byDisplaced w rest' d)
+by-displaced-seen a w rest rest' h (By d) = h d
+by-displaced-seen a w rest rest' h (RefusedDisplacement why) = refused-seen a (world-again a w) why
+
+-- how far the reference point was moved is read along the axis
+reference-seen : (a : Axis) (f : Fixed) (op : ℕ) (w : World) → Straight a (w .state) → (rest rest' : Displacement → Lined) → ((d : Displacement) → Same a (rest d) (rest' d))
+    → Same a (displacedIn (fixedSeen a f) op (worldSeen a w) rest) (displacedIn f op w rest')
+unfolding displacedIn
+reference-seen a f op w straight rest rest' h =
+    let p = referenceOf (w .state) op in
+    ap (λ (d : Displaced). linedSeen a (byDisplaced (worldSeen a w) rest d))
+    (displaced-seen a (w .state .vectors) straight p (f .gox) (f .goy) (w .gx) (w .gy) (w .tox) (w .toy) (w .tx) (w .ty) (p .zone))
+    ∙ by-displaced-seen a w rest rest' h (displacement f op w)
+
+shift-point-level : (a : Axis) (m : Move) (z : ℤ) (w : World) → Straight a (w .state) → Same a (shiftPoint m z (worldSeen a w)) (shiftPoint m z w)
+unfolding shiftPoint
+shift-point-level a m z w straight =
+    let same = world-again a w in
+    seen-by-test (linedSeen a) (isIdle m) (done-seen a (worldSeen a w) w same) (laid-seen a doneIn doneIn (done-seen a) (w .state .pointers .zp2) m (indexOf z) same)
+
+pub shp-seen : (a : Axis) → LineSeen a shpOf
+unfolding shpOf
+shp-seen a f op operands w straight =
+    reference-seen a f op w straight _ _ λ d.
+    let m = zp2MoveOf (w .state .vectors) (w .state .facts) (d .dx) (d .dy) true in
+    looped-seen a (shiftPoint m) (shift-point-level a m) (shift-point-state m) operands w straight
+
+pub shpix-seen : (a : Axis) → LineSeen a shpixOf
+unfolding shpixOf
+shpix-seen a f op operands w straight =
+    let same = world-again a w in
+    seen-by-test (linedSeen a) (w .state .facts .«backward_compatibility») (refused-seen a same Compatibility)
+    (first-seen a same operands _ _ λ amount points.
+    let m = pixelMove (w .state .vectors) (w .state .facts) amount in
+    looped-seen a (shiftPoint m) (shift-point-level a m) (shift-point-state m) points w straight)
+
+shift-but-level : (a : Axis) (m : Move) (keeps : Bool) (kept : ℕ) (z : ℤ) (w : World) → Straight a (w .state) → Same a (shiftBut m keeps kept z (worldSeen a w)) (shiftBut m keeps kept z w)
+unfolding shiftBut
+shift-but-level a m keeps kept z w straight =
+    seen-by-test (linedSeen a) (keeps && eqb (indexOf z) kept) (done-seen a (worldSeen a w) w (world-again a w)) (shift-point-level a m z w straight)
+
+span-seen : (a : Axis) (f : Fixed) (op : ℕ) (touches : Bool) (start end : ℕ) (w : World) → Straight a (w .state)
+    → Same a (spanIn (fixedSeen a f) op touches start end (worldSeen a w)) (spanIn f op touches start end w)
+unfolding spanIn
+span-seen a f op touches start end w straight =
+    reference-seen a f op w straight _ _ λ d.
+    let m = zp2MoveOf (w .state .vectors) (w .state .facts) (d .dx) (d .dy) touches in
+    let keeps = sameZone (d .zone) (w .state .pointers .zp2) in
+    each-seen a (shiftBut m keeps (d .at)) (shift-but-level a m keeps (d .at)) (shift-but-state m keeps (d .at)) (end - start) (pointsFrom start (end - start)) (worldSeen a w) w (world-again a w) straight
+
+pub shc-seen : (a : Axis) → LineSeen a shcOf
+unfolding shcOf
+shc-seen a f op operands w straight =
+    let same = world-again a w in
+    let zone = w .state .pointers .zp2 in
+    one-seen a same operands _ _ λ contour.
+    let index = indexOf contour in
+    seen-by-test (linedSeen a) (ltb index (sizeOf (length (f .contours)) 1 zone))
+    (ap (λ (n : ℕ). linedSeen a (spanIn (fixedSeen a f) op true (pointAfter (f .contours) index) (sizeOf (pointAfter (f .contours) (suc index)) n zone) (worldSeen a w))) (x-length a (w .tx))
+    ∙ span-seen a f op true (pointAfter (f .contours) index) (sizeOf (pointAfter (f .contours) (suc index)) (length (w .tx)) zone) w straight)
+    (passed-seen a same (Contour index))
+
+pub shz-seen : (a : Axis) → LineSeen a shzOf
+unfolding shzOf
+shz-seen a f op operands w straight =
+    let same = world-again a w in
+    let zp2 = w .state .pointers .zp2 in
+    one-seen a same operands _ _ λ zone.
+    seen-by-test (linedSeen a) (ltb 1 (indexOf zone)) (refused-seen a same (BadZone (indexOf zone)))
+    (ap (λ (n : ℕ). linedSeen a (spanIn (fixedSeen a f) op false 0 (sizeOf (pointAfter (f .contours) (length (f .contours))) n zp2) (worldSeen a w))) (x-length a (w .tx))
+    ∙ span-seen a f op false 0 (sizeOf (pointAfter (f .contours) (length (f .contours))) (length (w .tx)) zp2) w straight)
+
+-- ---- IUP
+walked-seen : (a : Axis) (f : Fixed) (w : World) (odd : Bool) → Same a (walkedIn (fixedSeen a f) (worldSeen a w) odd) (walkedIn f w odd)
+walked-seen X f w true = ap (λ (u : World). withX u (iupOf X (w .gflags) (f .contours) (f .gux) (f .gox) (w .gx))) (world-again X w .seen)
+walked-seen X f w false =
+    ap (λ (u : World). withY u (wentLevel (iupOf Y (w .gflags) (f .contours) (ySeen X (f .guy)) (ySeen X (f .goy)) (ySeen X (w .gy))))) (world-again X w .seen)
+    ∙ ap (withY (worldSeen X w)) (across Y (w .gflags) (f .contours) (f .guy) (f .goy) (w .gy))
+walked-seen Y f w true =
+    ap (λ (u : World). withX u (wentLevel (iupOf X (w .gflags) (f .contours) (xSeen Y (f .gux)) (xSeen Y (f .gox)) (xSeen Y (w .gx))))) (world-again Y w .seen)
+    ∙ ap (withX (worldSeen Y w)) (across X (w .gflags) (f .contours) (f .gux) (f .gox) (w .gx))
+walked-seen Y f w false = ap (λ (u : World). withY u (iupOf Y (w .gflags) (f .contours) (f .guy) (f .goy) (w .gy))) (world-again Y w .seen)
+
+pub iup-seen : (a : Axis) → LineSeen a iupLineOf
+unfolding iupLineOf
+iup-seen a f op operands w straight =
+    seen-by-test (linedSeen a) (pastBothIups (w .state .facts)) (done-seen a (worldSeen a w) w (world-again a w)) (walked-seen a f (inState w (markedFor (w .state) op)) (isOdd op))

@@ -24,6 +24,12 @@ use Rattle.projection.proofs.Laws.{along-x-axis, along-y-axis}
 use Rattle.zone.specs.Zone.{fetchOf, orAt, placeOf}
 use Rattle.axes.specs.Axes.{leveled, unitOf, xSeen, ySeen}
 use Rattle.moves.specs.Move.{movedAt}
+use Rattle.moves.specs.Displacement.{displacedAt, displacedFrom, displacedIn, displacement, displacementOf, scaledTo}
+use Rattle.moves.specs.declared.Displaced.the-variants.{By}
+use Rattle.moves.specs.declared.Displaced.the-variants.{Refused as RefusedDisplacement}
+use Rattle.moves.specs.declared.Reference.{Reference}
+use Rattle.graphics.specs.declared.ZonePointer.the-variants.{Glyph, Twilight}
+use Rattle.graphics.specs.declared.ZonePointer.{ZonePointer}
 use Rattle.projection.specs.Projection.{projectOf}
 
 -- ---- lists
@@ -141,6 +147,33 @@ x-set Y xs at z = level-set (leveled xs) at z ∙ x-again Y xs ∙ sym (level-se
 pub y-set : (a : Axis) (ys : List ℤ) (at : ℕ) (z : ℤ) → ySeen a (set (ySeen a ys) at z) ≡ ySeen a (set ys at z)
 y-set X ys at z = level-set (leveled ys) at z ∙ y-again X ys ∙ sym (level-set ys at z)
 y-set Y ys at z = refl
+
+-- ---- the reference point
+displacement-seen : (a : Axis) (v : Vectors) → v ≡ allAlong (unitOf a) → (p q : Vector)
+    → displacementOf v (placeSeen a p) (placeSeen a q) ≡ displacementOf v p q
+unfolding displacementOf
+displacement-seen a v e p q = ap (scaledTo v) (project-seen a v e p q)
+
+from-seen : (a : Axis) (v : Vectors) → v ≡ allAlong (unitOf a) → (p : Reference) (original current : Fetched)
+    → displacedFrom v p (fetchedSeen a original) (fetchedSeen a current) ≡ displacedFrom v p original current
+from-seen a v e p (At o) (At c) = ap (λ (d : Vector). By (displacement p d)) (displacement-seen a v e c o)
+from-seen a v e p (RefusedPlace why) (At c) = refl
+from-seen a v e p (At o) (RefusedPlace why) = refl
+from-seen a v e p (RefusedPlace other) (RefusedPlace why) = refl
+
+at-seen : (a : Axis) (v : Vectors) → v ≡ allAlong (unitOf a) → (p : Reference) (ox oy cx cy : List ℤ)
+    → displacedAt v p (xSeen a ox) (ySeen a oy) (xSeen a cx) (ySeen a cy) ≡ displacedAt v p ox oy cx cy
+unfolding displacedAt
+at-seen a v e p ox oy cx cy =
+    ap₂ (displacedFrom v p) (fetch-seen a ox oy (p .at)) (fetch-seen a cx cy (p .at))
+    ∙ from-seen a v e p (fetchOf ox oy (p .at)) (fetchOf cx cy (p .at))
+
+pub displaced-seen : (a : Axis) (v : Vectors) → v ≡ allAlong (unitOf a) → (p : Reference) (gox goy gcx gcy tox toy tcx tcy : List ℤ) (z : ZonePointer)
+    → displacedIn v p (xSeen a gox) (ySeen a goy) (xSeen a gcx) (ySeen a gcy) (xSeen a tox) (ySeen a toy) (xSeen a tcx) (ySeen a tcy) z
+    ≡ displacedIn v p gox goy gcx gcy tox toy tcx tcy z
+unfolding displacedIn
+displaced-seen a v e p gox goy gcx gcy tox toy tcx tcy Glyph = at-seen a v e p gox goy gcx gcy
+displaced-seen a v e p gox goy gcx gcy tox toy tcx tcy Twilight = at-seen a v e p tox toy tcx tcy
 
 -- ---- by a test
 -- what is seen of either outcome of a test

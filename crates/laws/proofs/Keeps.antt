@@ -1,5 +1,5 @@
 -- What a line and a run leave as the entry tested it: every list is as long as it was, and a usable state stays usable; and a run that begins within
--- the sheet ends within it. A line by cases on its instruction, a run by induction on the budget. Assumes nothing.
+-- the sheet ends within it. A line by the things that it does, a run by induction on the budget. Assumes nothing.
 use mathlib.Core.Bool.{Bool, _&&_, true}
 use mathlib.Core.List.{List}
 use Prim.Native.Nat.{_-_, _≤_, suc, zero, ℕ}
@@ -7,40 +7,27 @@ use mathlib.Core.Path.{_∙_, _≡_, ap, refl, sym}
 use lib.ListN.{drop, length, take}
 use lib.Dec.{eqb, leb, ltb}
 use lib.IntN.{ℤ}
-use Rattle.lines.specs.declared.Instruction.the-variants.{Alignrp, Flippt, Fliprg, Isect, Iup, Mdap, Miap, Msirp, Set, Shc, Shp, Shpix, Shz}
 use Rattle.world.specs.World.{Alike, Fixed, World}
 use Rattle.answer.specs.declared.Call.{Call}
-use Rattle.sheet.specs.declared.Decoded.{Decoded}
+use Rattle.opcodes.specs.declared.Decoded.{Decoded}
 use Rattle.answer.specs.declared.Call.the-variants.{Done}
-use Rattle.lines.specs.declared.Instruction.{Instruction}
-use Rattle.sheet.specs.declared.Decoded.the-variants.{Operands}
+use Rattle.opcodes.specs.declared.Decoded.the-variants.{Operands}
 use Rattle.onward.specs.Onward.{Ran, onCall, replayOf}
 use Rattle.replay.specs.Run.{entryOf, onEntry, runOf}
 use Rattle.world.specs.Sizes.{fits, worldFits}
 use Rattle.step.specs.Step.{onDecoded, placeAfter, stepOf}
-use Rattle.align.proofs.Keeps.{alignrp-lengths}
-use Rattle.sheet.specs.Table.{decodeOf}
+use Rattle.opcodes.specs.Decode.{decodeOf}
+use Rattle.opcodes.specs.Table.{lineOf}
+use Rattle.laws_lines.proofs.Lines.{line-kept, line-usable}
 use Rattle.int.proofs.Tests.{either}
 use Rattle.onward.proofs.Loop.{same-sizes, still-alike, Sizes, mkSizes, sizes}
 use Rattle.replay.proofs.Entry.{entered-alike}
-use Rattle.looped.proofs.Keeps.{BothSame, flippt-length, shp-lengths}
-use Rattle.looped.specs.Looped.{Zones}
-use Rattle.ranges.proofs.Keeps.{fliprg-length}
-use Rattle.pixels.proofs.Keeps.{shpix-lengths}
-use Rattle.shifts.proofs.Keeps.{shc-lengths, shz-lengths}
 use Rattle.zone.specs.Sizes.{glyphFits, pairFits, placedFits, twilightFits}
-use Rattle.lines.specs.Dispatch.{instructionOf, lineBy, lineOf, zonesOf}
-use Rattle.intersect.proofs.Keeps.{isect-lengths}
-use Rattle.interpolate.proofs.Keeps.{iup-lengths}
-use Rattle.outline.proofs.Keeps.{mdap-lengths}
-use Rattle.miap.proofs.Keeps.{miap-lengths}
 use Rattle.limits.specs.Limits.{mostContours, mostControlValues, mostPoints, mostWords}
-use Rattle.relative.proofs.Keeps.{msirp-lengths}
 use Rattle.step.proofs.Steps.{operands-inside}
 use Rattle.graphics.specs.State.{usableState}
-use Rattle.laws.proofs.Usable.{alignrp-usable, flippt-usable, fliprg-usable, isect-usable, iup-usable, mdap-usable, miap-usable, msirp-usable, set-usable, shc-usable, shp-usable, shpix-usable, shz-usable}
 use Rattle.answer.specs.declared.Call.the-variants.{Refused as RefusedCall}
-use Rattle.sheet.specs.declared.Decoded.the-variants.{Refused as RefusedLine}
+use Rattle.opcodes.specs.declared.Decoded.the-variants.{Refused as RefusedLine}
 
 -- what is left of a world: as long lists, and a usable state where there was one
 pub record Left (w v : World) : Type 0 where
@@ -54,62 +41,10 @@ pub left-by-both : {u v w : World} → Left u v → Left v w → Left u w
 left-by-both a b = record { lengths = b .lengths ∙ a .lengths; usable = λ h. b .usable (a .usable h) }
 
 -- ---- one line
-zones-sizes : (w : World) {z : Zones} → BothSame z (zonesOf w)
-    → mkSizes (length (z .glyph .xs)) (length (z .glyph .ys)) (length (z .glyph .flags)) (length (w .tox)) (length (w .toy)) (length (z .twilight .xs)) (length (z .twilight .ys)) (length (z .twilight .flags)) ≡ sizes w
-zones-sizes w k =
-    same-sizes (k .glyph .xs) (k .glyph .ys) (k .glyph .flags) refl refl (k .twilight .xs) (k .twilight .ys) (k .twilight .flags)
-
-module _ (f : Fixed) (op : ℕ) (operands : List ℤ) (w : World) (alike : Alike f w) where
-  instruction-lengths : (i : Instruction) → sizes (lineBy f op operands w i .world) ≡ sizes w
-  unfolding lineBy
-  instruction-lengths Set = refl
-  instruction-lengths Isect =
-      let k = isect-lengths (w .state) (w .gx) (w .gy) (w .gflags) (w .tx) (w .ty) (w .tflags) operands in
-      same-sizes (k .gx) (k .gy) (k .gflags) refl refl (k .tx) (k .ty) (k .tflags)
-  instruction-lengths Mdap =
-      let k = mdap-lengths (w .state) op (w .gx) (w .gy) (w .gflags) (w .tx) (w .ty) (w .tflags) operands in
-      same-sizes (k .gx) (k .gy) (k .gflags) refl refl (k .tx) (k .ty) (k .tflags)
-  instruction-lengths Iup =
-      let k =
-      iup-lengths (f .gux) (f .guy) (f .gox) (f .goy) (w .gx) (w .gy) (w .gflags) (f .contours) (alike .4) (alike .5) (alike .0) (alike .1)
-      (alike .2)
-      (alike .3)
-      (w .state)
-      op in
-      same-sizes (k .gx) (k .gy) refl refl refl refl refl refl
-  instruction-lengths Shp = zones-sizes w (shp-lengths (w .state) op operands (f .gox) (f .goy) (w .tox) (w .toy) (zonesOf w))
-  instruction-lengths Shc = zones-sizes w (shc-lengths (w .state) op operands (f .contours) (f .gox) (f .goy) (w .tox) (w .toy) (zonesOf w))
-  instruction-lengths Shz = zones-sizes w (shz-lengths (w .state) op operands (f .contours) (f .gox) (f .goy) (w .tox) (w .toy) (zonesOf w))
-  instruction-lengths Shpix = zones-sizes w (shpix-lengths (w .state) operands (zonesOf w))
-  instruction-lengths Msirp =
-      let k = msirp-lengths (w .state) op operands (w .gx) (w .gy) (w .gflags) (w .tox) (w .toy) (w .tx) (w .ty) (w .tflags) in
-      same-sizes (k .gx) (k .gy) (k .gflags) (k .ox) (k .oy) (k .tx) (k .ty) (k .tflags)
-  instruction-lengths Alignrp = zones-sizes w (alignrp-lengths (w .state) operands (zonesOf w))
-  instruction-lengths Miap =
-      let k = miap-lengths (w .state) op (w .gx) (w .gy) (w .gflags) (w .tox) (w .toy) (w .tx) (w .ty) (w .tflags) operands (f .controls) in
-      same-sizes (k .gx) (k .gy) (k .gflags) (k .ox) (k .oy) (k .tx) (k .ty) (k .tflags)
-  instruction-lengths Flippt = same-sizes refl refl (flippt-length (w .state) operands (w .gflags)) refl refl refl refl refl
-  instruction-lengths Fliprg = same-sizes refl refl (fliprg-length (w .state) op operands (w .gflags)) refl refl refl refl refl
-
-  instruction-usable : (i : Instruction) → usableState (w .state) ≡ true → usableState (lineBy f op operands w i .world .state) ≡ true
-  unfolding lineBy
-  instruction-usable Set = set-usable (w .state) op operands
-  instruction-usable Isect = isect-usable (w .state) (w .gx) (w .gy) (w .gflags) (w .tx) (w .ty) (w .tflags) operands
-  instruction-usable Mdap = mdap-usable (w .state) op (w .gx) (w .gy) (w .gflags) (w .tx) (w .ty) (w .tflags) operands
-  instruction-usable Iup = iup-usable (f .gux) (f .guy) (f .gox) (f .goy) (w .gx) (w .gy) (w .gflags) (f .contours) (w .state) op
-  instruction-usable Shp = shp-usable (w .state) op operands (f .gox) (f .goy) (w .tox) (w .toy) (zonesOf w)
-  instruction-usable Shc = shc-usable (w .state) op operands (f .contours) (f .gox) (f .goy) (w .tox) (w .toy) (zonesOf w)
-  instruction-usable Shz = shz-usable (w .state) op operands (f .contours) (f .gox) (f .goy) (w .tox) (w .toy) (zonesOf w)
-  instruction-usable Shpix = shpix-usable (w .state) operands (zonesOf w)
-  instruction-usable Msirp = msirp-usable (w .state) op (w .gx) (w .gy) (w .gflags) (w .tox) (w .toy) (w .tx) (w .ty) (w .tflags) operands
-  instruction-usable Alignrp = alignrp-usable (w .state) operands (zonesOf w)
-  instruction-usable Miap = miap-usable (w .state) op (w .gx) (w .gy) (w .gflags) (w .tox) (w .toy) (w .tx) (w .ty) (w .tflags) operands (f .controls)
-  instruction-usable Flippt = flippt-usable (w .state) operands (w .gflags)
-  instruction-usable Fliprg = fliprg-usable (w .state) op operands (w .gflags)
-
-  pub line-keeps : Left w (lineOf f op operands w .world)
-  unfolding lineOf
-  line-keeps = record { lengths = instruction-lengths (instructionOf op); usable = instruction-usable (instructionOf op) }
+pub line-keeps : (f : Fixed) (op : ℕ) (operands : List ℤ) (w : World) → Alike f w → Left w (lineOf f op operands w .world)
+line-keeps f op operands w alike =
+    let k = line-kept f op operands w alike in
+    record { lengths = same-sizes (k .gx) (k .gy) (k .gflags) (k .tox) (k .toy) (k .tx) (k .ty) (k .tflags); usable = line-usable f op operands w }
 
 decoded-keeps : (f : Fixed) (sheet : List ℤ) (at : ℕ) (w : World) → Alike f w → (d : Decoded) → Left w (onDecoded f sheet at w d .world)
 unfolding onDecoded

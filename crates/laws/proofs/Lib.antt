@@ -1,4 +1,3 @@
 pub mod Budget
 pub mod Keeps
 pub mod Numbers
-pub mod Usable

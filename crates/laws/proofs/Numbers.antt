@@ -25,19 +25,21 @@ use Rattle.int.specs.Word.{abs32, add32, and32, maxZ, minZ, mul32, neg32, quot3
 use Rattle.point.specs.declared.Axis.the-variants.{X}
 use Rattle.iup.specs.Contour.{along, between, contourOf, inside, points, spread, touchedOf}
 use Rattle.projection.specs.Projection.{alongOf, axisOf, fdotpOf, freedomAxisBy, notSmall, rawFdotp}
-use Rattle.moves.specs.Apply.{applyOf}
-use Rattle.sheet.specs.Setters.{axisBy, setBy, vectorsBy}
-use Rattle.sheet.specs.Table.{decodeBy, decodeOf, needOf}
+use Rattle.moves.specs.Apply.{applyIn, applyOf}
+use Rattle.line_set.specs.Setters.{axisBy, setBy, setOf, vectorsBy}
+use Rattle.opcodes.specs.Decode.{decodeBy, decodeOf}
+use Rattle.opcodes.specs.Table.{lineOf, needOf, rowOf}
+use Rattle.line_mdap.specs.Mdap.{mdapDistance, mdapOf, outsideMdap, roundingStep}
+use Rattle.line_iup.specs.Iup.{iupLineOf, markedFor}
+use Rattle.line_steps.specs.Numbers.{fromOrigin}
+use Rattle.line_steps.specs.Steps.{laidIn, moveIn, one, pointOr}
+use Rattle.places.specs.Places.{fetchIn}
 use Rattle.math.specs.Fixed.{dotFix14, halfAway14, halfUp, mulDiv, mulFix14, multipleBelow, padFloor, padRound, withSign}
 use Rattle.round.specs.Round.{doubleGrid, downToGrid, grid, halfGrid, keepDown, keepUp, quotFloor, roundOf, superBy, upToGrid}
 use Rattle.zone.specs.Zone.{fetchOf}
 use Rattle.graphics.specs.State.{freshState, usableState, vectorInRange, vectorsInRange, xAxis, yAxis}
-use Rattle.outline.specs.Numbers.{fromOrigin, mdapDistance, roundingStep}
 use Rattle.zone.specs.Sizes.{glyphFits, pairFits, placedFits, twilightFits}
-use Rattle.lines.specs.Dispatch.{instructionOf, lineBy, lineOf}
-use Rattle.interpolate.specs.Interpolated.{iupBy, iupOn, markedFor}
 use Rattle.iup.specs.Parts.{marks}
-use Rattle.outline.specs.Absolute.{mdapAt, mdapIn, mdapOf, outsideMdap, placeBy}
 use Rattle.moves.specs.Move.{moveOf, stepBy}
 
 -- ---- how the rows are written
@@ -158,7 +160,7 @@ pub record PaperNumbers : Type 0 where
   pub fresh : stateWith xAxis 0 0 0 false ≡ freshState
 
 pub numbers : PaperNumbers
-unfolding runOf onEntry entryOf fits glyphFits twilightFits pairFits placedFits usableState vectorsInRange vectorInRange replayOf stepOf onDecoded onCall decodeOf decodeBy needOf lineOf lineBy instructionOf setBy vectorsBy axisBy mdapOf mdapIn mdapAt mdapDistance outsideMdap fromOrigin roundingStep grid alongOf axisOf rawFdotp notSmall fetchOf placeBy applyOf moveOf stepBy freedomAxisBy iupBy markedFor iupOn iupOf walkOf past contourOf points touchedOf spread between along inside add32 sub32 neg32 abs32 mul32 mulDiv mulFix14 dotFix14 halfAway14 halfUp withSign wrap32 maxZ minZ keepUp keepDown padFloor padRound multipleBelow quotFloor halfGrid doubleGrid upToGrid downToGrid superBy quot32 and32 triedOf sizesFit
+unfolding runOf onEntry entryOf fits glyphFits twilightFits pairFits placedFits usableState vectorsInRange vectorInRange replayOf stepOf onDecoded onCall decodeOf decodeBy needOf lineOf rowOf setOf setBy vectorsBy axisBy one pointOr fetchIn moveIn laidIn applyIn mdapOf mdapDistance outsideMdap fromOrigin roundingStep grid alongOf axisOf rawFdotp notSmall fetchOf applyOf moveOf stepBy freedomAxisBy iupLineOf markedFor iupOf walkOf past contourOf points touchedOf spread between along inside add32 sub32 neg32 abs32 mul32 mulDiv mulFix14 dotFix14 halfAway14 halfUp withSign wrap32 maxZ minZ keepUp keepDown padFloor padRound multipleBelow quotFloor halfGrid doubleGrid upToGrid downToGrid superBy quot32 and32 triedOf sizesFit
 numbers = record {
   grid-halves = refl;
   grid-most = refl;

@@ -1,5 +1,5 @@
-mod Steps
-mod Setters
-mod Contours
-mod Lines
+pub mod Steps
+pub mod Setters
+pub mod Contours
+pub mod Lines
 pub mod Run

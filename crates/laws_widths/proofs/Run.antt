@@ -1,89 +1,44 @@
--- A run keeps every value in its width: `run-in-width`. A line by cases on its instruction, a run by induction on the budget. It asks that the sheet's words
+-- A run keeps every value in its width: `run-in-width`. A line by the things that it does, a run by induction on the budget. It asks that the sheet's words
 -- are words of 32 bits, as its operands become references; of what lines only read it asks nothing, and nothing of the sizes. Assumes nothing.
 use mathlib.Core.List.{List}
-use Prim.Native.Nat.{_-_, suc, zero, ℕ}
+use Prim.Native.Nat.{_-_, _<_, _^_, suc, zero, ℕ}
 use lib.Dec.{leb, ltb}
 use lib.IntN.{ℤ}
 use lib.ListN.{length}
+use mir.Syntax.{w32}
+use mir.Val.{SFits}
 use Rattle.answer.specs.declared.Call.the-variants.{Done, Refused as RefusedCall}
 use Rattle.answer.specs.declared.Call.{Call}
 use Rattle.graphics.specs.State.{usableState}
 use Rattle.int.proofs.Tests.{either}
-use Rattle.interpolate.specs.Interpolated.{Interpolated}
-use Rattle.lines.specs.Dispatch.{instructionOf, intoAll, intoAxes, intoFlags, intoPlaces, intoState, intoZones, lineBy, lineOf, zonesOf}
-use Rattle.line.specs.declared.Stepped.{Stepped}
-use Rattle.lines.specs.declared.Instruction.the-variants.{Alignrp, Flippt, Fliprg, Isect, Iup, Mdap, Miap, Msirp, Set, Shc, Shp, Shpix, Shz}
-use Rattle.lines.specs.declared.Instruction.{Instruction}
-use Rattle.looped.specs.Looped.{Went, Zones}
+use Rattle.laws_lines.proofs.Lines.{line-leaves}
+use Rattle.line_set.specs.Setters.{setBy, setOf}
 use Rattle.onward.specs.Onward.{Ran, onCall, replayOf}
-use Rattle.places.specs.Placed.{AllPlaced, BothPlaced}
-use Rattle.record.proofs.Widths.{InWidth, StateInWidth}
+use Rattle.opcodes.specs.Decode.{decodeOf}
+use Rattle.opcodes.specs.Table.{lineOf}
+use Rattle.opcodes.specs.declared.Decoded.the-variants.{Operands, Refused as RefusedLine}
+use Rattle.opcodes.specs.declared.Decoded.{Decoded}
+use Rattle.record.proofs.Widths.{InWidth}
 use Rattle.replay.specs.Run.{entryOf, onEntry, runOf}
-use Rattle.sheet.specs.Setters.{setBy}
-use Rattle.sheet.specs.Table.{decodeOf}
-use Rattle.sheet.specs.declared.Decoded.the-variants.{Operands, Refused as RefusedLine}
-use Rattle.sheet.specs.declared.Decoded.{Decoded}
 use Rattle.step.specs.Step.{onDecoded, stepOf}
-use Rattle.word_lists.proofs.Widths.{Below, Numbers, every-drop, every-take}
+use Rattle.word_lists.proofs.Widths.{Numbers, every-drop, every-take}
 use Rattle.world.specs.Sizes.{worldFits}
 use Rattle.world.specs.World.{Fixed, World}
-use Rattle.laws_widths.proofs.Lines.{AllFit, AxesFit, BothFit, WentFits, alignrp-fits, flippt-fits, fliprg-fits, isect-fits, iup-line-fits, mdap-fits, miap-fits, msirp-fits, shc-fits, shp-fits, shpix-fits, shz-fits}
-use Rattle.laws_widths.proofs.Setters.{set-within}
-use Rattle.laws_widths.proofs.Steps.{ZonesFit}
-
--- ---- a line's outcome, laid back into the world
-module _ {w : World} (k : InWidth w) where
-  zones-fit : ZonesFit (zonesOf w)
-  zones-fit = record { glyph = record { xs = k .gx; ys = k .gy; flags = k .gflags }; twilight = record { xs = k .tx; ys = k .ty; flags = k .tflags } }
-
-  state-in : (r : Stepped) → StateInWidth (r .state) → InWidth (intoState w r .world)
-  state-in r f = record { state = f; gx = k .gx; gy = k .gy; gflags = k .gflags; tox = k .tox; toy = k .toy; tx = k .tx; ty = k .ty; tflags = k .tflags }
-
-  flags-in : (g : Went (List ℕ)) → WentFits (Below 256) g → InWidth (intoFlags w g .world)
-  flags-in g f = record { state = f .state; gx = k .gx; gy = k .gy; gflags = f .left; tox = k .tox; toy = k .toy; tx = k .tx; ty = k .ty; tflags = k .tflags }
-
-  zones-in : (g : Went Zones) → WentFits ZonesFit g → InWidth (intoZones w g .world)
-  zones-in g f =
-      let a = f .left .glyph in
-      let b = f .left .twilight in
-      record { state = f .state; gx = a .xs; gy = a .ys; gflags = a .flags; tox = k .tox; toy = k .toy; tx = b .xs; ty = b .ys; tflags = b .flags }
-
-  places-in : (p : BothPlaced) → BothFit p → InWidth (intoPlaces w p .world)
-  places-in p f =
-      let a = f .glyph in
-      let b = f .twilight in
-      record { state = f .state; gx = a .xs; gy = a .ys; gflags = a .flags; tox = k .tox; toy = k .toy; tx = b .xs; ty = b .ys; tflags = b .flags }
-
-  axes-in : (i : Interpolated) → AxesFit i → InWidth (intoAxes w i .world)
-  axes-in i f = record { state = f .state; gx = f .gx; gy = f .gy; gflags = k .gflags; tox = k .tox; toy = k .toy; tx = k .tx; ty = k .ty; tflags = k .tflags }
-
-all-in : (p : AllPlaced) → AllFit p → InWidth (intoAll p .world)
-all-in p f =
-    let a = f .glyph in
-    let b = f .twilight in
-    record { state = f .state; gx = a .xs; gy = a .ys; gflags = a .flags; tox = f .ox; toy = f .oy; tx = b .xs; ty = b .ys; tflags = b .flags }
+use Rattle.laws_widths.proofs.Lines.{in-state-fits, isect-in-width, iup-in-width, stays-in-width}
+use Rattle.laws_widths.proofs.Setters.{index-fits, set-within}
 
 -- ---- one line
-module _ (f : Fixed) (op : ℕ) {operands : List ℤ} (o : Numbers operands) {w : World} (k : InWidth w) where
-  instruction-in-width : (i : Instruction) → InWidth (lineBy f op operands w i .world)
-  unfolding lineBy
-  instruction-in-width Set = state-in k (setBy (w .state) op operands) (set-within (k .state) op o)
-  instruction-in-width Isect = places-in k _ (isect-fits (k .state) (zonesOf w) (zones-fit k) operands)
-  instruction-in-width Mdap = places-in k _ (mdap-fits (k .state) op (zonesOf w) (zones-fit k) o)
-  instruction-in-width Iup = axes-in k _ (iup-line-fits (f .gux) (f .guy) (f .gox) (f .goy) (k .gx) (k .gy) (w .gflags) (f .contours) (k .state) op)
-  instruction-in-width Shp = zones-in k _ (shp-fits (k .state) (zonesOf w) (zones-fit k) op operands (f .gox) (f .goy) (w .tox) (w .toy))
-  instruction-in-width Shc = zones-in k _ (shc-fits (k .state) (zonesOf w) (zones-fit k) op operands (f .contours) (f .gox) (f .goy) (w .tox) (w .toy))
-  instruction-in-width Shz = zones-in k _ (shz-fits (k .state) (zonesOf w) (zones-fit k) op operands (f .contours) (f .gox) (f .goy) (w .tox) (w .toy))
-  instruction-in-width Shpix = zones-in k _ (shpix-fits (k .state) (zonesOf w) (zones-fit k) operands)
-  instruction-in-width Msirp = all-in _ (msirp-fits (k .state) op (zonesOf w) (zones-fit k) (w .tox) (w .toy) (k .tox) (k .toy) o)
-  instruction-in-width Alignrp = zones-in k _ (alignrp-fits (k .state) (zonesOf w) (zones-fit k) operands)
-  instruction-in-width Miap = all-in _ (miap-fits (k .state) op (zonesOf w) (zones-fit k) (w .tox) (w .toy) (k .tox) (k .toy) o (f .controls))
-  instruction-in-width Flippt = flags-in k _ (flippt-fits (k .state) operands (k .gflags))
-  instruction-in-width Fliprg = flags-in k _ (fliprg-fits (k .state) op operands (k .gflags))
+set-in-width : (f : Fixed) (op : ℕ) {operands : List ℤ} → Numbers operands → (w : World) → InWidth w → InWidth (setOf f op operands w .world)
+unfolding setOf
+set-in-width f op {operands} o w k = in-state-fits w (setBy (w .state) op operands .state) (set-within (k .state) op o) k
 
-  pub line-in-width : InWidth (lineOf f op operands w .world)
-  unfolding lineOf
-  line-in-width = instruction-in-width (instructionOf op)
+pub line-in-width : (f : Fixed) (op : ℕ) {operands : List ℤ} → Numbers operands → {w : World} → InWidth w → InWidth (lineOf f op operands w .world)
+line-in-width f op {operands} o {w} k =
+    line-leaves (SFits w32) (λ (at : ℕ). at < 2 ^ 64) (λ z h. index-fits h) (λ op f w. InWidth w) (λ u w. InWidth w) (λ op f w g. g) (λ op f w g. stays-in-width (w .state))
+    (λ op f operands w g o. set-in-width f op o w g)
+    (λ op h f operands w g o. isect-in-width f op operands w g)
+    (λ op h f operands w g o. iup-in-width f op operands w g)
+    op f operands w k o
 
 -- ---- a step: a line's operands are a part of the sheet
 module _ (f : Fixed) {sheet : List ℤ} (o : Numbers sheet) where

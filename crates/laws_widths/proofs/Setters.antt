@@ -29,7 +29,7 @@ use Rattle.record.proofs.Widths.{StateInWidth}
 use Rattle.round.specs.declared.RoundState.{RoundState}
 use Rattle.selector.proofs.Facts.{period-most}
 use Rattle.selector.specs.Selector.{gridPeriod, periodBy, phaseBy, stateBy, superOf, thresholdBy}
-use Rattle.sheet.specs.Setters.{axisBy, loopBy, modeBy, onOperand, operandBy, pointerBy, referenceBy, setBy, takesOperand, vectorsBy, zoneBy}
+use Rattle.line_set.specs.Setters.{axisBy, loopBy, modeBy, onOperand, operandBy, pointerBy, referenceBy, setBy, takesOperand, vectorsBy, zoneBy}
 use Rattle.state_words.proofs.Back.{RoundFits, VectorFits, VectorsFit}
 use Rattle.word_lists.proofs.Widths.{Numbers, every-at, no-word, one-word}
 use Rattle.laws_widths.proofs.Steps.{zero-fits}

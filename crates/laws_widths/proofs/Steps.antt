@@ -18,7 +18,7 @@ use Rattle.graphics.specs.declared.ZonePointer.the-variants.{Glyph, Twilight}
 use Rattle.graphics.specs.declared.ZonePointer.{ZonePointer}
 use Rattle.int.proofs.Tests.{either}
 use Rattle.int.proofs.Wraps.{add32-fits}
-use Rattle.looped.specs.Looped.{Points, Zones, points, zones}
+use Rattle.line_steps.specs.Loop.{Points, points}
 use Rattle.moves.specs.Apply.{Moved, applyIn, applyOf}
 use Rattle.moves.specs.Move.{bitsFor, isNot0, moveOf, movedAt, stepBy, zp2MoveOf}
 use Rattle.moves.specs.declared.Move.{Move}
@@ -37,14 +37,6 @@ zero-fits = sfits-lit tt
 -- a point that is read; (0, 0) outside
 pub place-fits : {xs ys : List ℤ} → Numbers xs → Numbers ys → (at : ℕ) → VectorFits (placeOf xs ys at)
 place-fits f g at = (every-at f zero-fits at, every-at g zero-fits at)
-
--- a point that is put
-pub record PairFits (p : Pair) : Type 0 where
-  pub xs : Numbers (p .xs)
-  pub ys : Numbers (p .ys)
-
-pub put-fits : (place : Vector) → VectorFits place → (at : ℕ) {xs ys : List ℤ} → Numbers xs → Numbers ys → PairFits (putAt place at xs ys)
-put-fits place v at f g = record { xs = every-set f (v .0) at; ys = every-set g (v .1) at }
 
 -- a coordinate that is moved, by whatever it is
 pub moved-fits : {l : List ℤ} → Numbers l → (at : ℕ) (by : ℤ) (moves : Bool) → Numbers (movedAt l at by moves)
@@ -107,10 +99,6 @@ pub record PointsFit (p : Points) : Type 0 where
   pub ys : Numbers (p .ys)
   pub flags : Below 256 (p .flags)
 
-pub record ZonesFit (z : Zones) : Type 0 where
-  pub glyph : PointsFit (z .glyph)
-  pub twilight : PointsFit (z .twilight)
-
 pub apply-fits : (m : Move) → m .touch < 256 → (at : ℕ) (p : Points) → PointsFit p
     → let r = applyOf m at (p .xs) (p .ys) (p .flags) in PointsFit (points (r .xs) (r .ys) (r .flags))
 unfolding applyOf
@@ -122,10 +110,3 @@ apply-fits m h at p f =
       flags = or-fits (f .flags) at (m .touch) h;
     })
     (record { xs = f .xs; ys = f .ys; flags = f .flags })
-
-pub apply-in-fits : (m : Move) → m .touch < 256 → (at : ℕ) (z : Zones) → ZonesFit z → (zone : ZonePointer)
-    → let r = applyIn m at (z .glyph .xs) (z .glyph .ys) (z .glyph .flags) (z .twilight .xs) (z .twilight .ys) (z .twilight .flags) zone in
-    ZonesFit (zones (r .gx) (r .gy) (r .gflags) (r .tx) (r .ty) (r .tflags))
-unfolding applyIn
-apply-in-fits m h at z k Glyph = record { glyph = apply-fits m h at (z .glyph) (k .glyph); twilight = k .twilight }
-apply-in-fits m h at z k Twilight = record { glyph = k .glyph; twilight = apply-fits m h at (z .twilight) (k .twilight) }

@@ -8,6 +8,7 @@ use answer::Refusal;
 use graphics::GraphicsState;
 use step::step;
 ghost use mathlib.Core.Path.{_≡_};
+ghost use Rattle.opcodes.specs.Table.{needsTable};
 ghost use Rattle.world.specs.World.{fixed, world, Alike};
 ghost use Rattle.onward.specs.Onward.{numberOfAnswer, detailOfAnswer, ran, replayOf};
 
@@ -57,6 +58,7 @@ pub fn onward(
     budget: u64,
     s: GraphicsState,
     sheet: &[i32],
+    needs: &[u8],
     controls: &[i32],
     gux: &[i32],
     guy: &[i32],
@@ -72,6 +74,7 @@ pub fn onward(
     ty: &mut [i32],
     tflags: &mut [u8],
 ) -> Outcome
+    requires { ⌜ now needs ≡ needsTable ⌝ }
     requires { ⌜ Alike (fixed (now controls) (now gux) (now guy) (now gox) (now goy) (now contours)) (world s (now gx) (now gy) (now gflags) (now tox) (now toy) (now tx) (now ty) (now tflags)) ⌝ }
     ensures { λ r. ⌜ ran r (now (gx .exit)) (now (gy .exit)) (now (gflags .exit)) (now (tox .exit)) (now (toy .exit)) (now (tx .exit)) (now (ty .exit)) (now (tflags .exit)) ≡ replayOf (fixed (now (controls .entry)) (now (gux .entry)) (now (guy .entry)) (now (gox .entry)) (now (goy .entry)) (now (contours .entry))) (now (sheet .entry)) budget 0 start (world s (now (gx .entry)) (now (gy .entry)) (now (gflags .entry)) (now (tox .entry)) (now (toy .entry)) (now (tx .entry)) (now (ty .entry)) (now (tflags .entry))) ⌝ }
 {
@@ -92,6 +95,7 @@ pub fn onward(
             at,
             state,
             sheet,
+            needs,
             controls,
             gux,
             guy,

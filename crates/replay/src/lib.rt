@@ -23,6 +23,7 @@ use graphics::GraphicsState;
 use onward::Answer;
 use onward::Outcome;
 use onward::onward;
+use opcodes::needs_table;
 use world::sizes_fit;
 ghost use mathlib.Core.Path.{_≡_};
 ghost use Rattle.world.specs.World.{fixed, world};
@@ -99,25 +100,29 @@ pub fn run(
     let begun = enter(sized, s.is_usable(), start <= sheet.len());
     match begun {
         Call::Refused(why) => at_entry(why, start, s),
-        Call::Done => onward(
-            start,
-            budget,
-            s,
-            sheet,
-            controls,
-            gux,
-            guy,
-            gox,
-            goy,
-            gx,
-            gy,
-            gflags,
-            contours,
-            tox,
-            toy,
-            tx,
-            ty,
-            tflags,
-        ),
+        Call::Done => {
+            let needs = needs_table();
+            onward(
+                start,
+                budget,
+                s,
+                sheet,
+                &needs,
+                controls,
+                gux,
+                guy,
+                gox,
+                goy,
+                gx,
+                gy,
+                gflags,
+                contours,
+                tox,
+                toy,
+                tx,
+                ty,
+                tflags,
+            )
+        }
     }
 }

@@ -8,18 +8,19 @@ use lib.ListN.{drop, getD, length, take}
 use lib.Dec.{eqb, ltb}
 use borrow.Author.Tests.{ltb-false}
 use lib.IntN.{pos, ℤ}
-use Rattle.sheet.specs.declared.Decoded.{Decoded}
+use Rattle.opcodes.specs.declared.Decoded.{Decoded}
 use Rattle.world.specs.World.{Fixed, World, lined, world}
 use Rattle.step.specs.declared.Landing.{Landing}
-use Rattle.sheet.specs.declared.Decoded.the-variants.{Operands, Refused as RefusedLine}
+use Rattle.opcodes.specs.declared.Decoded.the-variants.{Operands, Refused as RefusedLine}
 use Rattle.answer.specs.declared.Refusal.{Refusal}
 use Rattle.answer.specs.declared.Refusal.the-variants.{Line, Surplus}
 use Rattle.answer.specs.declared.Call.the-variants.{Refused as RefusedCall}
 use Rattle.line.specs.declared.Stepped.{Stepped}
-use Rattle.sheet.specs.Table.{decodeBy, decodeOf, needOf, takesBy, unknown}
+use Rattle.opcodes.specs.Decode.{decodeBy, decodeOf}
+use Rattle.opcodes.specs.Table.{needOf, operandsOf, rowOf, unknown}
 use Rattle.int.specs.Word.{indexOf}
 use Rattle.step.specs.Step.{landed, landedIn, onDecoded, placeAfter, stepOf, went}
-use Rattle.lines.specs.Dispatch.{lineOf}
+use Rattle.opcodes.specs.Table.{lineOf}
 
 pub landing : (at end : ℕ) (r : Stepped) {place : ℕ} → place ≡ placeAfter at end (r .call)
     → record { call = r .call; place = place; state = r .state } ≡ landed at end r
@@ -64,7 +65,7 @@ read-inside sheet counter at op count =
     (λ _. by-test (Inside (length sheet)) _ _ (eqb (needOf op) unknown) (λ _. nothing-read (length sheet) Line)
     (λ _. by-test (Inside (length sheet)) _ _ (ltb (length sheet) (at + 2)) (λ _. nothing-read (length sheet) Line)
     (λ h. by-test (Inside (length sheet)) _ _ (ltb (length sheet - (at + 2)) count) (λ _. nothing-read (length sheet) Line)
-    (λ k. by-test (Inside (length sheet)) _ _ (ltb (takesBy (needOf op) counter) count) (λ _. nothing-read (length sheet) Surplus)
+    (λ k. by-test (Inside (length sheet)) _ _ (ltb (operandsOf (rowOf op .takes) counter) count) (λ _. nothing-read (length sheet) Surplus)
     (λ _. reaches (length sheet) op at count (ltb-false (length sheet) (at + 2) h) (ltb-false (length sheet - (at + 2)) count k))))))
 
 all-inside : (sheet : List ℤ) (counter at : ℕ) → Inside (length sheet) (decodeOf sheet counter at)

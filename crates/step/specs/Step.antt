@@ -7,11 +7,11 @@ use Rattle.answer.specs.declared.Call.{Call}
 use Rattle.answer.specs.declared.Call.the-variants.{Done}
 use Rattle.answer.specs.declared.Call.the-variants.{Refused as RefusedCall}
 use Rattle.line.specs.declared.Stepped.{Stepped}
-use Rattle.sheet.specs.Table.{decodeOf}
-use Rattle.sheet.specs.declared.Decoded.{Decoded}
-use Rattle.sheet.specs.declared.Decoded.the-variants.{Operands}
-use Rattle.sheet.specs.declared.Decoded.the-variants.{Refused as RefusedLine}
-use Rattle.lines.specs.Dispatch.{lineOf}
+use Rattle.opcodes.specs.Decode.{decodeOf}
+use Rattle.opcodes.specs.declared.Decoded.{Decoded}
+use Rattle.opcodes.specs.declared.Decoded.the-variants.{Operands}
+use Rattle.opcodes.specs.declared.Decoded.the-variants.{Refused as RefusedLine}
+use Rattle.opcodes.specs.Table.{lineOf}
 use Rattle.world.specs.World.{Fixed, World, world, Lined}
 use Rattle.step.specs.declared.Landing.{Landing}
 

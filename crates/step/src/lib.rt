@@ -3,12 +3,13 @@
 // `step` answers for every place and every state, over zones whose lists are alike: `replay` tests this before its first line. What it comes to,
 // the place after it, the state, and what every list holds afterwards are one equation with `stepOf` of specs/Step.antt.
 use answer::Call;
+use dispatch::perform;
 use graphics::GraphicsState;
 use line::Stepped;
-use perform::perform;
-use sheet::Decoded;
-use sheet::decode;
+use opcodes::Decoded;
+use opcodes::decode;
 ghost use mathlib.Core.Path.{_≡_};
+ghost use Rattle.opcodes.specs.Table.{needsTable};
 ghost use Rattle.world.specs.World.{fixed, world, Alike};
 ghost use Rattle.step.specs.Step.{placeAfter, landed, went, stepOf};
 
@@ -42,6 +43,7 @@ pub fn step(
     at: usize,
     s: GraphicsState,
     sheet: &[i32],
+    needs: &[u8],
     controls: &[i32],
     gux: &[i32],
     guy: &[i32],
@@ -57,10 +59,11 @@ pub fn step(
     ty: &mut [i32],
     tflags: &mut [u8],
 ) -> Landing
+    requires { ⌜ now needs ≡ needsTable ⌝ }
     requires { ⌜ Alike (fixed (now controls) (now gux) (now guy) (now gox) (now goy) (now contours)) (world s (now gx) (now gy) (now gflags) (now tox) (now toy) (now tx) (now ty) (now tflags)) ⌝ }
     ensures { λ r. ⌜ went r (now (gx .exit)) (now (gy .exit)) (now (gflags .exit)) (now (tox .exit)) (now (toy .exit)) (now (tx .exit)) (now (ty .exit)) (now (tflags .exit)) ≡ stepOf (fixed (now (controls .entry)) (now (gux .entry)) (now (guy .entry)) (now (gox .entry)) (now (goy .entry)) (now (contours .entry))) (now (sheet .entry)) at (world s (now (gx .entry)) (now (gy .entry)) (now (gflags .entry)) (now (tox .entry)) (now (toy .entry)) (now (tx .entry)) (now (ty .entry)) (now (tflags .entry))) ⌝ }
 {
-    let line = decode(sheet, s.loop_counter, at);
+    let line = decode(sheet, needs, s.loop_counter, at);
     match line {
         Decoded::Refused(why) => Landing {
             call: Call::Refused(why),

@@ -4,7 +4,7 @@ use mathlib.Core.List.{List}
 use Prim.Native.Nat.{_+_, ℕ}
 use mathlib.Core.Path.{_∙_, _≡_, ap, refl}
 use native.Mathlib.Omega.{arith}
-use borrow.Author.Needs.{needs}
+use borrow.Author.Needs.{needs as all-needs}
 use denote.Ref.{now}
 use lib.IntN.{ℤ}
 use Rattle.world.specs.World.{Fixed, World, fixed, world}
@@ -19,11 +19,11 @@ pub record Inv (f : Fixed) (sheet : List ℤ) (budget start : ℕ) (w₀ : World
   pub sum : lines + left ≡ budget
 
 abbrev Inv-loop : tie.InvT-loop
-Inv-loop start budget sheet controls gux guy gox goy gx₀ gy₀ gflags₀ contours tox₀ toy₀ tx₀ ty₀ tflags₀ state₀ at₀ left₀ lines₀ gx gy gflags tox toy tx ty tflags state at left lines =
+Inv-loop start budget sheet needs controls gux guy gox goy gx₀ gy₀ gflags₀ contours tox₀ toy₀ tx₀ ty₀ tflags₀ state₀ at₀ left₀ lines₀ gx gy gflags tox toy tx ty tflags state at left lines =
     Inv (fixed controls gux guy gox goy contours) sheet budget start (world state₀ gx₀ gy₀ gflags₀ tox₀ toy₀ tx₀ ty₀ tflags₀) left lines at (world state gx gy gflags tox toy tx ty tflags)
 
 abbrev μ-loop : tie.MeasureT-loop
-μ-loop start budget sheet controls gux guy gox goy gx₀ gy₀ gflags₀ contours tox₀ toy₀ tx₀ ty₀ tflags₀ state₀ at₀ left₀ lines₀ gx gy gflags tox toy tx ty tflags state at left lines = left
+μ-loop start budget sheet needs controls gux guy gox goy gx₀ gy₀ gflags₀ contours tox₀ toy₀ tx₀ ty₀ tflags₀ state₀ at₀ left₀ lines₀ gx gy gflags tox toy tx ty tflags state at left lines = left
 
 abbrev held : tie.Start Inv-loop μ-loop → Fixed
 held s = fixed (now (s .args .controls)) (now (s .args .gux)) (now (s .args .guy)) (now (s .args .gox)) (now (s .args .goy)) (now (s .args .contours))
@@ -64,60 +64,60 @@ same-length-8 : tie.Need-same-length-8 Inv-loop μ-loop
 same-length-8 c = let l = c .before .before in ap (λ (z : Sizes). z .tflags) (l .loop .inv .same)
 
 returns : tie.Need-returns Inv-loop μ-loop
-returns c = let t = c .before in let l = t .before in let s = l .before .before .before .before in
+returns c = let t = c .before in let l = t .before in let s = l .before .before .before .before .before in
     used (held s) (now (s .args .sheet)) _ _ _ (head l) (c .if1 .taken) (t .loop-test .taken) ∙ l .loop .inv .run
 
 step-requires : tie.Need-step-requires Inv-loop μ-loop
-step-requires c κs = let l = c .before .before .before .before .before .before .before .before .before .before in let s = l .before .before .before .before in still-alike (held s) (entry s) (head l) (l .loop .inv .same) (s .pre)
+step-requires c κs = let l = c .before .before .before .before .before .before .before .before .before .before in let s = l .before .before .before .before .before in (s .pre .0, still-alike (held s) (entry s) (head l) (l .loop .inv .same) (s .pre .1))
 
 enum-known-call : tie.Need-enum-known-call Inv-loop μ-loop
-enum-known-call c = search needs
+enum-known-call c = search all-needs
 
 same-length-9 : tie.Need-same-length-9 Inv-loop μ-loop
-same-length-9 c = let k = c .before .before .before .before .before .before .before .before .before .before .before .before .before .before in let l = k .before .before .before .before .before .before .before .before .before .before .before in k .step .kept .1 .1 .1 .1 .1 .1 .1 .1 .0 ∙ ap (λ (z : Sizes). z .gx) (l .loop .inv .same)
+same-length-9 c = let k = c .before .before .before .before .before .before .before .before .before .before .before .before .before .before in let l = k .before .before .before .before .before .before .before .before .before .before .before in k .step .kept .1 .1 .1 .1 .1 .1 .1 .1 .1 .0 ∙ ap (λ (z : Sizes). z .gx) (l .loop .inv .same)
 
 same-length-10 : tie.Need-same-length-10 Inv-loop μ-loop
-same-length-10 c = let k = c .before .before .before .before .before .before .before .before .before .before .before .before .before .before in let l = k .before .before .before .before .before .before .before .before .before .before .before in k .step .kept .1 .1 .1 .1 .1 .1 .1 .1 .1 .0 ∙ ap (λ (z : Sizes). z .gy) (l .loop .inv .same)
+same-length-10 c = let k = c .before .before .before .before .before .before .before .before .before .before .before .before .before .before in let l = k .before .before .before .before .before .before .before .before .before .before .before in k .step .kept .1 .1 .1 .1 .1 .1 .1 .1 .1 .1 .0 ∙ ap (λ (z : Sizes). z .gy) (l .loop .inv .same)
 
 same-length-11 : tie.Need-same-length-11 Inv-loop μ-loop
-same-length-11 c = let k = c .before .before .before .before .before .before .before .before .before .before .before .before .before .before in let l = k .before .before .before .before .before .before .before .before .before .before .before in k .step .kept .1 .1 .1 .1 .1 .1 .1 .1 .1 .1 .0 ∙ ap (λ (z : Sizes). z .gflags) (l .loop .inv .same)
+same-length-11 c = let k = c .before .before .before .before .before .before .before .before .before .before .before .before .before .before in let l = k .before .before .before .before .before .before .before .before .before .before .before in k .step .kept .1 .1 .1 .1 .1 .1 .1 .1 .1 .1 .1 .0 ∙ ap (λ (z : Sizes). z .gflags) (l .loop .inv .same)
 
 same-length-12 : tie.Need-same-length-12 Inv-loop μ-loop
-same-length-12 c = let k = c .before .before .before .before .before .before .before .before .before .before .before .before .before .before in let l = k .before .before .before .before .before .before .before .before .before .before .before in k .step .kept .1 .1 .1 .1 .1 .1 .1 .1 .1 .1 .1 .1 .0 ∙ ap (λ (z : Sizes). z .tox) (l .loop .inv .same)
+same-length-12 c = let k = c .before .before .before .before .before .before .before .before .before .before .before .before .before .before in let l = k .before .before .before .before .before .before .before .before .before .before .before in k .step .kept .1 .1 .1 .1 .1 .1 .1 .1 .1 .1 .1 .1 .1 .0 ∙ ap (λ (z : Sizes). z .tox) (l .loop .inv .same)
 
 same-length-13 : tie.Need-same-length-13 Inv-loop μ-loop
-same-length-13 c = let k = c .before .before .before .before .before .before .before .before .before .before .before .before .before .before in let l = k .before .before .before .before .before .before .before .before .before .before .before in k .step .kept .1 .1 .1 .1 .1 .1 .1 .1 .1 .1 .1 .1 .1 .0 ∙ ap (λ (z : Sizes). z .toy) (l .loop .inv .same)
+same-length-13 c = let k = c .before .before .before .before .before .before .before .before .before .before .before .before .before .before in let l = k .before .before .before .before .before .before .before .before .before .before .before in k .step .kept .1 .1 .1 .1 .1 .1 .1 .1 .1 .1 .1 .1 .1 .1 .0 ∙ ap (λ (z : Sizes). z .toy) (l .loop .inv .same)
 
 same-length-14 : tie.Need-same-length-14 Inv-loop μ-loop
-same-length-14 c = let k = c .before .before .before .before .before .before .before .before .before .before .before .before .before .before in let l = k .before .before .before .before .before .before .before .before .before .before .before in k .step .kept .1 .1 .1 .1 .1 .1 .1 .1 .1 .1 .1 .1 .1 .1 .0 ∙ ap (λ (z : Sizes). z .tx) (l .loop .inv .same)
+same-length-14 c = let k = c .before .before .before .before .before .before .before .before .before .before .before .before .before .before in let l = k .before .before .before .before .before .before .before .before .before .before .before in k .step .kept .1 .1 .1 .1 .1 .1 .1 .1 .1 .1 .1 .1 .1 .1 .1 .0 ∙ ap (λ (z : Sizes). z .tx) (l .loop .inv .same)
 
 same-length-15 : tie.Need-same-length-15 Inv-loop μ-loop
-same-length-15 c = let k = c .before .before .before .before .before .before .before .before .before .before .before .before .before .before in let l = k .before .before .before .before .before .before .before .before .before .before .before in k .step .kept .1 .1 .1 .1 .1 .1 .1 .1 .1 .1 .1 .1 .1 .1 .1 .0 ∙ ap (λ (z : Sizes). z .ty) (l .loop .inv .same)
+same-length-15 c = let k = c .before .before .before .before .before .before .before .before .before .before .before .before .before .before in let l = k .before .before .before .before .before .before .before .before .before .before .before in k .step .kept .1 .1 .1 .1 .1 .1 .1 .1 .1 .1 .1 .1 .1 .1 .1 .1 .0 ∙ ap (λ (z : Sizes). z .ty) (l .loop .inv .same)
 
 same-length-16 : tie.Need-same-length-16 Inv-loop μ-loop
-same-length-16 c = let k = c .before .before .before .before .before .before .before .before .before .before .before .before .before .before in let l = k .before .before .before .before .before .before .before .before .before .before .before in k .step .kept .1 .1 .1 .1 .1 .1 .1 .1 .1 .1 .1 .1 .1 .1 .1 .1 .0 ∙ ap (λ (z : Sizes). z .tflags) (l .loop .inv .same)
+same-length-16 c = let k = c .before .before .before .before .before .before .before .before .before .before .before .before .before .before in let l = k .before .before .before .before .before .before .before .before .before .before .before in k .step .kept .1 .1 .1 .1 .1 .1 .1 .1 .1 .1 .1 .1 .1 .1 .1 .1 .1 .0 ∙ ap (λ (z : Sizes). z .tflags) (l .loop .inv .same)
 
 returns-2 : tie.Need-returns-2 Inv-loop μ-loop
-returns-2 c = let m = c .before in let k = m .before .before .before .before .before .before .before .before .before .before .before .before .before in let i = k .before .before .before .before .before .before .before .before .before in let t = i .before in let l = t .before in let s = l .before .before .before .before in
+returns-2 c = let m = c .before in let k = m .before .before .before .before .before .before .before .before .before .before .before .before .before in let i = k .before .before .before .before .before .before .before .before .before in let t = i .before in let l = t .before in let s = l .before .before .before .before .before in
     stops (held s) (now (s .args .sheet)) _ _ _ (head l) _ (k .step .ensures) (t .loop-test .taken) (i .if1 .left) (m .call .given .1) ∙ l .loop .inv .run
 
 enum-told : tie.Need-enum-told Inv-loop μ-loop
-enum-told c = search needs
+enum-told c = search all-needs
 
 sub-left : tie.Need-sub-left Inv-loop μ-loop
 sub-left c = let i = c .before .before .before .before .before .before .before .before .before .before .before .before .before .before .before .before .before .before .before .before .before .before in omega (arith, i .if1 .left)
 
 add-lines : tie.Need-add-lines Inv-loop μ-loop
-add-lines c = let i = c .before .before .before .before .before .before .before .before .before .before .before .before .before .before .before .before .before .before .before .before .before .before in let l = i .before .before in let s = l .before .before .before .before in omega (arith, i .if1 .left, l .loop .inv .sum, s .fits .budget)
+add-lines c = let i = c .before .before .before .before .before .before .before .before .before .before .before .before .before .before .before .before .before .before .before .before .before .before in let l = i .before .before in let s = l .before .before .before .before .before in omega (arith, i .if1 .left, l .loop .inv .sum, s .fits .budget)
 
 loop-less : tie.Need-loop-less Inv-loop μ-loop
 loop-less c = let i = c .before .before .before .before .before .before .before .before .before .before .before .before .before .before .before .before .before .before .before .before .before .before in omega (arith, i .if1 .left)
 
 loop-again : tie.Need-loop-again Inv-loop μ-loop
-loop-again c = let k = c .before .before .before .before .before .before .before .before .before .before .before .before .before in let i = k .before .before .before .before .before .before .before .before .before in let t = i .before in let l = t .before in let s = l .before .before .before .before in
+loop-again c = let k = c .before .before .before .before .before .before .before .before .before .before .before .before .before in let i = k .before .before .before .before .before .before .before .before .before in let t = i .before in let l = t .before in let s = l .before .before .before .before .before in
     record {
       run = goes-on (held s) (now (s .args .sheet)) _ _ _ (head l) _ (k .step .ensures) (t .loop-test .taken) (i .if1 .left) (c .enum-told .given .1) ∙ l .loop .inv .run;
-      same = same-sizes (k .step .kept .1 .1 .1 .1 .1 .1 .1 .1 .0) (k .step .kept .1 .1 .1 .1 .1 .1 .1 .1 .1 .0) (k .step .kept .1 .1 .1 .1 .1 .1 .1 .1 .1 .1 .0) (k .step .kept .1 .1 .1 .1 .1 .1 .1 .1 .1 .1 .1 .1 .0) (k .step .kept .1 .1 .1 .1 .1 .1 .1 .1 .1 .1 .1 .1 .1 .0) (k .step .kept .1 .1 .1 .1 .1 .1 .1 .1 .1 .1 .1 .1 .1 .1 .0) (k .step .kept .1 .1 .1 .1 .1 .1 .1 .1 .1 .1 .1 .1 .1 .1 .1 .0) (k .step .kept .1 .1 .1 .1 .1 .1 .1 .1 .1 .1 .1 .1 .1 .1 .1 .1 .0) ∙ l .loop .inv .same;
+      same = same-sizes (k .step .kept .1 .1 .1 .1 .1 .1 .1 .1 .1 .0) (k .step .kept .1 .1 .1 .1 .1 .1 .1 .1 .1 .1 .0) (k .step .kept .1 .1 .1 .1 .1 .1 .1 .1 .1 .1 .1 .0) (k .step .kept .1 .1 .1 .1 .1 .1 .1 .1 .1 .1 .1 .1 .1 .0) (k .step .kept .1 .1 .1 .1 .1 .1 .1 .1 .1 .1 .1 .1 .1 .1 .0) (k .step .kept .1 .1 .1 .1 .1 .1 .1 .1 .1 .1 .1 .1 .1 .1 .1 .0) (k .step .kept .1 .1 .1 .1 .1 .1 .1 .1 .1 .1 .1 .1 .1 .1 .1 .1 .0) (k .step .kept .1 .1 .1 .1 .1 .1 .1 .1 .1 .1 .1 .1 .1 .1 .1 .1 .1 .0) ∙ l .loop .inv .same;
       sum = omega (arith, i .if1 .left, l .loop .inv .sum);
     }
 
@@ -146,7 +146,7 @@ same-length-24 : tie.Need-same-length-24 Inv-loop μ-loop
 same-length-24 c = let l = c .before in ap (λ (z : Sizes). z .tflags) (l .loop .inv .same)
 
 returns-3 : tie.Need-returns-3 Inv-loop μ-loop
-returns-3 c = let l = c .before in let s = l .before .before .before .before in
+returns-3 c = let l = c .before in let s = l .before .before .before .before .before in
     at-end (held s) (now (s .args .sheet)) _ _ _ (head l) (c .loop-test .left) ∙ l .loop .inv .run
 
 pub onward-spec : {M : Type 1} → statement M

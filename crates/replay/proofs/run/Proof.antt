@@ -38,9 +38,15 @@ at-entry-requires c κs = search needs
 enum-told : tie.Need-enum-told
 enum-told c = search needs
 
+needs-table-requires : tie.Need-needs-table-requires
+needs-table-requires c κs = search needs
+
+slice-aggregate-onward : tie.Need-slice-aggregate-onward
+slice-aggregate-onward c = search needs
+
 onward-requires : tie.Need-onward-requires
-onward-requires c κs = let e = c .before .before .before .before .before .before .before .before in let k = e .before .before in let u = k .before in let z = u .before in let s = z .before .before .before .before .before .before .before .before .before .before .before .before in
-    entered-alike (held s) (now (s .args .sheet)) (entry s) (usableState (s .args .s)) (leb (s .args .start) (length (now (s .args .sheet)))) (entry-is (leb (s .args .start) (length (now (s .args .sheet)))) (k .enter .ensures) (z .sizes-fit .ensures) (u .is-usable .ensures)) (e .enum-told .given .1)
+onward-requires c κs = let n = c .before .before .before .before .before .before .before .before .before in let e = c .before .before .before .before .before .before .before .before .before .before in let k = e .before .before in let u = k .before in let z = u .before in let s = z .before .before .before .before .before .before .before .before .before .before .before .before in
+    (n .needs-table .ensures, entered-alike (held s) (now (s .args .sheet)) (entry s) (usableState (s .args .s)) (leb (s .args .start) (length (now (s .args .sheet)))) (entry-is (leb (s .args .start) (length (now (s .args .sheet)))) (k .enter .ensures) (z .sizes-fit .ensures) (u .is-usable .ensures)) (e .enum-told .given .1))
 
 same-length : tie.Need-same-length
 same-length c = refl
@@ -72,31 +78,31 @@ returns c = let e = c .before .before in let k = e .before .before in let u = k 
     ∙ not-entered (held s) (now (s .args .sheet)) (s .args .budget) (s .args .start) (entry s) (entry-is (leb (s .args .start) (length (now (s .args .sheet)))) (k .enter .ensures) (z .sizes-fit .ensures) (u .is-usable .ensures)) (e .begun .given .1)
 
 same-length-9 : tie.Need-same-length-9
-same-length-9 c = let k = c .before .before .before .before .before .before .before .before .before .before in k .onward .kept .1 .1 .1 .1 .1 .1 .1 .1 .1 .0
+same-length-9 c = let k = c .before .before .before .before .before .before .before .before .before .before in k .onward .kept .1 .1 .1 .1 .1 .1 .1 .1 .1 .1 .0
 
 same-length-10 : tie.Need-same-length-10
-same-length-10 c = let k = c .before .before .before .before .before .before .before .before .before .before in k .onward .kept .1 .1 .1 .1 .1 .1 .1 .1 .1 .1 .0
+same-length-10 c = let k = c .before .before .before .before .before .before .before .before .before .before in k .onward .kept .1 .1 .1 .1 .1 .1 .1 .1 .1 .1 .1 .0
 
 same-length-11 : tie.Need-same-length-11
-same-length-11 c = let k = c .before .before .before .before .before .before .before .before .before .before in k .onward .kept .1 .1 .1 .1 .1 .1 .1 .1 .1 .1 .1 .0
+same-length-11 c = let k = c .before .before .before .before .before .before .before .before .before .before in k .onward .kept .1 .1 .1 .1 .1 .1 .1 .1 .1 .1 .1 .1 .0
 
 same-length-12 : tie.Need-same-length-12
-same-length-12 c = let k = c .before .before .before .before .before .before .before .before .before .before in k .onward .kept .1 .1 .1 .1 .1 .1 .1 .1 .1 .1 .1 .1 .1 .0
+same-length-12 c = let k = c .before .before .before .before .before .before .before .before .before .before in k .onward .kept .1 .1 .1 .1 .1 .1 .1 .1 .1 .1 .1 .1 .1 .1 .0
 
 same-length-13 : tie.Need-same-length-13
-same-length-13 c = let k = c .before .before .before .before .before .before .before .before .before .before in k .onward .kept .1 .1 .1 .1 .1 .1 .1 .1 .1 .1 .1 .1 .1 .1 .0
+same-length-13 c = let k = c .before .before .before .before .before .before .before .before .before .before in k .onward .kept .1 .1 .1 .1 .1 .1 .1 .1 .1 .1 .1 .1 .1 .1 .1 .0
 
 same-length-14 : tie.Need-same-length-14
-same-length-14 c = let k = c .before .before .before .before .before .before .before .before .before .before in k .onward .kept .1 .1 .1 .1 .1 .1 .1 .1 .1 .1 .1 .1 .1 .1 .1 .0
+same-length-14 c = let k = c .before .before .before .before .before .before .before .before .before .before in k .onward .kept .1 .1 .1 .1 .1 .1 .1 .1 .1 .1 .1 .1 .1 .1 .1 .1 .0
 
 same-length-15 : tie.Need-same-length-15
-same-length-15 c = let k = c .before .before .before .before .before .before .before .before .before .before in k .onward .kept .1 .1 .1 .1 .1 .1 .1 .1 .1 .1 .1 .1 .1 .1 .1 .1 .0
+same-length-15 c = let k = c .before .before .before .before .before .before .before .before .before .before in k .onward .kept .1 .1 .1 .1 .1 .1 .1 .1 .1 .1 .1 .1 .1 .1 .1 .1 .1 .0
 
 same-length-16 : tie.Need-same-length-16
-same-length-16 c = let k = c .before .before .before .before .before .before .before .before .before .before in k .onward .kept .1 .1 .1 .1 .1 .1 .1 .1 .1 .1 .1 .1 .1 .1 .1 .1 .1 .0
+same-length-16 c = let k = c .before .before .before .before .before .before .before .before .before .before in k .onward .kept .1 .1 .1 .1 .1 .1 .1 .1 .1 .1 .1 .1 .1 .1 .1 .1 .1 .1 .0
 
 returns-2 : tie.Need-returns-2
-returns-2 c = let r = c .before .before .before .before .before .before .before .before .before .before in let e = r .before .before .before .before .before .before .before .before .before in let k = e .before .before in let u = k .before in let z = u .before in let s = z .before .before .before .before .before .before .before .before .before .before .before .before in
+returns-2 c = let r = c .before .before .before .before .before .before .before .before .before .before in let e = r .before .before .before .before .before .before .before .before .before .before .before in let k = e .before .before in let u = k .before in let z = u .before in let s = z .before .before .before .before .before .before .before .before .before .before .before .before in
     r .onward .ensures
     ∙ entered (held s) (now (s .args .sheet)) (s .args .budget) (s .args .start) (entry s) (entry-is (leb (s .args .start) (length (now (s .args .sheet)))) (k .enter .ensures) (z .sizes-fit .ensures) (u .is-usable .ensures)) (e .enum-told .given .1)
 
@@ -110,6 +116,8 @@ run-spec =
     enum-known-begun
     at-entry-requires
     enum-told
+    needs-table-requires
+    slice-aggregate-onward
     onward-requires
     same-length
     same-length-2

@@ -25,29 +25,29 @@ enum-known-line-2 : tie.Need-enum-known-line-2
 enum-known-line-2 c = search needs
 
 mul-perform : tie.Need-mul-perform
-mul-perform c = let l = c .before in let k = l .before .before in let s = k .before .before .before .before in let b = operands-inside (now (s .args .sheet)) (s .args .s .«loop_counter») (s .args .at) (sym (k .decode .ensures) ∙ l .line2 .given .1) in
+mul-perform c = let l = c .before in let k = l .before .before in let s = k .before .before .before .before .before in let b = operands-inside (now (s .args .sheet)) (s .args .s .«loop_counter») (s .args .at) (sym (k .decode .ensures) ∙ l .line2 .given .1) in
     omega (arith, b .0, b .1, s .good .1 .1 .0 .1)
 
 sub-perform : tie.Need-sub-perform
-sub-perform c = let l = c .before in let k = l .before .before in let s = k .before .before .before .before in let b = operands-inside (now (s .args .sheet)) (s .args .s .«loop_counter») (s .args .at) (sym (k .decode .ensures) ∙ l .line2 .given .1) in
+sub-perform c = let l = c .before in let k = l .before .before in let s = k .before .before .before .before .before in let b = operands-inside (now (s .args .sheet)) (s .args .s .«loop_counter») (s .args .at) (sym (k .decode .ensures) ∙ l .line2 .given .1) in
     omega (arith, b .0)
 
 part-perform-start : tie.Need-part-perform-start
-part-perform-start c = let l = c .before in let k = l .before .before in let s = k .before .before .before .before in let b = operands-inside (now (s .args .sheet)) (s .args .s .«loop_counter») (s .args .at) (sym (k .decode .ensures) ∙ l .line2 .given .1) in
+part-perform-start c = let l = c .before in let k = l .before .before in let s = k .before .before .before .before .before in let b = operands-inside (now (s .args .sheet)) (s .args .s .«loop_counter») (s .args .at) (sym (k .decode .ensures) ∙ l .line2 .given .1) in
     omega (arith, b .0)
 
 part-perform-end : tie.Need-part-perform-end
-part-perform-end c = let l = c .before in let k = l .before .before in let s = k .before .before .before .before in let b = operands-inside (now (s .args .sheet)) (s .args .s .«loop_counter») (s .args .at) (sym (k .decode .ensures) ∙ l .line2 .given .1) in
+part-perform-end c = let l = c .before in let k = l .before .before in let s = k .before .before .before .before .before in let b = operands-inside (now (s .args .sheet)) (s .args .s .«loop_counter») (s .args .at) (sym (k .decode .ensures) ∙ l .line2 .given .1) in
     omega (arith, b .1)
 
 perform-requires : tie.Need-perform-requires
-perform-requires c κs = let s = c .before .before .before .before .before .before .before .before .before .before .before .before .before .before .before .before in s .pre
+perform-requires c κs = let s = c .before .before .before .before .before .before .before .before .before .before .before .before .before .before .before .before .before in s .pre .1
 
 land-requires : tie.Need-land-requires
 land-requires c κs = search needs
 
 returns : tie.Need-returns
-returns c = let l = c .before in let k = l .before .before in let s = k .before .before .before .before in
+returns c = let l = c .before in let k = l .before .before in let s = k .before .before .before .before .before in
     not-read (held s) (now (s .args .sheet)) (s .args .at) (entry s) (sym (k .decode .ensures) ∙ l .line .given .1)
 
 same-length : tie.Need-same-length
@@ -75,7 +75,7 @@ same-length-8 : tie.Need-same-length-8
 same-length-8 c = let k = c .before .before .before .before .before .before .before .before .before .before .before in k .perform .kept .1 .1 .1 .1 .1 .1 .1 .1 .1 .1 .1 .1 .1 .1 .1 .1 .0
 
 returns-2 : tie.Need-returns-2
-returns-2 c = let p = c .before .before .before .before .before .before .before .before .before .before .before in let l = p .before .before .before .before .before .before .before .before .before .before .before in let k = l .before .before in let s = k .before .before .before .before in
+returns-2 c = let p = c .before .before .before .before .before .before .before .before .before .before .before in let l = p .before .before .before .before .before .before .before .before .before .before .before in let k = l .before .before in let s = k .before .before .before .before .before in
     was-done (held s) (now (s .args .sheet)) (s .args .at) (entry s) (sym (k .decode .ensures) ∙ l .line2 .given .1) (p .perform .ensures) (c .land .ensures)
 
 pub step-spec : {M : Type 1} → statement M

@@ -1,0 +1,79 @@
+// Each opcode's line, with the lists that it is lent.
+//
+// `perform` is one equation with `lineOf` of the crate opcodes: what the line says, the state, and every list that it may change, refused or not. It asks
+// that the lists of each zone share one length, which the run tests once at its entry, and nothing else. That an opcode is known and the operands
+// aren't too many is tested by `opcodes::decode` before.
+use dispatch_distances::perform_distance;
+use dispatch_shifts::perform_shift;
+use graphics::GraphicsState;
+use line::Stepped;
+use line_flip::flippt;
+use line_flip::fliprg;
+use line_isect::isect;
+use line_iup::iup;
+use line_set::set_state;
+ghost use mathlib.Core.Path.{_≡_};
+ghost use Rattle.world.specs.World.{Alike, fixed, lined, world};
+ghost use Rattle.opcodes.specs.Table.{lineOf};
+
+// The line of an opcode, with its operands.
+pub fn perform(
+    s: GraphicsState,
+    opcode: usize,
+    operands: &[i32],
+    controls: &[i32],
+    gux: &[i32],
+    guy: &[i32],
+    gox: &[i32],
+    goy: &[i32],
+    gx: &mut [i32],
+    gy: &mut [i32],
+    gflags: &mut [u8],
+    contours: &[u16],
+    tox: &mut [i32],
+    toy: &mut [i32],
+    tx: &mut [i32],
+    ty: &mut [i32],
+    tflags: &mut [u8],
+) -> Stepped
+    requires { ⌜ Alike (fixed (now controls) (now gux) (now guy) (now gox) (now goy) (now contours)) (world s (now gx) (now gy) (now gflags) (now tox) (now toy) (now tx) (now ty) (now tflags)) ⌝ }
+    ensures { λ r. ⌜ lined r (now (gx .exit)) (now (gy .exit)) (now (gflags .exit)) (now (tox .exit)) (now (toy .exit)) (now (tx .exit)) (now (ty .exit)) (now (tflags .exit)) ≡ lineOf (fixed (now (controls .entry)) (now (gux .entry)) (now (guy .entry)) (now (gox .entry)) (now (goy .entry)) (now (contours .entry))) opcode (now (operands .entry)) (world s (now (gx .entry)) (now (gy .entry)) (now (gflags .entry)) (now (tox .entry)) (now (toy .entry)) (now (tx .entry)) (now (ty .entry)) (now (tflags .entry))) ⌝ }
+{
+    match opcode {
+        0x0F => isect(s, operands, gx, gy, gflags, tx, ty, tflags),
+        0x30 | 0x31 => iup(s, opcode, gux, guy, gox, goy, gx, gy, gflags, contours),
+        0x32..=0x38 => perform_shift(
+            s,
+            opcode,
+            operands,
+            gox,
+            goy,
+            gx,
+            gy,
+            gflags,
+            contours,
+            tox,
+            toy,
+            tx,
+            ty,
+            tflags,
+        ),
+        0x2E | 0x2F | 0x3A..=0x3C | 0x3E | 0x3F => perform_distance(
+            s,
+            opcode,
+            operands,
+            controls,
+            gx,
+            gy,
+            gflags,
+            tox,
+            toy,
+            tx,
+            ty,
+            tflags,
+        ),
+        0x80 => flippt(s, operands, gflags),
+        0x81 | 0x82 => fliprg(s, opcode, operands, gflags),
+        _ => set_state(s, opcode, operands),
+    }
+}

@@ -1,0 +1,5 @@
+pub mod Stays
+pub mod Lengths
+pub mod Usable
+pub mod Rows
+pub mod Lines

@@ -1,0 +1,340 @@
+-- What a line does to a world is one of a few things at a time. What these leave as it is, every line leaves: `…-stays`, a law for each line, whatever it is that
+-- stays. Assumes nothing.
+use Prim.Native.Nat.{ℕ, suc, zero, _-_}
+use mathlib.Core.Bool.{Bool, cond, false, true, _&&_}
+use mathlib.Core.List.{List, [], _∷_}
+use mathlib.Core.Path.{_≡_, ap, refl, subst, sym, _∙_}
+use lib.Dec.{eqb, ltb}
+use lib.IntN.{ℤ, pos}
+use lib.ListN.{getD, length}
+use Rattle.answer.specs.declared.Call.the-variants.{Done, Refused}
+use Rattle.answer.specs.declared.Call.{Call}
+use Rattle.answer.specs.declared.Refusal.the-variants.{Contour}
+use Rattle.answer.specs.declared.Refusal.{Refusal}
+use Rattle.graphics.specs.State.{pastBothIups, rp0At, rp1At, rp2At, withLoopCounter, withReferences}
+use Rattle.graphics.specs.declared.GraphicsState.{GraphicsState}
+use Rattle.graphics.specs.declared.References.{References}
+use Rattle.graphics.specs.declared.Vector.{Vector}
+use Rattle.graphics.specs.declared.ZonePointer.the-variants.{Glyph, Twilight}
+use Rattle.graphics.specs.declared.ZonePointer.{ZonePointer}
+use Rattle.int.proofs.Tests.{either}
+use Rattle.int.specs.Word.{indexOf, neg32}
+use Rattle.line_alignrp.specs.Alignrp.{alignPoint, alignrpOf}
+use Rattle.line_flip.specs.Flip.{flipPoint, flipptOf, fliprgOf, heldFast}
+use Rattle.isect.specs.Crossing.{crossingOf}
+use Rattle.line_isect.specs.Isect.{isectOf, putTouched}
+use Rattle.line_mdap.specs.Mdap.{mdapOf, outsideMdap}
+use Rattle.line_miap.specs.Miap.{miapOf}
+use Rattle.line_miap.specs.Numbers.{controlPlace}
+use Rattle.line_msirp.specs.Msirp.{bothThere, madePlace, msirpOf, referencesAfter}
+use Rattle.line_shc_shz.specs.Shc.{shcOf, shzOf}
+use Rattle.line_span.specs.Span.{pointsFrom, sameZone, shiftBut, spanIn}
+use Rattle.line_shift.specs.Shift.{shpOf, shpixOf}
+use Rattle.line_steps.specs.Steps.{byCall, byDisplaced, byFetched, controlAt, displacedIn, displacement, doneIn, eachIn, first, five, flagsIn, inState, laidIn, looped, madeIn, moveIn, onBoth, one, passedOver, pointOr, shiftPoint, two, withPoints}
+use Rattle.math.specs.Fixed.{mulFix14}
+use Rattle.moves.specs.Apply.{applyIn}
+use Rattle.moves.specs.Move.{isIdle, moveOf, zp2MoveOf}
+use Rattle.moves.specs.declared.Displaced.the-variants.{By}
+use Rattle.moves.specs.declared.Displaced.the-variants.{Refused as RefusedDisplacement}
+use Rattle.moves.specs.declared.Displaced.{Displaced}
+use Rattle.moves.specs.declared.Displacement.{Displacement}
+use Rattle.moves.specs.declared.Move.{Move}
+use Rattle.places.specs.Lines.{isOdd}
+use Rattle.places.specs.Places.{fetchIn, sizeOf}
+use Rattle.projection.specs.Projection.{projectOf}
+use Rattle.word_lists.proofs.Widths.{Every}
+use Rattle.word_lists.proofs.Widths.Every.{one-word}
+use Rattle.world.specs.World.{Fixed, Lined, World}
+use Rattle.zone.specs.Zone.{flipOf, placeOf, setOnCurveOf}
+use Rattle.zone.specs.declared.Fetched.the-variants.{At}
+use Rattle.zone.specs.declared.Fetched.the-variants.{Refused as RefusedPlace}
+use Rattle.zone.specs.declared.Fetched.{Fetched}
+
+-- ---- the things that a line does
+-- a move laid on a point
+abbrev pub laid : ZonePointer → Move → ℕ → World → World
+laid zone m at w = withPoints w (applyIn m at (w .gx) (w .gy) (w .gflags) (w .tx) (w .ty) (w .tflags) zone)
+
+-- what a line of this state does leaves P; `Refers` is what is asked of a point's number that becomes a reference
+pub record Stays (s : GraphicsState) (Refers : ℕ → Type 0) (P : World → Type 0) : Type 0 where
+  -- moves by a distance, and shifts
+  pub by-distance : (zone : ZonePointer) (d : ℤ) (at : ℕ) (w : World) → P w → P (laid zone (moveOf (s .vectors) (s .facts) d) at w)
+  pub by-shift : (zone : ZonePointer) (dx dy : ℤ) (touches : Bool) (at : ℕ) (w : World) → P w → P (laid zone (zp2MoveOf (s .vectors) (s .facts) dx dy touches) at w)
+  -- a twilight point made: by a control value, and from its own original
+  pub by-control : (control : ℤ) (at : ℕ) (zone : ZonePointer) (w : World) → P w → P (madeIn at (controlPlace (s .vectors .freedom) control) w zone)
+  pub from-original : (d : ℤ) (at : ℕ) (zone : ZonePointer) (w : World) → P w → P (madeIn at (madePlace (s .vectors) d (placeOf (w .tox) (w .toy) at)) w zone)
+  -- flags
+  pub flipped : (at : ℕ) (w : World) → P w → P (flagsIn w (flipOf (w .gflags) at) .world)
+  pub ranged : (start end : ℕ) (on : Bool) (w : World) → P w → P (flagsIn w (setOnCurveOf (w .gflags) start end on) .world)
+  -- the state: references that become a point's number or another reference, and the counter
+  pub both-set : (at : ℕ) (w : World) → Refers at → P w → P (onBoth at w)
+  pub three-set : (op at : ℕ) (w : World) → Refers at → w .state ≡ s → P w → P (inState w (referencesAfter s op at))
+  pub counted : (w : World) → P w → P (inState w (withLoopCounter (w .state) 1))
+
+-- ---- the steps of a line: what is left where they go on and where they don't
+module _ (P : World → Type 0) where
+  -- of what a line comes to
+  abbrev pub Left : Lined → Type 0
+  Left l = P (l .world)
+
+  module _ (Operand : ℤ → Type 0) where
+    one-stays : (operands : List ℤ) (w : World) (rest : ℤ → Lined) → Every Operand operands → P w → ((z : ℤ) → Operand z → Left (rest z)) → Left (one operands w rest)
+    unfolding one
+    one-stays [] w rest f p h = p
+    one-stays (a ∷ more) w rest (one-word o f) p h = h a o
+
+    two-stays : (operands : List ℤ) (w : World) (rest : ℤ → ℤ → Lined) → Every Operand operands → P w → ((y z : ℤ) → Operand z → Left (rest y z)) → Left (two operands w rest)
+    unfolding two
+    two-stays [] w rest f p h = p
+    two-stays (a ∷ []) w rest f p h = p
+    two-stays (a ∷ b ∷ more) w rest (one-word n (one-word o f)) p h = h a b o
+
+  first-stays : (operands : List ℤ) (w : World) (rest : ℤ → List ℤ → Lined) → P w → ((z : ℤ) (more : List ℤ) → Left (rest z more)) → Left (first operands w rest)
+  unfolding first
+  first-stays [] w rest p h = p
+  first-stays (a ∷ more) w rest p h = h a more
+
+  control-stays : (f : Fixed) (entry : ℕ) (w : World) (rest : ℤ → Lined) → P w → ((z : ℤ) → Left (rest z)) → Left (controlAt f entry w rest)
+  unfolding controlAt
+  control-stays f entry w rest p h = either Left (ltb entry (length (f .controls))) (h (getD (f .controls) entry (pos 0))) p
+
+  by-fetched-stays : (out : Refusal → Lined) (rest : Vector → Lined) → ((why : Refusal) → Left (out why)) → ((place : Vector) → Left (rest place)) → (g : Fetched) → Left (byFetched out rest g)
+  by-fetched-stays out rest o h (At place) = h place
+  by-fetched-stays out rest o h (RefusedPlace why) = o why
+
+  point-stays : (zone : ZonePointer) (at : ℕ) (w : World) (out : Refusal → Lined) (rest : Vector → Lined) → ((why : Refusal) → Left (out why)) → ((place : Vector) → Left (rest place)) → Left (pointOr zone at w out rest)
+  unfolding pointOr
+  point-stays zone at w out rest o h = by-fetched-stays out rest o h (fetchIn at (w .gx) (w .gy) (w .tx) (w .ty) zone)
+
+  by-displaced-stays : (w : World) (rest : Displacement → Lined) → P w → ((d : Displacement) → Left (rest d)) → (d : Displaced) → Left (byDisplaced w rest d)
+  by-displaced-stays w rest p h (By d) = h d
+  by-displaced-stays w rest p h (RefusedDisplacement why) = p
+
+  displaced-stays : (f : Fixed) (op : ℕ) (w : World) (rest : Displacement → Lined) → P w → ((d : Displacement) → Left (rest d)) → Left (displacedIn f op w rest)
+  unfolding displacedIn
+  displaced-stays f op w rest p h = by-displaced-stays w rest p h (displacement f op w)
+
+  passed-stays : (w : World) (why : Refusal) → P w → Left (passedOver w why)
+  unfolding passedOver
+  passed-stays w why p = either Left (w .state .facts .pedantic) p p
+
+  by-call-stays : (w : World) (rest : World → Lined) → P w → Left (rest w) → (call : Call) → Left (byCall w rest call)
+  by-call-stays w rest p h Done = h
+  by-call-stays w rest p h (Refused why) = p
+
+  laid-stays : (zone : ZonePointer) (m : Move) (at : ℕ) (w : World) (rest : World → Lined) → P (laid zone m at w) → Left (rest (laid zone m at w)) → Left (laidIn zone m at w rest)
+  unfolding laidIn
+  laid-stays zone m at w rest p h = by-call-stays (laid zone m at w) rest p h (applyIn m at (w .gx) (w .gy) (w .gflags) (w .tx) (w .ty) (w .tflags) zone .call)
+
+  -- what a step leaves, a loop of it leaves
+  each-stays : (step : ℤ → World → Lined) → ((z : ℤ) (w : World) → P w → Left (step z w)) → (n : ℕ) (operands : List ℤ) (w : World) → P w → Left (eachIn step n operands w)
+  unfolding eachIn
+  each-stays step h zero operands w p = p
+  each-stays step h (suc n) [] w p = p
+  each-stays step h (suc n) (z ∷ more) w p =
+      let k = h z w p in
+      by-call-stays (step z w .world) (eachIn step n more) k (each-stays step h n more (step z w .world) k) (step z w .call)
+
+-- ---- what leaves the state
+-- a world in which a twilight point was made has the same state
+pub made-state : (at : ℕ) (place : Vector) (w : World) (zone : ZonePointer) → madeIn at place w zone .state ≡ w .state
+unfolding madeIn
+made-state at place w Glyph = refl
+made-state at place w Twilight = refl
+
+pub put-state : (at : ℕ) (place : Vector) (w : World) (zone : ZonePointer) → putTouched at place w zone .state ≡ w .state
+unfolding putTouched
+put-state at place w Glyph = refl
+put-state at place w Twilight = refl
+
+pub align-point-state : (z : ℤ) (w : World) → alignPoint z w .world .state ≡ w .state
+unfolding moveIn
+align-point-state z w =
+    let Same : World → Type 0 = λ v. v .state ≡ w .state in
+    let s = w .state in
+    point-stays Same (s .pointers .zp1) (indexOf z) w _ _ (λ why. refl) λ place.
+    point-stays Same (s .pointers .zp0) (s .references .rp0) w _ _ (λ why. refl) λ reference.
+    laid-stays Same (s .pointers .zp1) (moveOf (s .vectors) (s .facts) (neg32 (projectOf (s .vectors) place reference))) (indexOf z) w doneIn refl refl
+
+pub flip-point-state : (z : ℤ) (w : World) → flipPoint z w .world .state ≡ w .state
+unfolding flipPoint
+flip-point-state z w = either (λ (l : Lined). l .world .state ≡ w .state) (pastBothIups (w .state .facts)) refl refl
+
+pub shift-point-state : (m : Move) (z : ℤ) (w : World) → shiftPoint m z w .world .state ≡ w .state
+unfolding shiftPoint
+shift-point-state m z w =
+    let Same : World → Type 0 = λ v. v .state ≡ w .state in
+    either (λ (l : Lined). l .world .state ≡ w .state) (isIdle m) refl (laid-stays Same (w .state .pointers .zp2) m (indexOf z) w doneIn refl refl)
+
+pub shift-but-state : (m : Move) (keeps : Bool) (kept : ℕ) (z : ℤ) (w : World) → shiftBut m keeps kept z w .world .state ≡ w .state
+unfolding shiftBut
+shift-but-state m keeps kept z w = either (λ (l : Lined). l .world .state ≡ w .state) (keeps && eqb (indexOf z) kept) refl (shift-point-state m z w)
+
+-- ---- the lines
+module _ {Refers : ℕ → Type 0} {P : World → Type 0} (f : Fixed) (op : ℕ) (operands : List ℤ) (w : World) (stays : Stays (w .state) Refers P) (p : P w) where
+  abbrev s : GraphicsState
+  s = w .state
+
+  -- within a loop: the state is still this one
+  abbrev Q : World → Type 0
+  Q v = (v .state ≡ s) × P v
+
+  -- an operand that may become a reference
+  abbrev pub Operand : ℤ → Type 0
+  Operand z = Refers (indexOf z)
+
+  -- by a distance, in a world of this state
+  moved-stays : (zone : ZonePointer) (d : ℤ) (at : ℕ) (v : World) (rest : World → Lined) → Q v → ((u : World) → Q u → Left P (rest u))
+      → Left P (moveIn zone d at v rest)
+  unfolding moveIn
+  moved-stays zone d at v rest q h =
+      let same : moveOf (v .state .vectors) (v .state .facts) d ≡ moveOf (s .vectors) (s .facts) d = ap (λ (t : GraphicsState). moveOf (t .vectors) (t .facts) d) (q .0) in
+      let k = stays .by-distance zone d at v (q .1) in
+      subst (λ (m : Move). Left P (laidIn zone m at v rest)) (sym same) (laid-stays P zone (moveOf (s .vectors) (s .facts) d) at v rest k (h (laid zone (moveOf (s .vectors) (s .facts) d) at v) (q .0, k)))
+
+  looped-stays : (step : ℤ → World → Lined) → ((z : ℤ) (v : World) → Q v → Left Q (step z v)) → (all : List ℤ) → Left P (looped all w step)
+  looped-stays step h all =
+      let l = eachIn step (s .«loop_counter») all w in
+      stays .counted (l .world) (each-stays Q step h (s .«loop_counter») all w (refl, p) .1)
+
+  module _ (o : Every Operand operands) where
+    pub mdap-stays : Left P (mdapOf f op operands w)
+    unfolding mdapOf outsideMdap
+    mdap-stays =
+        one-stays P Operand operands w _ o p λ point refers.
+        let at = indexOf point in
+        point-stays P (s .pointers .zp0) at w _ _ (λ why. either (Left P) (s .facts .pedantic) p (stays .both-set at w refers p)) λ place.
+        moved-stays (s .pointers .zp0) _ at w _ (refl, p) λ v q. stays .both-set at v refers (q .1)
+
+    pub miap-stays : Left P (miapOf f op operands w)
+    unfolding miapOf
+    miap-stays =
+        two-stays P Operand operands w _ o p λ entry point refers.
+        control-stays P f (indexOf entry) w _ p λ control.
+        let at = indexOf point in
+        let zone = s .pointers .zp0 in
+        let place = controlPlace (s .vectors .freedom) control in
+        let m = stays .by-control control at zone w p in
+        point-stays P zone at (madeIn at place w zone) _ _ (λ why. m) λ own.
+        moved-stays zone _ at (madeIn at place w zone) _ (made-state at place w zone, m) λ v q. stays .both-set at v refers (q .1)
+
+    both-there-stays : (at : ℕ) (rest : Lined) → Left P rest → (zone : ZonePointer) → Left P (bothThere at w rest zone)
+    unfolding bothThere
+    both-there-stays at rest q Glyph =
+        point-stays P Glyph at w _ _ (λ why. passed-stays P w why p) λ _.
+        point-stays P (s .pointers .zp0) (s .references .rp0) w _ _ (λ why. passed-stays P w why p) λ _. q
+    both-there-stays at rest q Twilight =
+        point-stays P (s .pointers .zp0) (s .references .rp0) w _ _ (λ why. passed-stays P w why p) λ _.
+        point-stays P Twilight at w _ _ (λ why. passed-stays P w why p) λ _. q
+
+    pub msirp-stays : Left P (msirpOf f op operands w)
+    unfolding msirpOf
+    msirp-stays =
+        two-stays P Operand operands w _ o p λ distance point refers.
+        let at = indexOf point in
+        let zone = s .pointers .zp1 in
+        let place = madePlace (s .vectors) distance (placeOf (w .tox) (w .toy) at) in
+        let m = stays .from-original distance at zone w p in
+        both-there-stays at _
+        (point-stays P zone at (madeIn at place w zone) _ _ (λ why. m) λ here.
+        point-stays P (s .pointers .zp0) (s .references .rp0) (madeIn at place w zone) _ _ (λ why. m) λ reference.
+        moved-stays zone _ at (madeIn at place w zone) _ (made-state at place w zone, m) λ v q. stays .three-set op at v refers (q .0) (q .1))
+        zone
+
+  -- ---- the loops
+  align-point-stays : (z : ℤ) (v : World) → Q v → Left Q (alignPoint z v)
+  unfolding moveIn
+  align-point-stays z v q =
+      let at = indexOf z in
+      let zone = v .state .pointers .zp1 in
+      point-stays Q zone at v _ _ (λ why. q) λ place.
+      point-stays Q (v .state .pointers .zp0) (v .state .references .rp0) v _ _ (λ why. q) λ reference.
+      let d = neg32 (projectOf (v .state .vectors) place reference) in
+      let same : moveOf (v .state .vectors) (v .state .facts) d ≡ moveOf (s .vectors) (s .facts) d = ap (λ (t : GraphicsState). moveOf (t .vectors) (t .facts) d) (q .0) in
+      let k : Q (laid zone (moveOf (s .vectors) (s .facts) d) at v) = (q .0, stays .by-distance zone d at v (q .1)) in
+      subst (λ (m : Move). Left Q (laidIn zone m at v doneIn)) (sym same) (laid-stays Q zone (moveOf (s .vectors) (s .facts) d) at v doneIn k k)
+
+  pub alignrp-stays : Left P (alignrpOf f op operands w)
+  unfolding alignrpOf
+  alignrp-stays = looped-stays alignPoint align-point-stays operands
+
+  flip-point-stays : (z : ℤ) (v : World) → Q v → Left Q (flipPoint z v)
+  unfolding flipPoint
+  flip-point-stays z v q = either (Left Q) (pastBothIups (v .state .facts)) q (q .0, stays .flipped (indexOf z) v (q .1))
+
+  pub flippt-stays : Left P (flipptOf f op operands w)
+  unfolding flipptOf
+  flippt-stays = looped-stays flipPoint flip-point-stays operands
+
+  range-stays : (all : List ℤ) → Left P (fliprgOf f op all w)
+  unfolding fliprgOf two
+  range-stays [] = p
+  range-stays (a ∷ []) = p
+  range-stays (high ∷ low ∷ more) = either (Left P) (heldFast (s .facts) (indexOf high)) p (stays .ranged (indexOf low) (suc (indexOf high)) (isOdd op) w p)
+
+  pub fliprg-stays : Left P (fliprgOf f op operands w)
+  fliprg-stays = range-stays operands
+
+  -- ---- the shifts
+  shift-point-stays : (dx dy : ℤ) (touches : Bool) (z : ℤ) (v : World) → Q v → Left Q (shiftPoint (zp2MoveOf (s .vectors) (s .facts) dx dy touches) z v)
+  unfolding shiftPoint
+  shift-point-stays dx dy touches z v q =
+      let m = zp2MoveOf (s .vectors) (s .facts) dx dy touches in
+      let zone = v .state .pointers .zp2 in
+      let k : Q (laid zone m (indexOf z) v) = (q .0, stays .by-shift zone dx dy touches (indexOf z) v (q .1)) in
+      either (Left Q) (isIdle m) q (laid-stays Q zone m (indexOf z) v doneIn k k)
+
+  pub shp-stays : Left P (shpOf f op operands w)
+  unfolding shpOf
+  shp-stays = displaced-stays P f op w _ p λ d. looped-stays _ (shift-point-stays (d .dx) (d .dy) true) operands
+
+  pub shpix-stays : Left P (shpixOf f op operands w)
+  unfolding shpixOf
+  shpix-stays =
+      either (Left P) (s .facts .«backward_compatibility») p
+      (first-stays P operands w _ p λ amount points.
+      looped-stays _ (shift-point-stays (mulFix14 amount (s .vectors .freedom .x)) (mulFix14 amount (s .vectors .freedom .y)) true) points)
+
+  shift-but-stays : (dx dy : ℤ) (touches keeps : Bool) (kept : ℕ) (z : ℤ) (v : World) → Q v → Left Q (shiftBut (zp2MoveOf (s .vectors) (s .facts) dx dy touches) keeps kept z v)
+  unfolding shiftBut
+  shift-but-stays dx dy touches keeps kept z v q = either (Left Q) (keeps && eqb (indexOf z) kept) q (shift-point-stays dx dy touches z v q)
+
+  span-stays : (touches : Bool) (start end : ℕ) → Left P (spanIn f op touches start end w)
+  unfolding spanIn
+  span-stays touches start end =
+      displaced-stays P f op w _ p λ d.
+      each-stays Q _ (shift-but-stays (d .dx) (d .dy) touches (sameZone (d .zone) (s .pointers .zp2)) (d .at)) (end - start) (pointsFrom start (end - start)) w (refl, p) .1
+
+  contour-stays : (all : List ℤ) → Left P (shcOf f op all w)
+  unfolding shcOf one
+  contour-stays [] = p
+  contour-stays (contour ∷ more) =
+      either (Left P) (ltb (indexOf contour) (sizeOf (length (f .contours)) 1 (s .pointers .zp2))) (span-stays true _ _) (passed-stays P w (Contour (indexOf contour)) p)
+
+  pub shc-stays : Left P (shcOf f op operands w)
+  shc-stays = contour-stays operands
+
+  zone-stays : (all : List ℤ) → Left P (shzOf f op all w)
+  unfolding shzOf one
+  zone-stays [] = p
+  zone-stays (zone ∷ more) = either (Left P) (ltb 1 (indexOf zone)) p (span-stays false _ _)
+
+  pub shz-stays : Left P (shzOf f op operands w)
+  shz-stays = zone-stays operands
+
+-- ---- ISECT, which puts a point
+pub isect-stays : (P : World → Type 0) (f : Fixed) (op : ℕ) (operands : List ℤ) (w : World) → P w → ((at : ℕ) (a0 a1 b0 b1 : Vector) (zone : ZonePointer) → P (putTouched at (crossingOf a0 a1 b0 b1) w zone))
+    → Left P (isectOf f op operands w)
+unfolding isectOf five
+isect-stays P f op [] w p put = p
+isect-stays P f op (_ ∷ []) w p put = p
+isect-stays P f op (_ ∷ _ ∷ []) w p put = p
+isect-stays P f op (_ ∷ _ ∷ _ ∷ []) w p put = p
+isect-stays P f op (_ ∷ _ ∷ _ ∷ _ ∷ []) w p put = p
+isect-stays P f op (b1 ∷ b0 ∷ a1 ∷ a0 ∷ point ∷ _) w p put =
+    let z = w .state .pointers in
+    point-stays P (z .zp1) (indexOf a0) w _ _ (λ why. p) λ aFrom.
+    point-stays P (z .zp1) (indexOf a1) w _ _ (λ why. p) λ aTo.
+    point-stays P (z .zp0) (indexOf b0) w _ _ (λ why. p) λ bFrom.
+    point-stays P (z .zp0) (indexOf b1) w _ _ (λ why. p) λ bTo.
+    point-stays P (z .zp2) (indexOf point) w _ _ (λ why. p) λ _. put (indexOf point) aFrom aTo bFrom bTo (z .zp2)

@@ -1,0 +1,2 @@
+pub mod Isect
+pub mod Steps

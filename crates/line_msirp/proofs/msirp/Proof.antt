@@ -1,0 +1,170 @@
+-- `line_msirp::msirp` meets its contract: by whether both operands are there, and then both points. Assumes nothing.
+use mathlib.Core.Path.{ap, sym, _∙_}
+use denote.Ref.{now}
+use Rattle.int.proofs.Words.{back32}
+use Rattle.line_steps.specs.Steps.{into, withPoints}
+use Rattle.moves.specs.Apply.{bothMoved}
+use Rattle.world.specs.World.{World, world}
+use Rattle.line_msirp.proofs.Cases.{msirp-missing, msirp-moved, msirp-passed}
+use Rattle.line_msirp.proofs.msirp.Statement.{statement}
+use Rattle.line_msirp.proofs.msirp.Tie as tie
+
+-- ---- places of the walk
+abbrev entry : tie.Start → World
+entry s = let a = s .args in
+    world (a .s) (now (a .gx)) (now (a .gy)) (now (a .gflags)) (now (a .tox)) (now (a .toy)) (now (a .tx)) (now (a .ty)) (now (a .tflags))
+
+abbrev indexed : tie.After-reach → tie.After-index-at
+indexed k = k .before .before .before .before
+
+abbrev started : tie.After-index-at → tie.Start
+started i = i .before .before .before .before .before
+
+abbrev reached : tie.After-make-in → tie.After-reach
+reached m = m .before .before .before .before .before .before .before
+
+abbrev making : tie.After-place-in → tie.After-make-in
+making p = p .before .before .before .before .before .before .before .before .before
+
+abbrev placing : tie.After-move-of → tie.After-place-in
+placing n = n .before .before .before .before .before .before .before
+
+abbrev moving : tie.After-apply-in-arg6 → tie.After-move-of
+moving c = c .before .before .before .before .before .before
+
+abbrev applying : tie.After-settle-msirp → tie.After-apply-in
+applying c = c .before .before .before .before .before .before .before .before .before
+
+abbrev made : tie.After-settle-msirp → tie.After-make-in
+made c = making (placing (moving (applying c .before)))
+
+-- the world with the twilight point made
+abbrev madeWorld : tie.After-make-in → World
+madeWorld m = let l = m .make-in .last .1 .1 .1 .1 in let a = started (indexed (reached m)) .args in
+    world (a .s) (now (a .gx)) (now (a .gy)) (now (a .gflags)) (l .0) (l .1 .0) (l .1 .1 .0) (l .1 .1 .1 .0) (now (a .tflags))
+
+refused-requires : tie.Need-refused-requires
+refused-requires c κs = tt
+
+returns : tie.Need-returns
+returns c = let i = c .before in let s = i .before .before .before in
+    λ f. msirp-missing f (s .args .opcode) (now (s .args .operands)) (entry s) (i .if1 .taken) (ap (into (entry s)) (c .refused .ensures))
+
+coordinate-or-0-requires : tie.Need-coordinate-or-0-requires
+coordinate-or-0-requires c κs = tt
+
+index-at-requires : tie.Need-index-at-requires
+index-at-requires c κs = tt
+
+reach-requires : tie.Need-reach-requires
+reach-requires c κs = tt
+
+enum-known-there : tie.Need-enum-known-there
+enum-known-there c = c .match .keys1
+
+pass-over-requires : tie.Need-pass-over-requires
+pass-over-requires c κs = tt
+
+enum-told : tie.Need-enum-told
+enum-told c = c .match .keys2
+
+make-in-requires : tie.Need-make-in-requires
+make-in-requires c κs = tt
+
+place-in-requires : tie.Need-place-in-requires
+place-in-requires c κs = tt
+
+place-in-requires-2 : tie.Need-place-in-requires-2
+place-in-requires-2 c κs = tt
+
+distance-left-requires : tie.Need-distance-left-requires
+distance-left-requires c κs = tt
+
+move-of-requires : tie.Need-move-of-requires
+move-of-requires c κs = tt
+
+apply-in-requires : tie.Need-apply-in-requires
+apply-in-requires c κs = let m = making (placing (moving c)) in let p = started (indexed (reached m)) .pre in let tx = m .make-in .kept .1 .1 .1 .1 .1 .1 .0 in
+    (p .0, p .1, m .make-in .kept .1 .1 .1 .1 .1 .1 .1 .0 ∙ p .2 ∙ sym tx, p .3 ∙ sym tx)
+
+settle-msirp-requires : tie.Need-settle-msirp-requires
+settle-msirp-requires c κs = tt
+
+returns-2 : tie.Need-returns-2
+returns-2 c = let t = c .before .before in let k = t .before .before in let i = indexed k in let d = i .before in let s = started i in
+    λ f. msirp-passed f (s .args .opcode) (now (s .args .operands)) (entry s) (d .before .if1 .left)
+    (back32 (d .coordinate-or-0 .result) (d .coordinate-or-0 .ok) ∙ d .coordinate-or-0 .ensures)
+    (i .index-at .ensures)
+    (k .reach .ensures)
+    (t .there .given .1)
+    (c .pass-over .ensures (entry s))
+
+same-length : tie.Need-same-length
+same-length c = applying c .apply-in .kept .1 .1 .1 .0
+
+same-length-2 : tie.Need-same-length-2
+same-length-2 c = applying c .apply-in .kept .1 .1 .1 .1 .0
+
+same-length-3 : tie.Need-same-length-3
+same-length-3 c = applying c .apply-in .kept .1 .1 .1 .1 .1 .0
+
+same-length-4 : tie.Need-same-length-4
+same-length-4 c = made c .make-in .kept .1 .1 .1 .1 .0
+
+same-length-5 : tie.Need-same-length-5
+same-length-5 c = made c .make-in .kept .1 .1 .1 .1 .1 .0
+
+same-length-6 : tie.Need-same-length-6
+same-length-6 c = applying c .apply-in .kept .1 .1 .1 .1 .1 .1 .0 ∙ made c .make-in .kept .1 .1 .1 .1 .1 .1 .0
+
+same-length-7 : tie.Need-same-length-7
+same-length-7 c = applying c .apply-in .kept .1 .1 .1 .1 .1 .1 .1 .0 ∙ made c .make-in .kept .1 .1 .1 .1 .1 .1 .1 .0
+
+same-length-8 : tie.Need-same-length-8
+same-length-8 c = applying c .apply-in .kept .1 .1 .1 .1 .1 .1 .1 .1 .0
+
+returns-3 : tie.Need-returns-3
+returns-3 c = let a = applying c in let n = moving (a .before) in let l = n .before in let o = l .before in let p = placing n in let m = making p in let e = m .before .before .before .before .before in let k = reached m in let i = indexed k in let d = i .before in let s = started i in
+    λ f. msirp-moved f (s .args .opcode) (now (s .args .operands)) (entry s) (d .before .if1 .left)
+    (back32 (d .coordinate-or-0 .result) (d .coordinate-or-0 .ok) ∙ d .coordinate-or-0 .ensures)
+    (i .index-at .ensures)
+    (k .reach .ensures)
+    (madeWorld m)
+    (e .enum-told .given .1)
+    (m .make-in .ensures (s .args .s) (now (s .args .gx)) (now (s .args .gy)) (now (s .args .gflags)) (now (s .args .tflags)))
+    (p .place-in .ensures)
+    (o .place-in2 .ensures)
+    (back32 (l .distance-left .result) (l .distance-left .ok) ∙ l .distance-left .ensures)
+    (n .move-of .ensures)
+    (a .apply-in .ensures)
+    (c .settle-msirp .ensures (withPoints (madeWorld m) (bothMoved (a .apply-in .result) _ _ _ _ _ _)))
+
+pub msirp-spec : {M : Type 1} → statement M
+msirp-spec =
+    tie.close
+    (tie.spec
+    refused-requires
+    returns
+    coordinate-or-0-requires
+    index-at-requires
+    reach-requires
+    enum-known-there
+    pass-over-requires
+    enum-told
+    make-in-requires
+    place-in-requires
+    place-in-requires-2
+    distance-left-requires
+    move-of-requires
+    apply-in-requires
+    settle-msirp-requires
+    returns-2
+    same-length
+    same-length-2
+    same-length-3
+    same-length-4
+    same-length-5
+    same-length-6
+    same-length-7
+    same-length-8
+    returns-3)

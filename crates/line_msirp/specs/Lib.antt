@@ -1,0 +1,2 @@
+pub mod Msirp
+pub mod Steps

@@ -1,0 +1,200 @@
+// MSIRP (0x3A, 0x3B), which brings a point to a distance from another: engine/outline.rs.
+//
+// Pops the distance, then the point, in zp1; reads rp0, in zp0; sets rp1 and rp2, and rp0 where the opcode is odd. Refused: a missing operand; then, where
+// the state is pedantic, the first of the two points that is outside: rp0 before a twilight point, a glyph point before rp0. Where it isn't the line is
+// passed over. Either way nothing is changed. OpenType's MSIRP, FreeType's Ins_MSIRP. `msirp` is one equation with `msirpOf`, for every content of
+// the lists that it isn't lent; it asks that the lists of each zone share one length, and nothing else.
+use answer::Call;
+use answer::Refusal;
+use graphics::GraphicsState;
+use graphics::Vector;
+use graphics::Vectors;
+use graphics::ZonePointer;
+use int::wrapping_add;
+use int::wrapping_sub;
+use line::Stepped;
+use line::done;
+use line::refused;
+use moves::apply_in;
+use moves::move_of;
+use moves::original_move_of;
+use places::index_at;
+use places::is_odd;
+use places::place_at;
+use places::place_in;
+use places::put_at;
+use places::size_of;
+use projection::project;
+use zone::coordinate_or_0;
+ghost use mathlib.Core.Path.{_≡_};
+ghost use mathlib.Core.Bool.{cond};
+ghost use mathlib.Core.List.{List};
+ghost use Prim.Native.Nat.{ℕ};
+ghost use lib.IntN.{ℤ};
+ghost use lib.ListN.{length};
+ghost use Rattle.graphics.specs.declared.GraphicsState.{GraphicsState};
+ghost use Rattle.int.specs.Word.{add32, sub32};
+ghost use Rattle.projection.specs.Projection.{projectOf};
+ghost use Rattle.world.specs.World.{Fixed, World, lined, world};
+ghost use Rattle.zone.specs.Zone.{placeOf};
+ghost use Rattle.line_steps.specs.Steps.{byCall, doneIn, inState, into, madeIn, passedOver};
+ghost use Rattle.line_msirp.specs.Msirp.{madePlace, msirpOf, referencesAfter};
+ghost use Rattle.line_msirp.specs.Steps.{bothInside, reachOf};
+
+// ---- whether its two points are there
+// The first is looked at first.
+fn both_inside(first: u64, firsts: usize, second: u64, seconds: usize) -> Call
+    ensures { λ r. ⌜ r ≡ bothInside first firsts second seconds ⌝ }
+{
+    let i = first as usize;
+    let j = second as usize;
+    if firsts <= i {
+        return Call::Refused(Refusal::Point(first));
+    }
+    if seconds <= j {
+        return Call::Refused(Refusal::Point(second));
+    }
+    Call::Done
+}
+
+// rp0 is looked at first where the point is in twilight, else the point.
+fn reach(
+    zone: ZonePointer,
+    at: u64,
+    other: ZonePointer,
+    reference: u64,
+    glyph: usize,
+    twilight: usize,
+) -> Call
+    ensures { λ r. ⌜ r ≡ reachOf at other reference glyph twilight zone ⌝ }
+{
+    let others = size_of(other, glyph, twilight);
+    match zone {
+        ZonePointer::Glyph => both_inside(at, glyph, reference, others),
+        ZonePointer::Twilight => both_inside(reference, others, at, twilight),
+    }
+}
+
+// Where a point is outside, the line is refused if pedantic, else passed over.
+fn pass_over(s: GraphicsState, why: Refusal) -> Stepped
+    ensures { λ r. ⌜ ((w : World) → into w r ≡ passedOver (inState w s) why) ⌝ }
+{
+    let facts = s.facts;
+    if facts.pedantic {
+        refused(s, why)
+    } else {
+        done(s)
+    }
+}
+
+// ---- the twilight point
+fn moved_by(moves: bool, z: i32, by: i32) -> i32
+    ensures { λ r. ⌜ r ≡ cond moves (add32 z by) z ⌝ }
+{
+    if moves { wrapping_add(z, by) } else { z }
+}
+
+// Where a twilight point is made: its own original, moved. No other function reads an original.
+fn made_place(v: Vectors, distance: i32, at: u64, tox: &[i32], toy: &[i32]) -> Vector
+    ensures { λ r. ⌜ r ≡ madePlace v distance (placeOf (now (tox .entry)) (now (toy .entry)) at) ⌝ }
+{
+    let original = place_at(tox, toy, at);
+    let m = original_move_of(v, distance);
+    let x = moved_by(m.moves_x, original.x, m.dx);
+    let y = moved_by(m.moves_y, original.y, m.dy);
+    Vector { x, y }
+}
+
+// A twilight point and its original, made; a glyph's point is left.
+fn make_in(
+    zone: ZonePointer,
+    v: Vectors,
+    distance: i32,
+    at: u64,
+    tox: &mut [i32],
+    toy: &mut [i32],
+    tx: &mut [i32],
+    ty: &mut [i32],
+)
+    ensures { λ _. ⌜ ((s : GraphicsState) (gx gy : List ℤ) (gflags tflags : List ℕ) → world s gx gy gflags (now (tox .exit)) (now (toy .exit)) (now (tx .exit)) (now (ty .exit)) tflags ≡ madeIn at (madePlace v distance (placeOf (now (tox .entry)) (now (toy .entry)) at)) (world s gx gy gflags (now (tox .entry)) (now (toy .entry)) (now (tx .entry)) (now (ty .entry)) tflags) zone) ⌝ }
+{
+    match zone {
+        ZonePointer::Glyph => {}
+        ZonePointer::Twilight => {
+            let place = made_place(v, distance, at, tox, toy);
+            put_at(place, at, tox, toy);
+            put_at(place, at, tx, ty);
+        }
+    }
+}
+
+// ---- the move
+// From the distance that there is to the distance that is wanted.
+fn distance_left(v: Vectors, distance: i32, place: Vector, reference: Vector) -> i32
+    ensures { λ r. ⌜ r ≡ sub32 distance (projectOf v place reference) ⌝ }
+{
+    wrapping_sub(distance, project(v, place, reference))
+}
+
+// rp1 and rp2 set, and rp0 by an odd opcode.
+fn references_after(s: GraphicsState, opcode: usize, at: u64) -> GraphicsState
+    ensures { λ r. ⌜ r ≡ referencesAfter s opcode at ⌝ }
+{
+    let references = s.references;
+    let t = s.with_rp1(references.rp0).with_rp2(at);
+    if is_odd(opcode) { t.with_rp0(at) } else { t }
+}
+
+// What the line comes to once the point was moved.
+fn settle_msirp(s: GraphicsState, opcode: usize, at: u64, call: Call) -> Stepped
+    ensures { λ r. ⌜ ((w : World) → into w r ≡ byCall (inState w s) (λ (v : World). doneIn (inState v (referencesAfter s opcode at))) call) ⌝ }
+{
+    match call {
+        Call::Done => done(references_after(s, opcode, at)),
+        Call::Refused(why) => refused(s, why),
+    }
+}
+
+// ---- the line
+// MSIRP: a distance, and the point, in zp1; rp0 is in zp0, and read after the point is made, since it may be the very point.
+pub fn msirp(
+    s: GraphicsState,
+    opcode: usize,
+    operands: &[i32],
+    gx: &mut [i32],
+    gy: &mut [i32],
+    gflags: &mut [u8],
+    tox: &mut [i32],
+    toy: &mut [i32],
+    tx: &mut [i32],
+    ty: &mut [i32],
+    tflags: &mut [u8],
+) -> Stepped
+    requires { ⌜ (length (now gy) ≡ length (now gx)) × (length (now gflags) ≡ length (now gx)) × (length (now ty) ≡ length (now tx)) × (length (now tflags) ≡ length (now tx)) ⌝ }
+    ensures { λ r. ⌜ ((f : Fixed) → lined r (now (gx .exit)) (now (gy .exit)) (now (gflags .exit)) (now (tox .exit)) (now (toy .exit)) (now (tx .exit)) (now (ty .exit)) (now (tflags .exit)) ≡ msirpOf f opcode (now (operands .entry)) (world s (now (gx .entry)) (now (gy .entry)) (now (gflags .entry)) (now (tox .entry)) (now (toy .entry)) (now (tx .entry)) (now (ty .entry)) (now (tflags .entry)))) ⌝ }
+{
+    if operands.len() < 2 {
+        return refused(s, Refusal::Missing);
+    }
+    let distance = coordinate_or_0(operands, 0);
+    let at = index_at(operands, 1);
+    let vectors = s.vectors;
+    let pointers = s.pointers;
+    let references = s.references;
+    let zp0 = pointers.zp0;
+    let zp1 = pointers.zp1;
+    let rp0 = references.rp0;
+    let there = reach(zp1, at, zp0, rp0, gx.len(), tx.len());
+    match there {
+        Call::Refused(why) => pass_over(s, why),
+        Call::Done => {
+            make_in(zp1, vectors, distance, at, tox, toy, tx, ty);
+            let place = place_in(zp1, at, gx, gy, tx, ty);
+            let reference = place_in(zp0, rp0, gx, gy, tx, ty);
+            let by = distance_left(vectors, distance, place, reference);
+            let m = move_of(vectors, s.facts, by);
+            let call = apply_in(zp1, m, at, gx, gy, gflags, tx, ty, tflags);
+            settle_msirp(s, opcode, at, call)
+        }
+    }
+}

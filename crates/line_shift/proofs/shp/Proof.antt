@@ -1,0 +1,116 @@
+-- `line_shift::shp` meets its contract: by whether the reference point is refused; else the loop is what `shift_in` ensures. Assumes nothing.
+use Prim.Native.Nat.{ℕ}
+use mathlib.Core.List.{List}
+use mathlib.Core.Path.{ap, refl}
+use native.Mathlib.Omega.{arith}
+use denote.Ref.{now}
+use lib.IntN.{ℤ}
+use Rattle.graphics.specs.declared.GraphicsState.{GraphicsState}
+use Rattle.int.proofs.Words.{back32}
+use Rattle.line_steps.specs.Steps.{into}
+use Rattle.world.specs.World.{Fixed, World, fixed, world}
+use Rattle.line_shift.proofs.Cases.{shp-refused, shp-shifted}
+use Rattle.line_shift.proofs.shp.Statement.{statement}
+use Rattle.line_shift.proofs.shp.Tie as tie
+
+-- the world that the line starts in, and what it only reads
+abbrev entry : tie.Start → World
+entry s = let a = s .args in
+    world (a .s) (now (a .gx)) (now (a .gy)) (now (a .gflags)) (now (a .tox)) (now (a .toy)) (now (a .tx)) (now (a .ty)) (now (a .tflags))
+
+abbrev held : tie.Start → List ℤ → List ℤ → List ℤ → List ℕ → Fixed
+held s controls gux guy contours = fixed controls gux guy (now (s .args .gox)) (now (s .args .goy)) contours
+
+reference-of-requires : tie.Need-reference-of-requires
+reference-of-requires c κs = tt
+
+displaced-in-requires : tie.Need-displaced-in-requires
+displaced-in-requires c κs = let p = c .before .before .before .before .before .before .before .before .before .before .pre in (p .0, p .1, p .3, p .4)
+
+enum-known-displaced : tie.Need-enum-known-displaced
+enum-known-displaced c = c .match .keys1
+
+refused-requires : tie.Need-refused-requires
+refused-requires c κs = tt
+
+enum-known-displaced-2 : tie.Need-enum-known-displaced-2
+enum-known-displaced-2 c = c .match .keys2
+
+zp2-move-of-requires : tie.Need-zp2-move-of-requires
+zp2-move-of-requires c κs = tt
+
+shift-in-requires : tie.Need-shift-in-requires
+shift-in-requires c κs = let p = c .before .before .before .before .before .before .before .before .before .before .before .before .before .before .before .before .before .before .before .before .before .before .before .pre in (p .1, p .2, p .4, p .5)
+
+reset-loop-counter-requires : tie.Need-reset-loop-counter-requires
+reset-loop-counter-requires c κs = tt
+
+same-length : tie.Need-same-length
+same-length c = refl
+
+same-length-2 : tie.Need-same-length-2
+same-length-2 c = refl
+
+same-length-3 : tie.Need-same-length-3
+same-length-3 c = refl
+
+same-length-4 : tie.Need-same-length-4
+same-length-4 c = refl
+
+returns : tie.Need-returns
+returns c = let f = c .before .before in let x = f .before .before in let r = x .before .before .before .before .before in let s = r .before .before .before .before .before .before in
+    λ controls gux guy contours. shp-refused (held s controls gux guy contours) (s .args .opcode) (now (s .args .operands)) (entry s) (r .reference-of .ensures) (x .displaced-in .ensures)
+    (f .displaced .given .1) (ap (into (entry s)) (c .refused .ensures))
+
+same-length-5 : tie.Need-same-length-5
+same-length-5 c = c .before .before .before .before .before .before .before .before .before .shift-in .kept .1 .1 .1 .1 .0
+
+same-length-6 : tie.Need-same-length-6
+same-length-6 c = c .before .before .before .before .before .before .before .before .before .shift-in .kept .1 .1 .1 .1 .1 .0
+
+same-length-7 : tie.Need-same-length-7
+same-length-7 c = c .before .before .before .before .before .before .before .before .before .shift-in .kept .1 .1 .1 .1 .1 .1 .0
+
+same-length-8 : tie.Need-same-length-8
+same-length-8 c = c .before .before .before .before .before .before .before .before .before .shift-in .kept .1 .1 .1 .1 .1 .1 .1 .0
+
+same-length-9 : tie.Need-same-length-9
+same-length-9 c = c .before .before .before .before .before .before .before .before .before .shift-in .kept .1 .1 .1 .1 .1 .1 .1 .1 .0
+
+same-length-10 : tie.Need-same-length-10
+same-length-10 c = c .before .before .before .before .before .before .before .before .before .shift-in .kept .1 .1 .1 .1 .1 .1 .1 .1 .1 .0
+
+returns-2 : tie.Need-returns-2
+returns-2 c = let t = c .before .before .before .before .before .before .before .before .before in let m = t .before .before .before .before .before .before .before in let f = m .before .before .before .before in let x = f .before .before in let r = x .before .before .before .before .before in let s = r .before .before .before .before .before .before in
+    λ controls gux guy contours. shp-shifted (held s controls gux guy contours) (s .args .opcode) (now (s .args .operands)) (entry s) (r .reference-of .ensures) (x .displaced-in .ensures)
+    (f .displaced2 .given .1)
+    (m .zp2-move-of .ensures)
+    (back32 _ (omega (arith, m .before .before .struct-told .given .1 .1 .0)))
+    (back32 _ (omega (arith, m .before .struct-told2 .given .1 .1 .1 .0)))
+    (ap (λ (s : GraphicsState). record { call = t .shift-in .result; state = s }) (c .reset-loop-counter .ensures))
+    (t .shift-in .ensures)
+
+pub shp-spec : {M : Type 1} → statement M
+shp-spec =
+    tie.close
+    (tie.spec
+    reference-of-requires
+    displaced-in-requires
+    enum-known-displaced
+    refused-requires
+    enum-known-displaced-2
+    zp2-move-of-requires
+    shift-in-requires
+    reset-loop-counter-requires
+    same-length
+    same-length-2
+    same-length-3
+    same-length-4
+    returns
+    same-length-5
+    same-length-6
+    same-length-7
+    same-length-8
+    same-length-9
+    same-length-10
+    returns-2)

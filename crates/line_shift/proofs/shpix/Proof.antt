@@ -1,0 +1,104 @@
+-- `line_shift::shpix` meets its contract: by backward compatibility and by whether there is an operand; else the loop is what `shift_in` ensures, over the operands behind
+-- the amount. Assumes nothing.
+use mathlib.Core.List.{List}
+use mathlib.Core.Path.{ap, _∙_}
+use native.Mathlib.Omega.{arith}
+use borrow.Author.Needs.{needs}
+use denote.Ref.{now}
+use lib.IntN.{ℤ}
+use Rattle.graphics.specs.declared.GraphicsState.{GraphicsState}
+use Rattle.int.proofs.Words.{back32}
+use Rattle.line_steps.specs.Steps.{into}
+use Rattle.world.specs.World.{World, world}
+use Rattle.line_shift.proofs.Cases.{amount-first, compatible, no-amount}
+use Rattle.line_shift.proofs.shpix.Statement.{statement}
+use Rattle.line_shift.proofs.shpix.Tie as tie
+
+-- the world that the line starts in, with any original twilight points
+abbrev entry : tie.Start → List ℤ → List ℤ → World
+entry s tox toy = let a = s .args in
+    world (a .s) (now (a .gx)) (now (a .gy)) (now (a .gflags)) tox toy (now (a .tx)) (now (a .ty)) (now (a .tflags))
+
+refused-requires : tie.Need-refused-requires
+refused-requires c κs = tt
+
+returns : tie.Need-returns
+returns c = let i = c .before in let s = i .before .before .before .before .before .before in
+    λ f opcode tox toy. compatible f opcode (now (s .args .operands)) (entry s tox toy) (i .if1 .taken) (ap (into (entry s tox toy)) (c .refused .ensures))
+
+refused-requires-2 : tie.Need-refused-requires-2
+refused-requires-2 c κs = tt
+
+returns-2 : tie.Need-returns-2
+returns-2 c = let j = c .before in let i = j .before in let s = i .before .before .before .before .before .before in
+    λ f opcode tox toy. no-amount f opcode (now (s .args .operands)) (entry s tox toy) (i .if1 .left) (j .if2 .taken) (ap (into (entry s tox toy)) (c .refused2 .ensures))
+
+shared-slice-copy-out-pixel-move : tie.Need-shared-slice-copy-out-pixel-move
+shared-slice-copy-out-pixel-move c = search needs
+
+pixel-move-requires : tie.Need-pixel-move-requires
+pixel-move-requires c κs = tt
+
+sub-shift-in : tie.Need-sub-shift-in
+sub-shift-in c = search needs
+
+part-shift-in-start : tie.Need-part-shift-in-start
+part-shift-in-start c = search needs
+
+part-shift-in-end : tie.Need-part-shift-in-end
+part-shift-in-end c = search needs
+
+shift-in-requires : tie.Need-shift-in-requires
+shift-in-requires c κs = search needs
+
+reset-loop-counter-requires : tie.Need-reset-loop-counter-requires
+reset-loop-counter-requires c κs = tt
+
+same-length : tie.Need-same-length
+same-length c = c .before .before .before .before .before .before .before .before .before .shift-in .kept .1 .1 .1 .1 .0
+
+same-length-2 : tie.Need-same-length-2
+same-length-2 c = c .before .before .before .before .before .before .before .before .before .shift-in .kept .1 .1 .1 .1 .1 .0
+
+same-length-3 : tie.Need-same-length-3
+same-length-3 c = c .before .before .before .before .before .before .before .before .before .shift-in .kept .1 .1 .1 .1 .1 .1 .0
+
+same-length-4 : tie.Need-same-length-4
+same-length-4 c = c .before .before .before .before .before .before .before .before .before .shift-in .kept .1 .1 .1 .1 .1 .1 .1 .0
+
+same-length-5 : tie.Need-same-length-5
+same-length-5 c = c .before .before .before .before .before .before .before .before .before .shift-in .kept .1 .1 .1 .1 .1 .1 .1 .1 .0
+
+same-length-6 : tie.Need-same-length-6
+same-length-6 c = c .before .before .before .before .before .before .before .before .before .shift-in .kept .1 .1 .1 .1 .1 .1 .1 .1 .1 .0
+
+returns-3 : tie.Need-returns-3
+returns-3 c = let t = c .before .before .before .before .before .before .before .before .before in let m = t .before .before .before .before .before .before .before .before in let j = m .before .before in let i = j .before in let s = i .before .before .before .before .before .before in
+    λ f opcode tox toy. amount-first f opcode (now (s .args .operands)) (entry s tox toy) (i .if1 .left) (omega (arith, j .if2 .left))
+    (m .pixel-move .ensures)
+    (back32 _ (m .before .pixel-move-arg .given))
+    (ap (λ (s : GraphicsState). record { call = t .shift-in .result; state = s }) (c .reset-loop-counter .ensures))
+    (t .shift-in .ensures)
+
+pub shpix-spec : {M : Type 1} → statement M
+shpix-spec =
+    tie.close
+    (tie.spec
+    refused-requires
+    returns
+    refused-requires-2
+    returns-2
+    shared-slice-copy-out-pixel-move
+    pixel-move-requires
+    sub-shift-in
+    part-shift-in-start
+    part-shift-in-end
+    shift-in-requires
+    reset-loop-counter-requires
+    same-length
+    same-length-2
+    same-length-3
+    same-length-4
+    same-length-5
+    same-length-6
+    returns-3)

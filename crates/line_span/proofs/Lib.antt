@@ -1,0 +1,3 @@
+pub mod Bridge
+mod Cases
+mod Walk

@@ -1,0 +1,4 @@
+pub mod Bridge
+pub mod Laws
+pub mod Walk
+pub mod Zones

@@ -1,3 +1,0 @@
-pub mod Cases
-pub mod Keeps
-pub mod Walk

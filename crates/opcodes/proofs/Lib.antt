@@ -1,0 +1,3 @@
+pub mod Entries
+pub mod Lines
+pub mod Rows

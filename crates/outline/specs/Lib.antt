@@ -1,2 +1,0 @@
-pub mod Absolute
-pub mod Numbers

@@ -1,2 +1,0 @@
-pub mod Setters
-pub mod Table

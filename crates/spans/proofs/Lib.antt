@@ -1,3 +1,0 @@
-mod Cases
-pub mod Keeps
-mod Walk
