@@ -4,7 +4,7 @@
 // and their touch flags, and the counter to 1, refused or not. Refused, at each point in this order: where an operand is missing, at the point, at rp0; the points before it
 // stay moved. `alignrp` is one equation with `alignrpOf` of specs/Alignrp.antt, for every content of the lists that it isn't lent; that each zone's lists share one
 // length is asked of the caller, and nothing of operands, references or the state. More operands than the counter says are left alone: refusing such a line (answer 5) is
-// the crate sheet's.
+// the crate opcodes'.
 use answer::Call;
 use answer::Refusal;
 use graphics::GraphicsState;

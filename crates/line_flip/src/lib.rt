@@ -5,7 +5,7 @@
 // operand is missing, at the point; the points before it stay flipped. FLIPRGON and FLIPRGOFF pop the high point and then the low one, both of the range. Refused in
 // this order: where an operand is missing, at the range. Past both IUPs none of them looks at a point. Each reads the glyph's flags and sets those of its points, whatever the
 // zone pointers are. `flippt` and `fliprg` are each one equation with a definition of specs/Flip.antt, for every content of the lists that they aren't lent. Nothing is
-// asked of operands, flags or state. More operands than are popped are left alone: refusing such a line (answer 5) is the crate sheet's.
+// asked of operands, flags or state. More operands than are popped are left alone: refusing such a line (answer 5) is the crate opcodes'.
 use answer::Call;
 use answer::Refusal;
 use graphics::Facts;

@@ -5,7 +5,7 @@
 // point beyond the zone, with the points before it shifted. OpenType's SHC and SHZ, FreeType's Ins_SHC and Ins_SHZ, and engine/outline.rs.
 //
 // `shc` and `shz` are each one equation with a definition of specs/Shc.antt, for every content of the lists that they aren't lent. That each zone's lists share one length is asked of the
-// caller; nothing is asked of operands, contour ends, references or the state. More operands than one are left alone: refusing such a line (answer 5) is the crate sheet's.
+// caller; nothing is asked of operands, contour ends, references or the state. More operands than one are left alone: refusing such a line (answer 5) is the crate opcodes'.
 use answer::Refusal;
 use graphics::GraphicsState;
 use line::Stepped;

@@ -5,7 +5,7 @@
 // compatibility, where the Rust goes on (docs/DIFFERENCES.md); at SHP's reference point, where SHPIX's amount is missing; these leave the counter. Then, at each point: where an
 // operand is missing, at the point; the points before it stay moved, and the counter is 1. `shp` and `shpix` are each one equation with a definition of
 // specs/Shift.antt, for every content of the lists that they aren't lent. That each zone's lists share one length is asked of the caller, and nothing of operands, references
-// or the state. More operands than are popped are left alone: refusing such a line (answer 5) is the crate sheet's.
+// or the state. More operands than are popped are left alone: refusing such a line (answer 5) is the crate opcodes'.
 use answer::Call;
 use answer::Refusal;
 use graphics::Facts;

@@ -1,3 +1,2 @@
 pub mod Lines
-pub mod Placed
 pub mod Places

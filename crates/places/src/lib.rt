@@ -1,8 +1,7 @@
 // What the lines share: operands as indices, and points read and put, also in the zone that a pointer names.
 //
 // Each contract is one equation with a definition of specs/, which says what is answered and what every lent list holds afterwards. `fetch_in`
-// asks that a zone's two lists share one length; nothing else is asked. specs/Placed.antt has the records in which the lines' definitions say
-// what they leave.
+// asks that a zone's two lists share one length; nothing else is asked.
 use graphics::Vector;
 use graphics::ZonePointer;
 use int::as_index;
