@@ -17,7 +17,7 @@ def product():
     deps = dependencies()
 
     def outside(name):
-        return name in ("cases", "tally", "libc") or any(outside(d) for d in deps.get(name, []))
+        return name in ("test_cases", "test_tally", "libc") or any(outside(d) for d in deps.get(name, []))
     return [name for name in deps if not outside(name)]
 
 
@@ -50,8 +50,8 @@ def calls(crate):
 
 
 # What users call, beside the direct calls. The calls of PURE are users' too: they are lent no list to change, but for those that are faces for that.
-FACES = {"replay": "run", "exports": "taleviqa_run", "shelf": "replay", "record_print": "print", "record": "open", "record_write": "write"}
-PURE = ("int", "math", "round", "selector", "point", "graphics", "projection", "state_words")
+FACES = {"replay": "run", "exports": "taleviqa_run", "record_replay": "replay", "record_print": "print", "record_read": "open", "record_write": "write"}
+PURE = ("int", "math", "round", "super_round", "flags", "graphics", "projection", "state_words")
 
 
 def is_direct(call):

@@ -13,7 +13,7 @@ use line_isect::isect;
 use line_iup::iup;
 use line_set::set_state;
 ghost use mathlib.Core.Path.{_≡_};
-ghost use Rattle.world.specs.World.{Alike, fixed, lined, world};
+ghost use Rattle.line.specs.World.{Alike, fixed, lined, world};
 ghost use Rattle.opcodes.specs.Table.{lineOf};
 
 // The line of an opcode, with its operands.

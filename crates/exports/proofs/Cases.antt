@@ -10,9 +10,9 @@ use lib.IntN.{ℤ}
 use lib.ListN.{length, set}
 use Rattle.graphics.proofs.Laws.{and-left, and-right}
 use Rattle.graphics.specs.declared.GraphicsState.{GraphicsState}
-use Rattle.world.specs.World.{Fixed, world}
-use Rattle.onward.specs.declared.Outcome.{Outcome}
-use Rattle.onward.specs.Onward.{ran, numberOfAnswer, detailOfAnswer}
+use Rattle.line.specs.World.{Fixed, world}
+use Rattle.run_lines.specs.declared.Outcome.{Outcome}
+use Rattle.run_lines.specs.Onward.{ran, numberOfAnswer, detailOfAnswer}
 use Rattle.replay.specs.Run.{runOf}
 use Rattle.state_words.specs.Words.{stateSize, stateWords, stateOf, isState, written}
 use Rattle.state_words.proofs.Back.{size-is}

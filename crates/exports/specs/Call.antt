@@ -6,8 +6,8 @@ use mathlib.Core.List.{List, [], _∷_}
 use lib.Dec.{eqb}
 use lib.IntN.{ℤ}
 use lib.ListN.{length}
-use Rattle.world.specs.World.{Fixed, world}
-use Rattle.onward.specs.Onward.{Ran, numberOfAnswer, detailOfAnswer}
+use Rattle.line.specs.World.{Fixed, world}
+use Rattle.run_lines.specs.Onward.{Ran, numberOfAnswer, detailOfAnswer}
 use Rattle.replay.specs.Run.{runOf}
 use Rattle.state_words.specs.Words.{stateWords, stateOf, isState}
 

@@ -2,14 +2,14 @@
 //
 // `taleviqa_run` answers for every input, and what it returns and leaves in each list is one equation with `callOf` of specs/Call.antt. The state
 // goes in and comes back as the words of the crate state_words; words that are no state are refused with 16, and then nothing changes but the answer.
-use onward::Outcome;
 use replay::run;
+use run_lines::Outcome;
 use state_words::is_state;
 use state_words::read_state;
 use state_words::write_state;
 ghost use mathlib.Core.Path.{_≡_};
-ghost use Rattle.world.specs.World.{fixed};
-ghost use Rattle.onward.specs.Onward.{numberOfAnswer, detailOfAnswer};
+ghost use Rattle.line.specs.World.{fixed};
+ghost use Rattle.run_lines.specs.Onward.{numberOfAnswer, detailOfAnswer};
 ghost use Rattle.exports.specs.Call.{answered, badWord, isCall, left, callOf};
 
 // The answer's places: number, place, lines and detail.

@@ -16,7 +16,7 @@ use Rattle.iup.proofs.Turn.{read-place, front-is, sizes}
 use Rattle.iup.specs.Contour.{Point, displacement, touchedOf, lastOf, spread, shifted, currentOf, byTouched, contourOf}
 use Rattle.iup.specs.Parts.{marks, ahead, upToLast, placeAt}
 use Rattle.iup.specs.declared.Place.{Place}
-use Rattle.point.specs.Flag.{hasAny}
+use Rattle.flags.specs.Flag.{hasAny}
 
 -- ---- untouched points
 front-clear-by : (p : Point) (ps : List Point) (t : Bool) → p .touched ≡ t → touchedOf (take (front ps) ps) ≡ [] → touchedOf (take (front (p ∷ ps)) (p ∷ ps)) ≡ []

@@ -16,9 +16,9 @@ use Rattle.iup.proofs.Walks.{past-le}
 use Rattle.iup.specs.Contour.{Point, displacement, between, touchedOf, headOr, lastOf, spread, shifted, currentOf, byTouched, contourOf, points}
 use Rattle.iup.specs.Iup.{past, walkOf, reached, iupOf}
 use Rattle.iup.specs.declared.Place.{Place}
-use Rattle.point.specs.Axis.{touchBit}
-use Rattle.point.specs.Flag.{hasAny}
-use Rattle.point.specs.declared.Axis.{Axis}
+use Rattle.flags.specs.Axis.{touchBit}
+use Rattle.flags.specs.Flag.{hasAny}
+use Rattle.flags.specs.declared.Axis.{Axis}
 
 -- as many coordinates as points, and each touched point's is its own
 pub data Keeps : List Point → List ℤ → Type 0 where

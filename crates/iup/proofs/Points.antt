@@ -9,7 +9,7 @@ use lib.IntN.{ℤ}
 use lib.ListN.{length, take, drop}
 use Rattle.iup.specs.Contour.{Point, currentOf, points}
 use Rattle.iup.specs.Parts.{marks}
-use Rattle.point.specs.Flag.{hasAny}
+use Rattle.flags.specs.Flag.{hasAny}
 
 abbrev pub unscaledOf : List Point → List ℤ
 unscaledOf ps = map (λ p. p .place .unscaled) ps

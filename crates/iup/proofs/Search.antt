@@ -9,7 +9,7 @@ use native.Mathlib.Numerals.{add-one}
 use lib.ListN.{length, take, drop, getD, length-take, length-drop, length-map, drop-of-length-le}
 use lib.Seq.{drop-cons}
 use Rattle.iup.specs.Parts.{marks, ahead, oneMore, upToLast}
-use Rattle.point.specs.Flag.{hasAny}
+use Rattle.flags.specs.Flag.{hasAny}
 
 module _ (mask : ℕ) (fs : List ℕ) (i : ℕ) where
   pub ahead-hit : i < length fs → hasAny (getD fs i 0) mask ≡ true → i ≡ i + ahead (marks mask (drop i fs))

@@ -13,7 +13,7 @@ use Rattle.iup.proofs.Spread.{both-is, front, headPlace, ahead-is, goBe
 use Rattle.iup.specs.Contour.{Point, touchedOf, headOr, spread, currentOf}
 use Rattle.iup.specs.Parts.{marks, ahead, placeAt, byReferences, both}
 use Rattle.iup.specs.declared.Place.{Place}
-use Rattle.point.specs.Flag.{hasAny}
+use Rattle.flags.specs.Flag.{hasAny}
 
 getD-head : {A : Type 0} (i : ℕ) (l : List A) (d : A) → getD l i d ≡ getD (drop i l) 0 d
 getD-head zero l d = refl

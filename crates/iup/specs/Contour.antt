@@ -7,7 +7,7 @@ use lib.IntN.{ℤ}
 use lib.Signed.{leZ}
 use Rattle.int.specs.Word.{add32, sub32, eqZ}
 use Rattle.math.specs.Fixed.{mulFix, divFix}
-use Rattle.point.specs.Flag.{hasAny}
+use Rattle.flags.specs.Flag.{hasAny}
 use Rattle.iup.specs.declared.Place.{Place}
 
 -- a point of the contour: its three coordinates, and whether it is touched on this axis

@@ -10,8 +10,8 @@ use Rattle.answer.specs.declared.Call.{Call}
 use Rattle.answer.specs.declared.Call.the-variants.{Done, Refused}
 use Rattle.answer.specs.declared.Refusal.the-variants.{Sizes, Point}
 use Rattle.limits.specs.Limits.{mostPoints, mostContours}
-use Rattle.point.specs.Axis.{touchBit}
-use Rattle.point.specs.declared.Axis.{Axis}
+use Rattle.flags.specs.Axis.{touchBit}
+use Rattle.flags.specs.declared.Axis.{Axis}
 use Rattle.iup.specs.Contour.{currentOf, contourOf, points}
 use Rattle.iup.specs.Contour.{Point as Dot}
 

@@ -8,7 +8,7 @@ use lib.ListN.{length, getD}
 use lib.Signed.{leZ}
 use Rattle.int.specs.Word.{add32, sub32, eqZ}
 use Rattle.math.specs.Fixed.{mulFix, divFix}
-use Rattle.point.specs.Flag.{hasAny}
+use Rattle.flags.specs.Flag.{hasAny}
 use Rattle.iup.specs.Contour.{displacement}
 use Rattle.iup.specs.declared.Place.{Place}
 

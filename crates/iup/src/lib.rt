@@ -8,6 +8,8 @@
 // Not here: IUP's two marks, the other axis and the flags. Ends out of order are skipped, as in the Rust, and not refused.
 use answer::Call;
 use answer::Refusal;
+use flags::Axis;
+use flags::has_any;
 use int::at_most;
 use int::equal;
 use int::wrapping_add;
@@ -16,8 +18,6 @@ use limits::contours_fit;
 use limits::points_fit;
 use math::div;
 use math::mul;
-use point::Axis;
-use point::has_any;
 ghost use mathlib.Core.Path.{_≡_};
 ghost use mathlib.Core.Bool.{cond, _&&_};
 ghost use mathlib.Core.List.{map};

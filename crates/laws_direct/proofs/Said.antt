@@ -13,8 +13,8 @@ use Rattle.answer.specs.Answer.{Said, saidOfCall}
 use Rattle.answer.specs.declared.Call.{Call}
 use Rattle.answer.specs.declared.Call.the-variants.{Done, Refused}
 use Rattle.answer.specs.declared.Refusal.the-variants.{Point, Sizes, State}
-use Rattle.point.specs.declared.Axis.{Axis}
-use Rattle.point.specs.declared.CoordAxis.{CoordAxis}
+use Rattle.flags.specs.declared.Axis.{Axis}
+use Rattle.flags.specs.declared.CoordAxis.{CoordAxis}
 use Rattle.round.specs.Round.{roundedOf, saidOfRounded, usable}
 use Rattle.round.specs.declared.RoundState.{RoundState}
 use Rattle.graphics.specs.State.{usableState}
@@ -25,7 +25,7 @@ use Rattle.graphics.specs.declared.ZonePointer.{ZonePointer}
 use Rattle.graphics.specs.declared.ZonePointer.the-variants.{Glyph, Twilight}
 use Rattle.graphics.proofs.Laws.{and-left, and-right}
 use Rattle.projection.specs.Projection.{deducedOf, dualProjectOf, measuredOf, projectOf, saidOfDeduced, saidOfMeasured}
-use Rattle.zone.specs.Direct.{tryFetchOf, tryFlipOf, trySetOnCurveOf, tryTouchOf, tryTouchedOf, tryUnscaledOf, tryUntouchOf}
+use Rattle.direct_zone.specs.Direct.{tryFetchOf, tryFlipOf, trySetOnCurveOf, tryTouchOf, tryTouchedOf, tryUnscaledOf, tryUntouchOf}
 use Rattle.zone.specs.Sizes.{flagsFit, pairFits}
 use Rattle.zone.specs.Zone.{Marked, fetchOf, markedAt, placeOf, saidOfFetched, saidOfTouched, setOnCurveOf, touchedOf}
 use Rattle.zone.specs.declared.Fetched.the-variants.{At}
@@ -35,7 +35,7 @@ use Rattle.moves.specs.Displacement.{displacedAt, displacedFrom, displacedIn, r
 use Rattle.moves.specs.Move.{isIdle, moveOf, originalMoveOf, zp2MoveOf}
 use Rattle.moves.specs.declared.Move.{Move}
 use Rattle.moves.specs.declared.Reference.{Reference}
-use Rattle.direct.specs.Direct.{displacedAfter, entryBy, moveAfter, outlineFits, pairsFit, shiftAfter, tryDisplacementOf, tryMoveOriginalOf, tryMovePointOf, tryMoveZp2Of, zonesFit, zp2After}
+use Rattle.direct_moves.specs.Direct.{displacedAfter, entryBy, moveAfter, outlineFits, pairsFit, shiftAfter, tryDisplacementOf, tryMoveOriginalOf, tryMovePointOf, tryMoveZp2Of, zonesFit, zp2After}
 use Rattle.iup.specs.Iup.{Went, iupOf, sizesFit, triedOf}
 
 -- ---- the tests, and what is said by them

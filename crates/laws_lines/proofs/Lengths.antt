@@ -13,7 +13,7 @@ use Rattle.graphics.specs.declared.ZonePointer.the-variants.{Glyph, Twilight}
 use Rattle.graphics.specs.declared.ZonePointer.{ZonePointer}
 use Rattle.int.proofs.Tests.{either}
 use Rattle.iup.proofs.Facts.{iup-length}
-use Rattle.isect.specs.Crossing.{crossingOf}
+use Rattle.crossing.specs.Crossing.{crossingOf}
 use Rattle.line_isect.specs.Isect.{isectOf, putTouched}
 use Rattle.line_iup.specs.Iup.{iupLineOf, markedFor, walkedIn}
 use Rattle.line_miap.specs.Numbers.{controlPlace}
@@ -23,11 +23,11 @@ use Rattle.moves.proofs.Keeps.{apply-lengths}
 use Rattle.moves.specs.Apply.{applyIn}
 use Rattle.moves.specs.Move.{moveOf, zp2MoveOf}
 use Rattle.moves.specs.declared.Move.{Move}
-use Rattle.places.specs.Lines.{isOdd}
-use Rattle.point.specs.Flag.{touchBits}
-use Rattle.point.specs.declared.Axis.the-variants.{X, Y}
-use Rattle.point.specs.declared.CoordAxis.the-variants.{Both}
-use Rattle.world.specs.World.{Alike, Fixed, Lined, World}
+use Rattle.line.specs.Operands.{isOdd}
+use Rattle.flags.specs.Flag.{touchBits}
+use Rattle.flags.specs.declared.Axis.the-variants.{X, Y}
+use Rattle.flags.specs.declared.CoordAxis.the-variants.{Both}
+use Rattle.line.specs.World.{Alike, Fixed, Lined, World}
 use Rattle.zone.proofs.Keeps.{change-length, marked-length, set-on-curve-length}
 use Rattle.zone.specs.Zone.{Marked, flipOf, placeOf, setOnCurveOf}
 use Rattle.laws_lines.proofs.Stays.{Stays, isect-stays, laid}

@@ -19,9 +19,9 @@ use Rattle.line_shc_shz.specs.Shc.{shcOf, shzOf}
 use Rattle.line_shift.specs.Shift.{shpOf, shpixOf}
 use Rattle.line_steps.specs.Steps.{inState}
 use Rattle.opcodes.specs.Table.{Line, lineOf, rowOf, rows}
-use Rattle.word_lists.proofs.Widths.{Every}
-use Rattle.word_lists.proofs.Widths.Every.{no-word, one-word}
-use Rattle.world.specs.World.{Alike, Fixed, World}
+use Rattle.words.proofs.Widths.{Every}
+use Rattle.words.proofs.Widths.Every.{no-word, one-word}
+use Rattle.line.specs.World.{Alike, Fixed, World}
 use Rattle.laws_lines.proofs.Lengths.{Kept, in-state-kept, isect-kept, iup-kept, kept, stays-kept}
 use Rattle.laws_lines.proofs.Rows.{RowsHave, row-has, within}
 use Rattle.laws_lines.proofs.Usable.{isect-usable, iup-usable, set-usable, stays-usable}

@@ -21,7 +21,7 @@ use Rattle.int.proofs.Tests.{either}
 use Rattle.int.specs.Word.{indexOf, neg32}
 use Rattle.line_alignrp.specs.Alignrp.{alignPoint, alignrpOf}
 use Rattle.line_flip.specs.Flip.{flipPoint, flipptOf, fliprgOf, heldFast}
-use Rattle.isect.specs.Crossing.{crossingOf}
+use Rattle.crossing.specs.Crossing.{crossingOf}
 use Rattle.line_isect.specs.Isect.{isectOf, putTouched}
 use Rattle.line_mdap.specs.Mdap.{mdapOf, outsideMdap}
 use Rattle.line_miap.specs.Miap.{miapOf}
@@ -39,12 +39,12 @@ use Rattle.moves.specs.declared.Displaced.the-variants.{Refused as RefusedDispl
 use Rattle.moves.specs.declared.Displaced.{Displaced}
 use Rattle.moves.specs.declared.Displacement.{Displacement}
 use Rattle.moves.specs.declared.Move.{Move}
-use Rattle.places.specs.Lines.{isOdd}
-use Rattle.places.specs.Places.{fetchIn, sizeOf}
+use Rattle.line.specs.Operands.{isOdd}
+use Rattle.line.specs.Places.{fetchIn, sizeOf}
 use Rattle.projection.specs.Projection.{projectOf}
-use Rattle.word_lists.proofs.Widths.{Every}
-use Rattle.word_lists.proofs.Widths.Every.{one-word}
-use Rattle.world.specs.World.{Fixed, Lined, World}
+use Rattle.words.proofs.Widths.{Every}
+use Rattle.words.proofs.Widths.Every.{one-word}
+use Rattle.line.specs.World.{Fixed, Lined, World}
 use Rattle.zone.specs.Zone.{flipOf, placeOf, setOnCurveOf}
 use Rattle.zone.specs.declared.Fetched.the-variants.{At}
 use Rattle.zone.specs.declared.Fetched.the-variants.{Refused as RefusedPlace}

@@ -15,7 +15,7 @@ use Rattle.graphics.specs.declared.ZonePointer.the-variants.{Glyph, Twilight}
 use Rattle.graphics.specs.declared.ZonePointer.{ZonePointer}
 use Rattle.int.proofs.Tests.{either}
 use Rattle.int.specs.Word.{eqZ, indexOf}
-use Rattle.isect.specs.Crossing.{crossingOf}
+use Rattle.crossing.specs.Crossing.{crossingOf}
 use Rattle.line.specs.Line.{doneWith}
 use Rattle.line.specs.declared.Stepped.{Stepped}
 use Rattle.line_isect.specs.Isect.{isectOf}
@@ -23,12 +23,12 @@ use Rattle.line_iup.specs.Iup.{iupLineOf, markedFor, walkedIn}
 use Rattle.line_miap.specs.Numbers.{controlPlace}
 use Rattle.line_msirp.specs.Msirp.{madePlace, referencesAfter}
 use Rattle.line_set.specs.Setters.{axisBy, loopBy, modeBy, onOperand, operandBy, pointerBy, referenceBy, setBy, takesOperand, vectorsBy, zoneBy}
-use Rattle.places.specs.Lines.{isOdd}
+use Rattle.line.specs.Operands.{isOdd}
 use Rattle.round.specs.Round.{usableBy}
 use Rattle.round.specs.declared.RoundMode.{RoundMode}
-use Rattle.selector.proofs.Facts.{super-usable}
-use Rattle.selector.specs.Selector.{superOf}
-use Rattle.world.specs.World.{Fixed, Lined, World}
+use Rattle.super_round.proofs.Facts.{super-usable}
+use Rattle.super_round.specs.Selector.{superOf}
+use Rattle.line.specs.World.{Fixed, Lined, World}
 use Rattle.zone.specs.Zone.{placeOf}
 use Rattle.laws_lines.proofs.Stays.{Stays, isect-stays, made-state, put-state}
 

@@ -10,8 +10,8 @@ use mathlib.Core.Path.{_∙_, _≡_, ap, sym}
 use lib.IntN.{ℤ}
 use lib.ListN.{drop, length}
 use Rattle.answer.specs.declared.Call.{Call}
-use Rattle.point.specs.declared.Axis.{Axis}
-use Rattle.point.specs.declared.CoordAxis.{CoordAxis}
+use Rattle.flags.specs.declared.Axis.{Axis}
+use Rattle.flags.specs.declared.CoordAxis.{CoordAxis}
 use Rattle.round.specs.Round.{roundedOf}
 use Rattle.round.specs.declared.RoundState.{RoundState}
 use Rattle.round.specs.declared.Rounded.{Rounded}
@@ -21,27 +21,27 @@ use Rattle.graphics.specs.declared.ZonePointer.{ZonePointer}
 use Rattle.projection.specs.Projection.{deducedOf, dualProjectOf, measuredOf, projectOf}
 use Rattle.projection.specs.declared.Deduced.{Deduced}
 use Rattle.projection.specs.declared.Measured.{Measured}
-use Rattle.zone.specs.Direct.{tryFetchOf, tryFlipOf, trySetOnCurveOf, tryTouchOf, tryTouchedOf, tryUnscaledOf, tryUntouchOf}
+use Rattle.direct_zone.specs.Direct.{tryFetchOf, tryFlipOf, trySetOnCurveOf, tryTouchOf, tryTouchedOf, tryUnscaledOf, tryUntouchOf}
 use Rattle.zone.specs.Zone.{Marked, marked}
 use Rattle.zone.specs.declared.Fetched.{Fetched}
 use Rattle.zone.specs.declared.Touched.{Touched}
 use Rattle.moves.specs.Apply.{BothMoved, BothShifted, bothMoved, bothShifted}
 use Rattle.moves.specs.declared.Displaced.{Displaced}
-use Rattle.direct.specs.Direct.{tryDisplacementOf, tryMoveOriginalOf, tryMovePointOf, tryMoveZp2Of}
+use Rattle.direct_moves.specs.Direct.{tryDisplacementOf, tryMoveOriginalOf, tryMovePointOf, tryMoveZp2Of}
 use Rattle.iup.specs.Iup.{Went, triedOf, went}
 use Rattle.state_words.specs.Words.{written}
-use Rattle.world.specs.World.{fixed, world}
-use Rattle.onward.specs.Onward.{Ran, ran}
-use Rattle.onward.specs.declared.Outcome.{Outcome}
+use Rattle.line.specs.World.{fixed, world}
+use Rattle.run_lines.specs.Onward.{Ran, ran}
+use Rattle.run_lines.specs.declared.Outcome.{Outcome}
 use Rattle.replay.specs.Run.{runOf}
 use Rattle.exports.specs.Call.{Left, callOf, left}
-use Rattle.record.specs.Format.{held}
-use Rattle.record.specs.Read.{openOf}
-use Rattle.record.specs.declared.Opened.{Opened}
+use Rattle.record_read.specs.Format.{held}
+use Rattle.record_read.specs.Read.{openOf}
+use Rattle.record_read.specs.declared.Opened.{Opened}
 use Rattle.record_write.specs.Written.{Wrote, writeOf, wrote}
-use Rattle.after.specs.After.{Shelved, shelved}
-use Rattle.after.specs.declared.Replayed.{Replayed}
-use Rattle.shelf.specs.Shelf.{shelfOf}
+use Rattle.record_run.specs.After.{Shelved, shelved}
+use Rattle.record_run.specs.declared.Replayed.{Replayed}
+use Rattle.record_replay.specs.Shelf.{shelfOf}
 use Rattle.record_print.specs.Print.{Front, printOf}
 
 -- ---- the law

@@ -12,11 +12,11 @@ use Rattle.int.proofs.Tests.{either}
 use Rattle.int.proofs.Wraps.{add32-fits}
 use Rattle.int.specs.Word.{eqZ}
 use Rattle.iup.specs.Contour.{Point, along, between, byTouched, contourOf, currentOf, displacement, headOr, inside, lastOf, points, shifted, spread, touchedOf}
-use Rattle.point.specs.Axis.{touchBit}
-use Rattle.point.specs.declared.Axis.{Axis}
+use Rattle.flags.specs.Axis.{touchBit}
+use Rattle.flags.specs.declared.Axis.{Axis}
 use Rattle.iup.specs.Iup.{Went, iupOf, past, walkOf}
 use Rattle.iup.specs.declared.Place.{Place}
-use Rattle.word_lists.proofs.Widths.{Every, Numbers, every-drop, every-join, every-map, every-take, no-word, one-word}
+use Rattle.words.proofs.Widths.{Every, Numbers, every-drop, every-join, every-map, every-take, no-word, one-word}
 
 -- a place whose current coordinate is a word, and a point with such a place
 abbrev PlaceFits : Place → Type 0

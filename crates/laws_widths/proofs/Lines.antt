@@ -16,7 +16,7 @@ use Rattle.graphics.specs.declared.ZonePointer.{ZonePointer}
 use Rattle.int.proofs.Tests.{either}
 use Rattle.int.proofs.Wraps.{add32-fits, wrap-fits}
 use Rattle.int.specs.Word.{add32, quot32}
-use Rattle.isect.specs.Crossing.{crossOf, crossingOf, dotOf, fromTo, meet, middleBy, movedOf}
+use Rattle.crossing.specs.Crossing.{crossOf, crossingOf, dotOf, fromTo, meet, middleBy, movedOf}
 use Rattle.laws_lines.proofs.Stays.{Stays, isect-stays, laid}
 use Rattle.line_isect.specs.Isect.{isectOf, putTouched}
 use Rattle.line_iup.specs.Iup.{iupLineOf, markedFor, walkedIn}
@@ -28,14 +28,14 @@ use Rattle.math.specs.Fixed.{mulFix14}
 use Rattle.moves.specs.Apply.{applyIn}
 use Rattle.moves.specs.Move.{moveOf, originalMoveOf, zp2MoveOf}
 use Rattle.moves.specs.declared.Move.{Move}
-use Rattle.places.specs.Lines.{isOdd}
-use Rattle.point.specs.Flag.{touchBits}
-use Rattle.point.specs.declared.Axis.the-variants.{X, Y}
-use Rattle.point.specs.declared.CoordAxis.the-variants.{Both}
-use Rattle.record.proofs.Widths.{InWidth, StateInWidth}
+use Rattle.line.specs.Operands.{isOdd}
+use Rattle.flags.specs.Flag.{touchBits}
+use Rattle.flags.specs.declared.Axis.the-variants.{X, Y}
+use Rattle.flags.specs.declared.CoordAxis.the-variants.{Both}
+use Rattle.record_read.proofs.Widths.{InWidth, StateInWidth}
 use Rattle.state_words.proofs.Back.{VectorFits}
-use Rattle.word_lists.proofs.Widths.{Below, every-set}
-use Rattle.world.specs.World.{Fixed, Lined, World}
+use Rattle.words.proofs.Widths.{Below, every-set}
+use Rattle.line.specs.World.{Fixed, Lined, World}
 use Rattle.zone.specs.Zone.{Marked, flipOf, placeOf, setOnCurveOf}
 use Rattle.laws_widths.proofs.Contours.{iup-fits}
 use Rattle.laws_widths.proofs.Setters.{references-fit, reset-fits, rp0-fits, rp1-fits, rp2-fits, with-facts-fits, with-references-fits}

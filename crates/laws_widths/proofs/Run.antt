@@ -13,17 +13,17 @@ use Rattle.graphics.specs.State.{usableState}
 use Rattle.int.proofs.Tests.{either}
 use Rattle.laws_lines.proofs.Lines.{line-leaves}
 use Rattle.line_set.specs.Setters.{setBy, setOf}
-use Rattle.onward.specs.Onward.{Ran, onCall, replayOf}
+use Rattle.run_lines.specs.Onward.{Ran, onCall, replayOf}
 use Rattle.opcodes.specs.Decode.{decodeOf}
 use Rattle.opcodes.specs.Table.{lineOf}
 use Rattle.opcodes.specs.declared.Decoded.the-variants.{Operands, Refused as RefusedLine}
 use Rattle.opcodes.specs.declared.Decoded.{Decoded}
-use Rattle.record.proofs.Widths.{InWidth}
+use Rattle.record_read.proofs.Widths.{InWidth}
 use Rattle.replay.specs.Run.{entryOf, onEntry, runOf}
-use Rattle.step.specs.Step.{onDecoded, stepOf}
-use Rattle.word_lists.proofs.Widths.{Numbers, every-drop, every-take}
-use Rattle.world.specs.Sizes.{worldFits}
-use Rattle.world.specs.World.{Fixed, World}
+use Rattle.run_step.specs.Step.{onDecoded, stepOf}
+use Rattle.words.proofs.Widths.{Numbers, every-drop, every-take}
+use Rattle.line.specs.Sizes.{worldFits}
+use Rattle.line.specs.World.{Fixed, World}
 use Rattle.laws_widths.proofs.Lines.{in-state-fits, isect-in-width, iup-in-width, stays-in-width}
 use Rattle.laws_widths.proofs.Setters.{index-fits, set-within}
 

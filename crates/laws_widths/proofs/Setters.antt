@@ -24,14 +24,14 @@ use Rattle.int.proofs.Tests.{either}
 use Rattle.int.proofs.Words.{shr-fits, wide-fits}
 use Rattle.int.specs.Word.{bitsOf, eqZ, indexOf}
 use Rattle.line.specs.declared.Stepped.{Stepped}
-use Rattle.places.specs.Lines.{indexAt}
-use Rattle.record.proofs.Widths.{StateInWidth}
+use Rattle.line.specs.Operands.{indexAt}
+use Rattle.record_read.proofs.Widths.{StateInWidth}
 use Rattle.round.specs.declared.RoundState.{RoundState}
-use Rattle.selector.proofs.Facts.{period-most}
-use Rattle.selector.specs.Selector.{gridPeriod, periodBy, phaseBy, stateBy, superOf, thresholdBy}
+use Rattle.super_round.proofs.Facts.{period-most}
+use Rattle.super_round.specs.Selector.{gridPeriod, periodBy, phaseBy, stateBy, superOf, thresholdBy}
 use Rattle.line_set.specs.Setters.{axisBy, loopBy, modeBy, onOperand, operandBy, pointerBy, referenceBy, setBy, takesOperand, vectorsBy, zoneBy}
 use Rattle.state_words.proofs.Back.{RoundFits, VectorFits, VectorsFit}
-use Rattle.word_lists.proofs.Widths.{Numbers, every-at, no-word, one-word}
+use Rattle.words.proofs.Widths.{Numbers, every-at, no-word, one-word}
 use Rattle.laws_widths.proofs.Steps.{zero-fits}
 
 -- ---- an operand as an index

@@ -22,12 +22,12 @@ use Rattle.line_steps.specs.Loop.{Points, points}
 use Rattle.moves.specs.Apply.{Moved, applyIn, applyOf}
 use Rattle.moves.specs.Move.{bitsFor, isNot0, moveOf, movedAt, stepBy, zp2MoveOf}
 use Rattle.moves.specs.declared.Move.{Move}
-use Rattle.places.specs.Lines.{Pair, putAt}
-use Rattle.point.specs.declared.CoordAxis.{CoordAxis}
-use Rattle.point.specs.declared.CoordAxis.the-variants.{Both, X, Y}
+use Rattle.line.specs.Places.{Pair, putAt}
+use Rattle.flags.specs.declared.CoordAxis.{CoordAxis}
+use Rattle.flags.specs.declared.CoordAxis.the-variants.{Both, X, Y}
 use Rattle.projection.specs.Projection.{fdotpOf, freedomAxisOf}
 use Rattle.state_words.proofs.Back.{VectorFits}
-use Rattle.word_lists.proofs.Widths.{Below, Numbers, every-at, every-drop, every-join, every-map, every-set, every-take}
+use Rattle.words.proofs.Widths.{Below, Numbers, every-at, every-drop, every-join, every-map, every-set, every-take}
 use Rattle.zone.specs.Zone.{Marked, changeAt, markedAt, onCurve, orAt, overPart, placeOf, setOnCurveOf}
 
 -- ---- coordinates

@@ -1,1 +1,5 @@
 pub mod Line
+pub mod Operands
+pub mod Places
+pub mod Sizes
+pub mod World

@@ -11,9 +11,9 @@ use Rattle.line_steps.proofs.Bridge.{done-or-not, looped-is, withZones, zonesOf
 use Rattle.line_steps.proofs.Zones.{zonesIn}
 use Rattle.line_steps.specs.Loop.{Zones, each, ended}
 use Rattle.line_steps.specs.Steps.{byFetched, doneIn, laidIn, moveIn, pointOr, refusedIn}
-use Rattle.places.specs.Places.{fetchIn}
+use Rattle.line.specs.Places.{fetchIn}
 use Rattle.projection.specs.Projection.{projectOf}
-use Rattle.world.specs.World.{Fixed, World, lined}
+use Rattle.line.specs.World.{Fixed, World, lined}
 use Rattle.zone.specs.declared.Fetched.the-variants.{At}
 use Rattle.zone.specs.declared.Fetched.the-variants.{Refused as RefusedPlace}
 use Rattle.zone.specs.declared.Fetched.{Fetched}

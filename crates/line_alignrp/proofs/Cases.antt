@@ -3,7 +3,7 @@ use mathlib.Core.Path.{_≡_, sym, ap, _∙_}
 use mathlib.Core.List.{List}
 use Prim.Native.Nat.{ℕ}
 use lib.IntN.{ℤ}
-use Rattle.places.specs.Places.{fetchIn}
+use Rattle.line.specs.Places.{fetchIn}
 use Rattle.line_alignrp.specs.Loop.{alignFrom, aligningOf, alignBy, alignAt}
 use Rattle.line_alignrp.specs.declared.Aligning.{Aligning}
 use Rattle.graphics.specs.declared.GraphicsState.{GraphicsState}

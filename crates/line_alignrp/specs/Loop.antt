@@ -13,7 +13,7 @@ use Rattle.zone.specs.declared.Fetched.{Fetched}
 use Rattle.line_steps.specs.Loop.{Ended, Zones, ended, zones}
 use Rattle.moves.specs.Apply.{BothMoved, applyIn}
 use Rattle.moves.specs.Move.{moveOf}
-use Rattle.places.specs.Places.{fetchIn}
+use Rattle.line.specs.Places.{fetchIn}
 use Rattle.line_alignrp.specs.declared.Aligning.the-variants.{Along}
 use Rattle.line_alignrp.specs.declared.Aligning.the-variants.{Refused as RefusedAligning}
 use Rattle.line_alignrp.specs.declared.Aligning.{Aligning}

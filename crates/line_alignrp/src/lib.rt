@@ -11,10 +11,10 @@ use graphics::GraphicsState;
 use int::as_index;
 use int::wrapping_neg;
 use line::Stepped;
+use line::fetch_in;
 use moves::Move;
 use moves::apply_in;
 use moves::move_of;
-use places::fetch_in;
 use projection::project;
 use zone::Fetched;
 ghost use mathlib.Core.Path.{_≡_};
@@ -25,7 +25,7 @@ ghost use lib.ListN.{length};
 ghost use Rattle.line_steps.specs.Loop.{each, ended, zones};
 ghost use Rattle.line_alignrp.specs.Loop.{aligningOf, alignAt};
 ghost use Rattle.line_alignrp.specs.Alignrp.{alignrpOf};
-ghost use Rattle.world.specs.World.{Fixed, lined, world};
+ghost use Rattle.line.specs.World.{Fixed, lined, world};
 
 // What brings a point into line with rp0.
 pub enum Aligning {

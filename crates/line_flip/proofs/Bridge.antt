@@ -12,7 +12,7 @@ use Rattle.line.specs.declared.Stepped.{Stepped}
 use Rattle.line_steps.proofs.Bridge.{flagsOf, looped-is, withFlags}
 use Rattle.line_steps.specs.Loop.{Ended, each, ended}
 use Rattle.line_steps.specs.Steps.{doneIn, flagsIn}
-use Rattle.world.specs.World.{Fixed, Lined, World, lined}
+use Rattle.line.specs.World.{Fixed, Lined, World, lined}
 use Rattle.zone.specs.Zone.{flipOf}
 use Rattle.line_flip.specs.Flip.{flipPoint, flipptOf}
 use Rattle.line_flip.specs.Steps.{flipUnless}

@@ -15,8 +15,8 @@ use Rattle.graphics.specs.declared.Facts.{Facts}
 use Rattle.int.proofs.Ints.{split}
 use Rattle.line_steps.proofs.Laws.{two-missing, two-there}
 use Rattle.line_steps.specs.Steps.{doneIn, flagsIn, refusedIn}
-use Rattle.places.specs.Lines.{indexAt, isOdd}
-use Rattle.world.specs.World.{Fixed, Lined, World}
+use Rattle.line.specs.Operands.{indexAt, isOdd}
+use Rattle.line.specs.World.{Fixed, Lined, World}
 use Rattle.zone.proofs.Cases.{range-out, range-reversed}
 use Rattle.zone.specs.Zone.{Marked, marked}
 use Rattle.line_flip.specs.Flip.{fliprgOf, heldFast, lastIndex, setThrough}

@@ -11,8 +11,8 @@ use Rattle.graphics.specs.State.{pastBothIups}
 use Rattle.graphics.specs.declared.Facts.{Facts}
 use Rattle.int.specs.Word.{indexOf}
 use Rattle.line_steps.specs.Steps.{doneIn, flagsIn, looped, two}
-use Rattle.places.specs.Lines.{isOdd}
-use Rattle.world.specs.World.{Fixed, Lined, World}
+use Rattle.line.specs.Operands.{isOdd}
+use Rattle.line.specs.World.{Fixed, Lined, World}
 use Rattle.zone.specs.Zone.{Marked, flipOf, setOnCurveOf}
 
 -- ---- FLIPPT: on curve to off curve and back. Pops as many points as the loop counter says, which is 1 afterwards. Refusals, at each point: a missing operand, the

@@ -13,15 +13,16 @@ use Rattle.answer.specs.declared.Refusal.{Refusal}
 use Rattle.graphics.specs.declared.Vector.{Vector}
 use Rattle.graphics.specs.declared.ZonePointer.the-variants.{Glyph, Twilight}
 use Rattle.graphics.specs.declared.ZonePointer.{ZonePointer}
-use Rattle.isect.specs.Crossing.{crossingOf}
+use Rattle.crossing.specs.Crossing.{crossingOf}
 use Rattle.line_steps.proofs.Laws.{five-missing, five-there, point-out, point-there}
 use Rattle.line_steps.specs.Steps.{byFetched, doneIn, pointOr, refusedIn, thereOr, withPoints}
 use Rattle.moves.specs.Apply.{BothMoved, Moved, moved, movedGlyph, movedTwilight}
-use Rattle.places.specs.Lines.{Pair, indexAt, pair, putAt}
-use Rattle.places.specs.Places.{fetchIn}
-use Rattle.point.specs.Flag.{touchBits}
-use Rattle.point.specs.declared.CoordAxis.the-variants.{Both}
-use Rattle.world.specs.World.{Fixed, Lined, World}
+use Rattle.line.specs.Operands.{indexAt}
+use Rattle.line.specs.Places.{Pair, pair, putAt}
+use Rattle.line.specs.Places.{fetchIn}
+use Rattle.flags.specs.Flag.{touchBits}
+use Rattle.flags.specs.declared.CoordAxis.the-variants.{Both}
+use Rattle.line.specs.World.{Fixed, Lined, World}
 use Rattle.zone.specs.Zone.{fetchOf, orAt}
 use Rattle.zone.specs.declared.Fetched.the-variants.{At}
 use Rattle.zone.specs.declared.Fetched.the-variants.{Refused as RefusedPlace}

@@ -9,11 +9,11 @@ use Rattle.graphics.specs.declared.Vector.{Vector}
 use Rattle.graphics.specs.declared.ZonePointer.the-variants.{Glyph, Twilight}
 use Rattle.graphics.specs.declared.ZonePointer.{ZonePointer}
 use Rattle.int.specs.Word.{indexOf}
-use Rattle.isect.specs.Crossing.{crossingOf}
+use Rattle.crossing.specs.Crossing.{crossingOf}
 use Rattle.line_steps.specs.Steps.{doneIn, five, pointIn, refusedIn, thereOr}
-use Rattle.point.specs.Flag.{touchBits}
-use Rattle.point.specs.declared.CoordAxis.the-variants.{Both}
-use Rattle.world.specs.World.{Fixed, Lined, World, world}
+use Rattle.flags.specs.Flag.{touchBits}
+use Rattle.flags.specs.declared.CoordAxis.the-variants.{Both}
+use Rattle.line.specs.World.{Fixed, Lined, World, world}
 use Rattle.zone.specs.Zone.{orAt}
 
 -- a point put somewhere, and touched on both axes

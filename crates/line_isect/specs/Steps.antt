@@ -10,12 +10,12 @@ use Rattle.answer.specs.declared.Refusal.the-variants.{Point}
 use Rattle.graphics.specs.declared.Vector.{Vector}
 use Rattle.graphics.specs.declared.ZonePointer.the-variants.{Glyph, Twilight}
 use Rattle.graphics.specs.declared.ZonePointer.{ZonePointer}
-use Rattle.isect.specs.Crossing.{crossingOf}
+use Rattle.crossing.specs.Crossing.{crossingOf}
 use Rattle.line_steps.specs.Steps.{pointIn}
 use Rattle.moves.specs.Apply.{BothMoved, Moved, moved, movedGlyph, movedTwilight}
-use Rattle.point.specs.Flag.{touchBits}
-use Rattle.point.specs.declared.CoordAxis.the-variants.{Both}
-use Rattle.world.specs.World.{Lined, World}
+use Rattle.flags.specs.Flag.{touchBits}
+use Rattle.flags.specs.declared.CoordAxis.the-variants.{Both}
+use Rattle.line.specs.World.{Lined, World}
 use Rattle.zone.specs.Zone.{orAt}
 
 -- where the lines meet

@@ -1,4 +1,4 @@
-// ISECT (0x0F), which puts a point where two lines meet: engine/outline.rs. The arithmetic is the crate isect's.
+// ISECT (0x0F), which puts a point where two lines meet: engine/outline.rs. The arithmetic is the crate crossing's.
 //
 // Pops b1, b0, a1, a0, the point; reads line a in zp1 and line b in zp0; puts the point in zp2 and touches it on both axes. Refused in this order:
 // a missing operand, a0, a1, b0, b1, the point, pedantic or not; then nothing is changed. OpenType's ISECT, FreeType's Ins_ISECT. `isect` is one
@@ -6,16 +6,16 @@
 // nothing else. The opcode isn't looked at.
 use answer::Call;
 use answer::Refusal;
+use crossing::crossing;
+use flags::CoordAxis;
 use graphics::GraphicsState;
 use graphics::Vector;
 use graphics::ZonePointer;
-use isect::crossing;
 use line::Stepped;
+use line::fetch_in;
+use line::index_at;
+use line::put_at;
 use line::refused;
-use places::fetch_in;
-use places::index_at;
-use places::put_at;
-use point::CoordAxis;
 use zone::Fetched;
 use zone::or_at;
 ghost use mathlib.Core.Path.{_≡_};
@@ -26,7 +26,7 @@ ghost use lib.ListN.{length};
 ghost use Rattle.graphics.specs.declared.GraphicsState.{GraphicsState};
 ghost use Rattle.graphics.specs.declared.Vector.{Vector};
 ghost use Rattle.moves.specs.Apply.{bothMoved, moved};
-ghost use Rattle.world.specs.World.{Fixed, Lined, lined, world};
+ghost use Rattle.line.specs.World.{Fixed, Lined, lined, world};
 ghost use Rattle.line_steps.specs.Steps.{byFetched, refusedIn};
 ghost use Rattle.line_isect.specs.Isect.{isectOf};
 ghost use Rattle.line_isect.specs.Steps.{meetingIn, putOf, putIn};

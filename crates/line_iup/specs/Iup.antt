@@ -9,9 +9,9 @@ use Rattle.graphics.specs.State.{markedX, markedY, pastBothIups, withFacts}
 use Rattle.graphics.specs.declared.GraphicsState.{GraphicsState}
 use Rattle.iup.specs.Iup.{Went, iupOf}
 use Rattle.line_steps.specs.Steps.{doneIn, inState}
-use Rattle.places.specs.Lines.{isOdd}
-use Rattle.point.specs.declared.Axis.the-variants.{X, Y}
-use Rattle.world.specs.World.{Fixed, Lined, World, world}
+use Rattle.line.specs.Operands.{isOdd}
+use Rattle.flags.specs.declared.Axis.the-variants.{X, Y}
+use Rattle.line.specs.World.{Fixed, Lined, World, world}
 
 -- the mark of the opcode's axis, set under backward compatibility alone
 unfoldable pub markedFor : GraphicsState → ℕ → GraphicsState

@@ -6,18 +6,18 @@
 // `iup` is one equation with `iupLineOf`, for every content of the lists that it isn't lent; it asks that the glyph's lists share one length, and nothing else. Of the
 // opcode only whether it is odd is looked at. The walk over the contours is the crate iup's.
 use answer::Call;
+use flags::Axis;
 use graphics::GraphicsState;
 use line::Stepped;
 use line::done;
-use places::is_odd;
-use point::Axis;
+use line::is_odd;
 ghost use mathlib.Core.List.{List};
 ghost use mathlib.Core.Path.{_≡_};
 ghost use Prim.Native.Nat.{ℕ};
 ghost use lib.IntN.{ℤ};
 ghost use lib.ListN.{length};
 ghost use Rattle.graphics.specs.declared.GraphicsState.{GraphicsState};
-ghost use Rattle.world.specs.World.{fixed, lined, world};
+ghost use Rattle.line.specs.World.{fixed, lined, world};
 ghost use Rattle.line_iup.specs.Iup.{iupLineOf, markedFor, walkedIn};
 
 // The mark of the opcode's axis, set under backward compatibility alone.

@@ -14,9 +14,9 @@ use Rattle.line_steps.specs.Steps.{afterMove, doneIn, madeIn, onBoth, refusedIn
 use Rattle.moves.specs.Apply.{BothMoved, applyIn}
 use Rattle.moves.specs.Move.{moveOf}
 use Rattle.moves.specs.declared.Move.{Move}
-use Rattle.places.specs.Lines.{indexAt, isOdd}
-use Rattle.places.specs.Places.{fetchIn}
-use Rattle.world.specs.World.{Fixed, Lined, World}
+use Rattle.line.specs.Operands.{indexAt, isOdd}
+use Rattle.line.specs.Places.{fetchIn}
+use Rattle.line.specs.World.{Fixed, Lined, World}
 use Rattle.zone.specs.declared.Fetched.the-variants.{At}
 use Rattle.zone.specs.declared.Fetched.the-variants.{Refused as RefusedPlace}
 use Rattle.zone.specs.declared.Fetched.{Fetched}

@@ -23,10 +23,10 @@ use Rattle.line_steps.specs.Steps.{afterMove, byFetched, doneIn, inState, madeI
 use Rattle.moves.specs.Apply.{BothMoved, applyIn}
 use Rattle.moves.specs.Move.{moveOf, originalMoveOf}
 use Rattle.moves.specs.declared.Move.{Move}
-use Rattle.places.specs.Lines.{indexAt, isOdd}
-use Rattle.places.specs.Places.{fetchIn, placeIn, sizeOf}
+use Rattle.line.specs.Operands.{indexAt, isOdd}
+use Rattle.line.specs.Places.{fetchIn, placeIn, sizeOf}
 use Rattle.projection.specs.Projection.{projectOf}
-use Rattle.world.specs.World.{Fixed, Lined, World}
+use Rattle.line.specs.World.{Fixed, Lined, World}
 use Rattle.zone.specs.Zone.{fetchOf, placeOf}
 use Rattle.zone.specs.declared.Fetched.the-variants.{At}
 use Rattle.zone.specs.declared.Fetched.the-variants.{Refused as RefusedPlace}

@@ -17,9 +17,9 @@ use Rattle.int.specs.Word.{add32, indexOf, sub32}
 use Rattle.line_steps.specs.Steps.{doneIn, inState, madeIn, moveIn, passedOver, pointIn, thereOr, two}
 use Rattle.moves.specs.Move.{originalMoveOf}
 use Rattle.moves.specs.declared.Move.{Move}
-use Rattle.places.specs.Lines.{isOdd}
+use Rattle.line.specs.Operands.{isOdd}
 use Rattle.projection.specs.Projection.{projectOf}
-use Rattle.world.specs.World.{Fixed, Lined, World}
+use Rattle.line.specs.World.{Fixed, Lined, World}
 use Rattle.zone.specs.Zone.{placeOf}
 
 -- whether both points are there

@@ -8,7 +8,7 @@ use Rattle.answer.specs.declared.Call.{Call}
 use Rattle.answer.specs.declared.Refusal.the-variants.{Point}
 use Rattle.graphics.specs.declared.ZonePointer.the-variants.{Glyph, Twilight}
 use Rattle.graphics.specs.declared.ZonePointer.{ZonePointer}
-use Rattle.places.specs.Places.{sizeOf}
+use Rattle.line.specs.Places.{sizeOf}
 
 unfoldable pub bothInside : ℕ → ℕ → ℕ → ℕ → Call
 bothInside first firsts second seconds =

@@ -11,7 +11,7 @@ use Rattle.int.specs.Word.{eqZ, indexOf}
 use Rattle.answer.specs.declared.Refusal.the-variants.{Missing, ZonePointer, LoopCount}
 use Rattle.round.specs.declared.RoundMode.{RoundMode}
 use Rattle.round.specs.declared.RoundMode.the-variants.{Grid, HalfGrid, DoubleGrid, DownToGrid, UpToGrid, Off}
-use Rattle.selector.specs.Selector.{superOf}
+use Rattle.super_round.specs.Selector.{superOf}
 use Rattle.graphics.specs.declared.GraphicsState.{GraphicsState}
 use Rattle.graphics.specs.declared.Vector.{Vector}
 use Rattle.graphics.specs.declared.ZonePointer.{ZonePointer as Pointer}
@@ -20,7 +20,7 @@ use Rattle.graphics.specs.State.{xAxis, yAxis, allAlong, measuredAlong, movedAl
 use Rattle.line.specs.declared.Stepped.{Stepped}
 use Rattle.line.specs.Line.{doneWith, refusedWith}
 use Rattle.line_steps.specs.Steps.{into}
-use Rattle.world.specs.World.{Fixed, Lined, World}
+use Rattle.line.specs.World.{Fixed, Lined, World}
 
 -- what a line does with its one operand; 6 where there is none
 abbrev pub onOperand : GraphicsState → (ℤ → Stepped) → List ℤ → Stepped

@@ -21,7 +21,7 @@ use line::Stepped;
 use line::done;
 use line::refused;
 use round::RoundMode;
-use selector::super_round;
+use super_round::super_round;
 ghost use mathlib.Core.Path.{_≡_};
 ghost use Prim.Native.Nat.{min};
 ghost use Rattle.line_set.specs.Setters.{axisBy, vectorsBy, referenceBy, pointerBy, zoneBy, loopBy, modeBy, takesOperand, operandBy, setBy};

@@ -11,9 +11,9 @@ use Rattle.answer.specs.declared.Refusal.the-variants.{Contour, Missing}
 use Rattle.answer.specs.declared.Refusal.the-variants.{ZonePointer as BadZone}
 use Rattle.line_steps.proofs.Laws.{one-missing, one-there}
 use Rattle.line_steps.specs.Steps.{passedOver, refusedIn}
-use Rattle.places.specs.Lines.{indexAt}
-use Rattle.places.specs.Places.{sizeOf}
-use Rattle.world.specs.World.{Fixed, Lined, World}
+use Rattle.line.specs.Operands.{indexAt}
+use Rattle.line.specs.Places.{sizeOf}
+use Rattle.line.specs.World.{Fixed, Lined, World}
 use Rattle.line_span.specs.Span.{spanIn}
 use Rattle.line_shc_shz.specs.Shc.{pointAfter, shcOf, shzOf}
 

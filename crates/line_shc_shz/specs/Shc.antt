@@ -13,8 +13,8 @@ use Rattle.answer.specs.declared.Refusal.the-variants.{ZonePointer as BadZone}
 use Rattle.int.specs.Word.{indexOf}
 use Rattle.line_span.specs.Span.{spanIn}
 use Rattle.line_steps.specs.Steps.{one, passedOver, refusedIn}
-use Rattle.places.specs.Places.{sizeOf}
-use Rattle.world.specs.World.{Fixed, Lined, World}
+use Rattle.line.specs.Places.{sizeOf}
+use Rattle.line.specs.World.{Fixed, Lined, World}
 
 -- ---- SHC: pops the contour
 -- the point after so many contours: the one after the end of the last of them

@@ -10,18 +10,18 @@ use answer::Refusal;
 use graphics::GraphicsState;
 use line::Stepped;
 use line::done;
+use line::index_at;
 use line::refused;
+use line::size_of;
 use line_span::shift_span_of;
 use moves::reference_of;
-use places::index_at;
-use places::size_of;
 ghost use mathlib.Core.List.{List};
 ghost use mathlib.Core.Path.{_≡_};
 ghost use lib.IntN.{ℤ};
 ghost use lib.ListN.{getD, length};
 ghost use Rattle.answer.specs.declared.Refusal.the-variants.{Contour};
 ghost use Rattle.line_steps.specs.Steps.{inState, into, passedOver};
-ghost use Rattle.world.specs.World.{World, fixed, lined, world};
+ghost use Rattle.line.specs.World.{World, fixed, lined, world};
 ghost use Rattle.line_shc_shz.specs.Shc.{pointAfter, shcOf, shzOf};
 
 // ---- contours

@@ -28,7 +28,7 @@ use Rattle.moves.specs.declared.Displaced.{Displaced}
 use Rattle.moves.specs.declared.Displacement.{Displacement}
 use Rattle.moves.specs.declared.Move.{Move}
 use Rattle.moves.specs.declared.Reference.{Reference}
-use Rattle.world.specs.World.{Fixed, Lined, World, lined}
+use Rattle.line.specs.World.{Fixed, Lined, World, lined}
 use Rattle.zone.proofs.Tried.{outside, within}
 use Rattle.line_shift.specs.Shift.{pixelMove, shpOf, shpixOf}
 

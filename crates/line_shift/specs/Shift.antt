@@ -13,7 +13,7 @@ use Rattle.line_steps.specs.Steps.{displacedIn, first, looped, refusedIn, shift
 use Rattle.math.specs.Fixed.{mulFix14}
 use Rattle.moves.specs.Move.{zp2MoveOf}
 use Rattle.moves.specs.declared.Move.{Move}
-use Rattle.world.specs.World.{Fixed, Lined, World}
+use Rattle.line.specs.World.{Fixed, Lined, World}
 
 -- ---- SHP: as the reference point was. It is read first, whatever the counter is, and leaves the counter where it is refused
 unfoldable pub shpOf : Fixed → ℕ → List ℤ → World → Lined

@@ -29,7 +29,7 @@ ghost use mathlib.Core.Path.{_≡_};
 ghost use lib.IntN.{ℤ};
 ghost use lib.ListN.{length};
 ghost use Rattle.line_steps.specs.Loop.{each, ended, inZone, points, shiftAt, shiftUnlessIdle, zones};
-ghost use Rattle.world.specs.World.{Fixed, fixed, lined, world};
+ghost use Rattle.line.specs.World.{Fixed, fixed, lined, world};
 ghost use Rattle.line_shift.specs.Shift.{pixelMove, shpOf, shpixOf};
 
 // ---- points shifted by one move

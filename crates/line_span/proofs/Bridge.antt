@@ -20,7 +20,7 @@ use Rattle.moves.specs.declared.Displaced.{Displaced}
 use Rattle.moves.specs.declared.Displacement.{Displacement}
 use Rattle.moves.specs.declared.Move.{Move}
 use Rattle.moves.specs.declared.Reference.{Reference}
-use Rattle.world.specs.World.{Fixed, Lined, World, lined}
+use Rattle.line.specs.World.{Fixed, Lined, World, lined}
 use Rattle.line_span.specs.Span.{pointsFrom, sameZone, shiftBut, spanIn}
 use Rattle.line_span.specs.Steps.{shiftButAt, shiftSpan, spanBy, spanOf}
 

@@ -13,7 +13,7 @@ use Rattle.int.specs.Word.{indexOf}
 use Rattle.line_steps.specs.Steps.{displacedIn, doneIn, eachIn, shiftPoint}
 use Rattle.moves.specs.Move.{zp2MoveOf}
 use Rattle.moves.specs.declared.Move.{Move}
-use Rattle.world.specs.World.{Fixed, Lined, World}
+use Rattle.line.specs.World.{Fixed, Lined, World}
 
 -- the point `at` and those after it, so many
 abbrev pub pointsFrom : ℕ → ℕ → List ℤ

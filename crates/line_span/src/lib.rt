@@ -5,6 +5,7 @@
 // stay shifted. That a zone's lists share one length is asked of the caller; nothing is asked of the span, the reference or the state's numbers.
 use answer::Call;
 use answer::Refusal;
+use flags::with_bits;
 use graphics::Facts;
 use graphics::Vectors;
 use graphics::ZonePointer;
@@ -14,7 +15,6 @@ use moves::Move;
 use moves::Reference;
 use moves::displaced_in;
 use moves::zp2_move_of;
-use point::with_bits;
 ghost use Prim.Native.Nat.{_≤_};
 ghost use mathlib.Core.Bool.{false, true};
 ghost use mathlib.Core.Path.{_≡_};

@@ -10,7 +10,7 @@ use Rattle.graphics.specs.State.{withLoopCounter}
 use Rattle.graphics.specs.declared.GraphicsState.{GraphicsState}
 use Rattle.int.specs.Word.{indexOf}
 use Rattle.line.specs.declared.Stepped.{Stepped}
-use Rattle.world.specs.World.{Lined, World, world}
+use Rattle.line.specs.World.{Lined, World, world}
 use Rattle.line_steps.specs.Loop.{Ended, Points, Zones, each, ended, onward, points, zones}
 use Rattle.line_steps.specs.Steps.{byCall, doneIn, eachIn, inState, looped, refusedIn}
 

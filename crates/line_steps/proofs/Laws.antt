@@ -27,9 +27,9 @@ use Rattle.moves.specs.declared.Displaced.{Displaced}
 use Rattle.moves.specs.declared.Displacement.{Displacement}
 use Rattle.moves.specs.declared.Move.{Move}
 use Rattle.moves.specs.declared.Reference.{Reference}
-use Rattle.places.specs.Lines.{Pair, pair, putAt}
-use Rattle.places.specs.Places.{fetchIn}
-use Rattle.world.specs.World.{Fixed, Lined, World, world}
+use Rattle.line.specs.Places.{Pair, pair, putAt}
+use Rattle.line.specs.Places.{fetchIn}
+use Rattle.line.specs.World.{Fixed, Lined, World, world}
 use Rattle.zone.specs.declared.Fetched.the-variants.{At}
 use Rattle.zone.specs.declared.Fetched.the-variants.{Refused as RefusedPlace}
 use Rattle.zone.specs.declared.Fetched.{Fetched}

@@ -16,7 +16,7 @@ use Rattle.line.specs.declared.Stepped.{Stepped}
 use Rattle.moves.specs.Apply.{applyIn}
 use Rattle.moves.specs.Move.{isIdle}
 use Rattle.moves.specs.declared.Move.{Move}
-use Rattle.world.specs.World.{Lined, World, lined}
+use Rattle.line.specs.World.{Lined, World, lined}
 use Rattle.line_steps.specs.Loop.{Ended, Points, Zones, each, ended, glyphLeft, inZone, onward, pass, shiftAt, shiftUnlessIdle, twilightLeft}
 use Rattle.line_steps.specs.Steps.{doneIn, eachIn, laidIn, looped, shiftPoint}
 use Rattle.line_steps.proofs.Bridge.{done-or-not, each-is, looped-is, withZones, zonesOf}

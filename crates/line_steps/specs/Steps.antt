@@ -26,8 +26,8 @@ use Rattle.moves.specs.declared.Displaced.the-variants.{Refused as RefusedDispl
 use Rattle.moves.specs.declared.Displaced.{Displaced}
 use Rattle.moves.specs.declared.Displacement.{Displacement}
 use Rattle.moves.specs.declared.Move.{Move}
-use Rattle.places.specs.Places.{fetchIn}
-use Rattle.world.specs.World.{Fixed, Lined, World, lined, world}
+use Rattle.line.specs.Places.{fetchIn}
+use Rattle.line.specs.World.{Fixed, Lined, World, lined, world}
 use Rattle.zone.specs.Zone.{Marked}
 use Rattle.zone.specs.declared.Fetched.the-variants.{At}
 use Rattle.zone.specs.declared.Fetched.the-variants.{Refused as RefusedPlace}

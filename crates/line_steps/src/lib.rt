@@ -12,7 +12,7 @@ use line::done;
 use line::refused;
 use projection::project;
 ghost use mathlib.Core.Path.{_≡_};
-ghost use Rattle.world.specs.World.{World};
+ghost use Rattle.line.specs.World.{World};
 ghost use Rattle.line_steps.specs.Loop.{takeOf};
 ghost use Rattle.line_steps.specs.Numbers.{fromOrigin};
 ghost use Rattle.line_steps.specs.Steps.{bothAt, byCall, doneIn, inState, into, onBoth};

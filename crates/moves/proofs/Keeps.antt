@@ -15,8 +15,8 @@ use Rattle.int.specs.Word.{add32}
 use Rattle.moves.specs.Apply.{Shifted, shiftOf, Moved, applyOf}
 use Rattle.moves.specs.Move.{isNot0, stepOf, isExempt, moveOf, zp2MoveOf, movedAt}
 use Rattle.moves.specs.declared.Move.{Move}
-use Rattle.point.proofs.Bits.{or-keeps}
-use Rattle.point.specs.Flag.{bit}
+use Rattle.flags.proofs.Bits.{or-keeps}
+use Rattle.flags.specs.Flag.{bit}
 use Rattle.int.proofs.Tests.{either}
 use Rattle.zone.proofs.Keeps.{change-length, change-other, change-bit}
 

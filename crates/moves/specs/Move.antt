@@ -11,8 +11,8 @@ use lib.IntN.{ℤ, pos}
 use lib.ListN.{getD, set}
 use Rattle.int.specs.Word.{add32, eqZ}
 use Rattle.math.specs.Fixed.{mulDiv}
-use Rattle.point.specs.declared.CoordAxis.{CoordAxis}
-use Rattle.point.specs.declared.CoordAxis.the-variants.{Both, X, Y}
+use Rattle.flags.specs.declared.CoordAxis.{CoordAxis}
+use Rattle.flags.specs.declared.CoordAxis.the-variants.{Both, X, Y}
 use Rattle.graphics.specs.State.{pastBothIups}
 use Rattle.graphics.specs.declared.Vector.{Vector}
 use Rattle.graphics.specs.declared.Vectors.{Vectors}

@@ -3,10 +3,11 @@
 // A move is worked out from numbers of the state, never from a zone (`Move`), and then laid on one zone's slices (`apply`, `apply_coords`): x
 // and y are one function on an axis's slice. Each contract is one equation with a definition of specs/, which says what is answered and what
 // every list holds afterwards, refused or not. A function that is given several lists of a zone asks that they share one length, and nothing
-// else; the direct calls stand above, in the crate direct. `apply_in`, `apply_coords_in` and `displaced_in` are given both
+// else; the direct calls stand above, in the crate direct_moves. `apply_in`, `apply_coords_in` and `displaced_in` are given both
 // zones and choose by cases, and the zone that isn't chosen is left alone.
 use answer::Call;
 use answer::Refusal;
+use flags::CoordAxis;
 use graphics::Facts;
 use graphics::GraphicsState;
 use graphics::Vector;
@@ -15,7 +16,6 @@ use graphics::ZonePointer;
 use int::equal;
 use int::wrapping_add;
 use math::mul_div;
-use point::CoordAxis;
 use projection::derive;
 use projection::project;
 use zone::Fetched;

@@ -13,7 +13,7 @@ use lib.IntN.{ℤ}
 use Rattle.graphics.proofs.Laws.{and-left, and-right}
 use Rattle.int.proofs.Tests.{either}
 use Rattle.line_set.specs.Setters.{setOf}
-use Rattle.world.specs.World.{Fixed, Lined, World}
+use Rattle.line.specs.World.{Fixed, Lined, World}
 use Rattle.opcodes.specs.Table.{Line, Row, has, lineOf, rowIn, rowOf, rows}
 
 -- ---- at a number, or at one of two

@@ -15,7 +15,7 @@ use Rattle.line_msirp.specs.Msirp.{msirpOf}
 use Rattle.line_set.specs.Setters.{setOf}
 use Rattle.line_shc_shz.specs.Shc.{shcOf, shzOf}
 use Rattle.line_shift.specs.Shift.{shpOf, shpixOf}
-use Rattle.world.specs.World.{Fixed, Lined, World}
+use Rattle.line.specs.World.{Fixed, Lined, World}
 
 -- ---- how many operands
 pub data Takes : Type 0 where

@@ -13,7 +13,7 @@ use lib.Signed.{mag, ltZ}
 use Rattle.int.specs.Word.{wrap32, add32, sub32, abs32, mul32, eqZ}
 use Rattle.int.proofs.Ints.{mag-add, mag-mul}
 use Rattle.int.proofs.Wraps.{wrap-id}
-use Rattle.point.specs.declared.CoordAxis.the-variants.{X, Y}
+use Rattle.flags.specs.declared.CoordAxis.the-variants.{X, Y}
 use Rattle.graphics.specs.State.{one, xAxis, yAxis, allAlong, inRange, vectorInRange}
 use Rattle.graphics.proofs.Laws.{and-left, x-of, y-of}
 use Rattle.graphics.specs.declared.Vector.{Vector}

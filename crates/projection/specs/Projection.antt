@@ -9,8 +9,8 @@ use Rattle.int.specs.Word.{add32, sub32, abs32, mul32, eqZ}
 use Rattle.math.specs.Fixed.{dotFix14}
 use Rattle.answer.specs.Answer.{Said, saidBy, saidDone}
 use Rattle.answer.specs.declared.Refusal.the-variants.{State}
-use Rattle.point.specs.declared.CoordAxis.{CoordAxis}
-use Rattle.point.specs.declared.CoordAxis.the-variants.{Both, X, Y}
+use Rattle.flags.specs.declared.CoordAxis.{CoordAxis}
+use Rattle.flags.specs.declared.CoordAxis.the-variants.{Both, X, Y}
 use Rattle.graphics.specs.State.{one, usableState}
 use Rattle.graphics.specs.declared.Vector.{Vector}
 use Rattle.graphics.specs.declared.Vectors.{Vectors}

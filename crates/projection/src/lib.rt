@@ -5,6 +5,7 @@
 // state; the calls that begin with `try` are for whoever brings a state of their own, and refuse an unusable one with answer 3.
 // Nothing is said of unit length: a vector need not have it.
 use answer::Refusal;
+use flags::CoordAxis;
 use graphics::GraphicsState;
 use graphics::ONE;
 use graphics::Vector;
@@ -17,7 +18,6 @@ use int::wrapping_add;
 use int::wrapping_mul;
 use int::wrapping_sub;
 use math::dot14;
-use point::CoordAxis;
 ghost use mathlib.Core.Path.{_≡_};
 ghost use Rattle.projection.specs.Projection.{axisOf, freedomAxisBy, rawFdotp, notSmall, derivedOf, alongOf, projectOf, dualProjectOf, measuredBy, deducedBy, measuredOf, deducedOf, saidOfMeasured, saidOfDeduced};
 

@@ -7,11 +7,11 @@ use lib.IntN.{ℤ}
 use lib.ListN.{length, length-append}
 use lib.Seq.{length-sets, sets}
 use Rattle.int.specs.Word.{ofBits}
-use Rattle.word_lists.proofs.Parts.{left, left-all, left-next, left-none}
-use Rattle.word_lists.specs.Lists.{flagOf, flagsOf, numbersOf, word}
-use Rattle.layout.specs.Order.{atCurrentX, atCurrentY, atFlags}
-use Rattle.layout.specs.declared.Layout.{Layout}
-use Rattle.after.specs.declared.Replayed.{Replayed}
+use Rattle.words.proofs.Parts.{left, left-all, left-next, left-none}
+use Rattle.words.specs.Lists.{flagOf, flagsOf, numbersOf, word}
+use Rattle.record_layout.specs.Order.{atCurrentX, atCurrentY, atFlags}
+use Rattle.record_layout.specs.declared.Layout.{Layout}
+use Rattle.record_run.specs.declared.Replayed.{Replayed}
 use Rattle.record_print.specs.Print.{answerLine, glyphLines, pointLine, pointLines}
 use Rattle.record_print.specs.Steps.{Put, ended}
 use Rattle.record_print.specs.Text.{decimal, line, signedDecimal}

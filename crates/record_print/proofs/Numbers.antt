@@ -3,7 +3,7 @@ use Prim.Native.Nat.{ℕ}
 use mathlib.Core.List.{List, [], _∷_}
 use mathlib.Core.Path.{_≡_, refl}
 use lib.IntN.{negsuc, pos}
-use Rattle.after.specs.declared.Replayed.{Replayed}
+use Rattle.record_run.specs.declared.Replayed.{Replayed}
 use Rattle.record_print.specs.Print.{answerLine, pointLine}
 use Rattle.record_print.specs.Text.{decimal, signedDecimal}
 

@@ -11,16 +11,16 @@ use lib.ListN.{drop, length, length-append}
 use lib.Seq.{length-sets, length-take-le, sets-eq}
 use mir.Val.{sel}
 use Rattle.int.specs.Word.{ofBits}
-use Rattle.word_lists.specs.Lists.{flagOf, flagsOf, numbersOf, part, word}
-use Rattle.layout.specs.Order.{atCurrentX, atCurrentY, atFlags}
-use Rattle.layout.specs.declared.Layout.{Layout}
-use Rattle.record.proofs.Whole.{layout-is, layout-kept, sound}
-use Rattle.record.specs.Read.{layoutOf, openOf, readAs}
-use Rattle.record.specs.declared.Opened.{Opened}
-use Rattle.record.specs.declared.Opened.the-variants.{Damaged, Whole}
-use Rattle.after.specs.After.{Shelved, shelved}
-use Rattle.after.specs.declared.Replayed.{Replayed}
-use Rattle.shelf.specs.Shelf.{onRead, shelfOf}
+use Rattle.words.specs.Lists.{flagOf, flagsOf, numbersOf, part, word}
+use Rattle.record_layout.specs.Order.{atCurrentX, atCurrentY, atFlags}
+use Rattle.record_layout.specs.declared.Layout.{Layout}
+use Rattle.record_read.proofs.Whole.{layout-is, layout-kept, sound}
+use Rattle.record_read.specs.Read.{layoutOf, openOf, readAs}
+use Rattle.record_read.specs.declared.Opened.{Opened}
+use Rattle.record_read.specs.declared.Opened.the-variants.{Damaged, Whole}
+use Rattle.record_run.specs.After.{Shelved, shelved}
+use Rattle.record_run.specs.declared.Replayed.{Replayed}
+use Rattle.record_replay.specs.Shelf.{onRead, shelfOf}
 use Rattle.record_print.specs.Print.{Front, answerLine, blank, glyphLines, pointLine, pointLines, printOf, textOf}
 use Rattle.record_print.specs.Steps.{Put, ended}
 use Rattle.record_print.specs.Text.{decimal, signedDecimal}

@@ -5,12 +5,12 @@ use mathlib.Core.List.{List, [], _∷_, _++_}
 use mathlib.Core.Path.{_≡_}
 use lib.IntN.{ℤ}
 use lib.ListN.{length, replicate, take}
-use Rattle.layout.specs.Order.{mostBytes}
-use Rattle.layout.specs.declared.Layout.{Layout}
-use Rattle.record.specs.Read.{worldIn}
-use Rattle.after.specs.After.{Shelved}
-use Rattle.after.specs.declared.Replayed.{Replayed}
-use Rattle.shelf.specs.Shelf.{shelfOf}
+use Rattle.record_layout.specs.Order.{mostBytes}
+use Rattle.record_layout.specs.declared.Layout.{Layout}
+use Rattle.record_read.specs.Read.{worldIn}
+use Rattle.record_run.specs.After.{Shelved}
+use Rattle.record_run.specs.declared.Replayed.{Replayed}
+use Rattle.record_replay.specs.Shelf.{shelfOf}
 use Rattle.record_print.specs.Text.{decimal, line, signedDecimal}
 
 -- ---- lines

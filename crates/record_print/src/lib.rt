@@ -2,25 +2,25 @@
 //
 // `print` answers for every byte string: the text that it leaves at the front of `text` is `printOf` of specs/Print.antt, and the bytes behind it stay
 // as they were. There is always room: no record's text is longer than TEXT_ROOM.
-use after::Replayed;
 use int::from_bits;
 use int::magnitude;
 use int::non_negative;
-use layout::Layout;
-use layout::MOST_BYTES;
-use layout::at_current_x;
-use layout::at_current_y;
-use layout::at_flags;
-use layout::wide;
-use shelf::replay;
-use word_lists::word;
+use record_layout::Layout;
+use record_layout::MOST_BYTES;
+use record_layout::at_current_x;
+use record_layout::at_current_y;
+use record_layout::at_flags;
+use record_layout::wide;
+use record_replay::replay;
+use record_run::Replayed;
+use words::word;
 ghost use mathlib.Core.Path.{_≡_};
 ghost use Prim.Native.Nat.{_+_, _≤_};
 ghost use mathlib.Core.List.{_++_};
 ghost use lib.ListN.{length, drop};
-ghost use Rattle.word_lists.specs.Lists.{word, flagOf};
+ghost use Rattle.words.specs.Lists.{word, flagOf};
 ghost use Rattle.int.specs.Word.{ofBits};
-ghost use Rattle.layout.specs.Order.{atCurrentX, atCurrentY, atFlags};
+ghost use Rattle.record_layout.specs.Order.{atCurrentX, atCurrentY, atFlags};
 ghost use Rattle.record_print.specs.Print.{answerLine, pointLine, glyphLines, printOf, Front};
 ghost use Rattle.record_print.specs.Text.{lastDigit, decimal, signedDecimal};
 ghost use Rattle.record_print.specs.Steps.{ended, Put};

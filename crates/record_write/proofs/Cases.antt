@@ -7,11 +7,11 @@ use native.Mathlib.Omega.{arith}
 use borrow.Author.Tests.{le-leb, lt-leb}
 use lib.Dec.{leb}
 use lib.ListN.{drop, length}
-use Rattle.world.proofs.Alike.{fits-most}
-use Rattle.world.specs.Sizes.{worldFits}
-use Rattle.layout.specs.Order.{mostBytes, recordSize}
-use Rattle.layout.specs.declared.Layout.{Layout}
-use Rattle.record.specs.Format.{Held, layoutFor, recordOf}
+use Rattle.line.proofs.Alike.{fits-most}
+use Rattle.line.specs.Sizes.{worldFits}
+use Rattle.record_layout.specs.Order.{mostBytes, recordSize}
+use Rattle.record_layout.specs.declared.Layout.{Layout}
+use Rattle.record_read.specs.Format.{Held, layoutFor, recordOf}
 use Rattle.record_write.specs.Stored.{withRecord}
 use Rattle.record_write.specs.Written.{canWrite, sizeFor, writeOf, wrote}
 use Rattle.record_write.proofs.Joined.{Sized, sized, stored-record}

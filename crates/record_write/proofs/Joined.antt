@@ -10,13 +10,13 @@ use lib.IntN.{ℤ}
 use Rattle.graphics.specs.declared.GraphicsState.{GraphicsState}
 use Rattle.int.specs.Word.{bitsOf}
 use Rattle.state_words.specs.Words.{stateSize, stateWords}
-use Rattle.word_lists.specs.Lists.{bytesOf, part, placed, wordsOfNumbers, wrappingSum}
-use Rattle.word_lists.proofs.Sums.{written-sum}
-use Rattle.world.proofs.Alike.{fits-alike}
-use Rattle.world.specs.Sizes.{worldFits}
-use Rattle.layout.specs.Order.{atControls, atCurrentX, atCurrentY, atEnds, atFlags, atOriginalX, atOriginalY, atSheet, atTrailer, atTwilightFlags, atTwilightOriginalX, atTwilightOriginalY, atTwilightX, atTwilightY, atUnscaledX, atUnscaledY, recordSize, sumPlace, trailerSize}
-use Rattle.layout.specs.declared.Layout.{Layout}
-use Rattle.record.specs.Format.{Held, bodyWords, glyphWords, layoutFor, recordOf, trailerWords, twilightWords, wordsOf}
+use Rattle.words.specs.Lists.{bytesOf, part, placed, wordsOfNumbers, wrappingSum}
+use Rattle.words.proofs.Sums.{written-sum}
+use Rattle.line.proofs.Alike.{fits-alike}
+use Rattle.line.specs.Sizes.{worldFits}
+use Rattle.record_layout.specs.Order.{atControls, atCurrentX, atCurrentY, atEnds, atFlags, atOriginalX, atOriginalY, atSheet, atTrailer, atTwilightFlags, atTwilightOriginalX, atTwilightOriginalY, atTwilightX, atTwilightY, atUnscaledX, atUnscaledY, recordSize, sumPlace, trailerSize}
+use Rattle.record_layout.specs.declared.Layout.{Layout}
+use Rattle.record_read.specs.Format.{Held, bodyWords, glyphWords, layoutFor, recordOf, trailerWords, twilightWords, wordsOf}
 use Rattle.record_write.specs.Stored.{withCounts, withCurrents, withOriginals, withRecord, withSources, withState, withSum, withTrailer, withTwilight}
 use Rattle.record_write.proofs.Placing.{placed-front, placed-join, placed-size}
 

@@ -8,8 +8,8 @@ use borrow.Author.Tests.{le-leb, leb-false, leb-true}
 use lib.Dec.{leb}
 use lib.ListN.{drop, length, length-append, set, take}
 use lib.Seq.{sets}
-use Rattle.word_lists.specs.Lists.{bytesOf, bytesOfWord, placed}
-use Rattle.word_lists.proofs.Storing.{as-sets, bytes-length, no-room, placed-length}
+use Rattle.words.specs.Lists.{bytesOf, bytesOfWord, placed}
+use Rattle.words.proofs.Storing.{as-sets, bytes-length, no-room, placed-length}
 
 sets-join : (l : List ℕ) (i : ℕ) (us vs : List ℕ) → sets (sets l i us) (i + length us) vs ≡ sets l i (us ++ vs)
 sets-join l i [] vs = let e : i + 0 ≡ i = omega arith in ap (λ (k : ℕ). sets l k vs) e

@@ -2,9 +2,9 @@
 use mathlib.Core.Path.{_≡_, refl, ap₂, _∙_}
 use mathlib.Core.List.{List, [], _∷_}
 use Prim.Native.Nat.{ℕ, _*_, _%_, _^_}
-use Rattle.layout.specs.Order.{atTrailer, edition, sumPlace}
-use Rattle.layout.specs.declared.Layout.{Layout}
-use Rattle.word_lists.specs.Lists.{part, placed, wrappingSum}
+use Rattle.record_layout.specs.Order.{atTrailer, edition, sumPlace}
+use Rattle.record_layout.specs.declared.Layout.{Layout}
+use Rattle.words.specs.Lists.{part, placed, wrappingSum}
 use Rattle.record_write.specs.Stored.{withCounts, withSum}
 
 -- words at a place, over what was left before

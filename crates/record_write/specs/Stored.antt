@@ -1,14 +1,14 @@
 -- A record stored part by part over bytes, each part at its place of the layout: document 02, K4. These are the writer's steps; what a
--- reader must believe is `recordOf` of the crate record, and proofs/Joined.antt proves that they come to it. Assumes nothing.
+-- reader must believe is `recordOf` of the crate record_read, and proofs/Joined.antt proves that they come to it. Assumes nothing.
 use Prim.Native.Nat.{ℕ}
 use mathlib.Core.List.{List, [], _∷_}
 use lib.IntN.{ℤ}
 use Rattle.graphics.specs.declared.GraphicsState.{GraphicsState}
 use Rattle.state_words.specs.Words.{stateWords}
-use Rattle.word_lists.specs.Lists.{part, wrappingSum, placed, wordsOfNumbers}
-use Rattle.layout.specs.declared.Layout.{Layout}
-use Rattle.layout.specs.Order.{sumPlace, atUnscaledX, atUnscaledY, atOriginalX, atOriginalY, atCurrentX, atCurrentY, atFlags, atEnds, atTwilightOriginalX, atTwilightOriginalY, atTwilightX, atTwilightY, atTwilightFlags, atControls, atSheet, atTrailer}
-use Rattle.record.specs.Format.{Held, trailerWords}
+use Rattle.words.specs.Lists.{part, wrappingSum, placed, wordsOfNumbers}
+use Rattle.record_layout.specs.declared.Layout.{Layout}
+use Rattle.record_layout.specs.Order.{sumPlace, atUnscaledX, atUnscaledY, atOriginalX, atOriginalY, atCurrentX, atCurrentY, atFlags, atEnds, atTwilightOriginalX, atTwilightOriginalY, atTwilightX, atTwilightY, atTwilightFlags, atControls, atSheet, atTrailer}
+use Rattle.record_read.specs.Format.{Held, trailerWords}
 
 -- the state's words over the first words of a byte string
 abbrev pub withState : GraphicsState → List ℕ → List ℕ

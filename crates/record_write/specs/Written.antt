@@ -4,9 +4,9 @@ use mathlib.Core.Bool.{Bool, cond, _&&_}
 use mathlib.Core.List.{List, _++_}
 use lib.Dec.{leb}
 use lib.ListN.{drop, length}
-use Rattle.world.specs.Sizes.{worldFits}
-use Rattle.layout.specs.Order.{mostBytes, recordSize}
-use Rattle.record.specs.Format.{Held, layoutFor, recordOf}
+use Rattle.line.specs.Sizes.{worldFits}
+use Rattle.record_layout.specs.Order.{mostBytes, recordSize}
+use Rattle.record_read.specs.Format.{Held, layoutFor, recordOf}
 
 abbrev pub sizeFor : Held → ℕ
 sizeFor h = recordSize (layoutFor h)

@@ -6,15 +6,15 @@ use mathlib.Core.Path.{_∙_, _≡_, ap, ap₂, refl, sym}
 use lib.Dec.{leb}
 use lib.ListN.{length}
 use lib.IntN.{ℤ}
-use Rattle.world.specs.World.{Alike, Fixed, World}
-use Rattle.world.specs.Sizes.{worldFits}
-use Rattle.world.proofs.Alike.{fits-alike}
+use Rattle.line.specs.World.{Alike, Fixed, World}
+use Rattle.line.specs.Sizes.{worldFits}
+use Rattle.line.proofs.Alike.{fits-alike}
 use Rattle.answer.specs.declared.Call.{Call}
 use Rattle.answer.specs.declared.Call.the-variants.{Done, Refused as RefusedCall}
 use Rattle.answer.specs.declared.Refusal.{Refusal}
 use Rattle.graphics.specs.State.{usableState}
-use Rattle.onward.specs.declared.Answer.the-variants.{Refused}
-use Rattle.onward.specs.Onward.{ends, replayOf}
+use Rattle.run_lines.specs.declared.Answer.the-variants.{Refused}
+use Rattle.run_lines.specs.Onward.{ends, replayOf}
 use Rattle.replay.specs.Run.{entryOf, onEntry, runOf}
 
 pub entry-is : {sized usable fit ready : Bool} (starts : Bool) {begun : Call} → begun ≡ entryOf sized usable starts → sized ≡ fit → usable ≡ ready

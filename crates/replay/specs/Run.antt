@@ -12,11 +12,11 @@ use Rattle.answer.specs.declared.Refusal.{Refusal}
 use Rattle.answer.specs.declared.Refusal.the-variants.{Sizes, State, Line}
 use Rattle.graphics.specs.State.{usableState}
 use Rattle.graphics.specs.declared.GraphicsState.{GraphicsState}
-use Rattle.world.specs.Sizes.{worldFits}
-use Rattle.world.specs.World.{Fixed, World}
-use Rattle.onward.specs.Onward.{Ran, ends, replayOf}
-use Rattle.onward.specs.declared.Answer.the-variants.{Refused}
-use Rattle.onward.specs.declared.Outcome.{Outcome}
+use Rattle.line.specs.Sizes.{worldFits}
+use Rattle.line.specs.World.{Fixed, World}
+use Rattle.run_lines.specs.Onward.{Ran, ends, replayOf}
+use Rattle.run_lines.specs.declared.Answer.the-variants.{Refused}
+use Rattle.run_lines.specs.declared.Outcome.{Outcome}
 
 abbrev pub entryRefused : Refusal → ℕ → GraphicsState → Outcome
 entryRefused why start s = record { answer = Refused why; place = start; lines = 0; state = s }

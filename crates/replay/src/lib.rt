@@ -20,14 +20,14 @@
 use answer::Call;
 use answer::Refusal;
 use graphics::GraphicsState;
-use onward::Answer;
-use onward::Outcome;
-use onward::onward;
+use line::sizes_fit;
 use opcodes::needs_table;
-use world::sizes_fit;
+use run_lines::Answer;
+use run_lines::Outcome;
+use run_lines::onward;
 ghost use mathlib.Core.Path.{_≡_};
-ghost use Rattle.world.specs.World.{fixed, world};
-ghost use Rattle.onward.specs.Onward.{ran};
+ghost use Rattle.line.specs.World.{fixed, world};
+ghost use Rattle.run_lines.specs.Onward.{ran};
 ghost use Rattle.replay.specs.Run.{entryOf, entryRefused, runOf};
 
 // The tests before the first line, in their order.

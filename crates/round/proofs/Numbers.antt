@@ -1,4 +1,4 @@
--- The corners at -2 ^ 31 and at divisor 0 that document 01's table leaves out, as one claim; the table itself is `PaperNumbers` of the crate laws. Each
+-- The corners at -2 ^ 31 and at divisor 0 that document 01's table leaves out, as one claim; the table itself is `PaperNumbers` of the crate laws_run. Each
 -- row computes from the definitions. Assumes nothing.
 use mathlib.Core.Path.{_≡_, refl}
 use mathlib.Core.List.{List, [], _∷_, map}

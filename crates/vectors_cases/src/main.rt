@@ -4,17 +4,17 @@
 // zone_calls, state_calls and runs). What this prints is held to the file `stdout`; the cases stand in the file `stdin`: the direct calls
 // other than iup, those of iup, single lines, runs, the shifts and range flips, the selectors, direct calls whose lists don't fit, and
 // cases that one rule alone decides.
-use cases::KIND;
-use cases::word;
 use libc::STDIN_FILENO;
-use tally::Tally;
-use tally::Turn;
+use test_cases::KIND;
+use test_cases::word;
+use test_tally::Tally;
+use test_tally::Turn;
 
 fn agrees(case: &[u8]) -> bool {
     match word(case, KIND) {
-        0 => runs::agrees(case),
-        1..=9 => zone_calls::agrees(case),
-        10..=13 => state_calls::agrees(case),
+        0 => test_runs::agrees(case),
+        1..=9 => test_zone_calls::agrees(case),
+        10..=13 => test_state_calls::agrees(case),
         _ => false,
     }
 }

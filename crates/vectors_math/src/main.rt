@@ -8,8 +8,8 @@ use round::RoundMode;
 use round::RoundState;
 use round::Rounded;
 use state_words::mode_of;
-use tally::Tally;
-use tally::Turn;
+use test_tally::Tally;
+use test_tally::Turn;
 use words::word_at;
 
 // A row's word as a signed number.

@@ -2,18 +2,18 @@
 //
 // A row is 24 little-endian words: the call, three vectors, two points, the answer's number and up to four results (docs/ORACLE.md). What
 // this prints is held to the file `stdout`; the rows stand in the file `stdin`.
+use flags::CoordAxis;
 use graphics::GraphicsState;
 use graphics::Vector;
 use graphics::Vectors;
 use int::equal;
 use int::from_bits;
 use libc::STDIN_FILENO;
-use point::CoordAxis;
 use projection::Deduced;
 use projection::Derived;
 use projection::Measured;
-use tally::Tally;
-use tally::Turn;
+use test_tally::Tally;
+use test_tally::Turn;
 use words::word_at;
 
 // Two words of a row, from a byte on.

@@ -1,12 +1,12 @@
 // Replays the record on standard input and writes it as it stands afterwards. A refused record writes nothing, and so does input that cannot be read.
 //
-// All that is said and left is `shelf::replay`, one equation with its definition; what this writes of it is held to the file `stdout`.
-use layout::MOST_BYTES;
+// All that is said and left is `record_replay::replay`, one equation with its definition; what this writes of it is held to the file `stdout`.
 use record_io::INPUT_ROOM;
 use record_io::read_input;
 use record_io::say_unread;
 use record_io::write_output;
-use shelf::replay;
+use record_layout::MOST_BYTES;
+use record_replay::replay;
 
 fn write_front(record: &[u8], size: usize) {
     if size <= record.len() {

@@ -14,8 +14,8 @@ use Rattle.answer.specs.declared.Call.the-variants.{Refused, Done}
 use Rattle.answer.specs.declared.Refusal.the-variants.{Point, Range}
 use Rattle.graphics.specs.declared.Vector.{Vector}
 use Rattle.limits.specs.Limits.{mostContours}
-use Rattle.point.specs.Flag.{hasAny, touchBits}
-use Rattle.point.specs.declared.CoordAxis.{CoordAxis}
+use Rattle.flags.specs.Flag.{hasAny, touchBits}
+use Rattle.flags.specs.declared.CoordAxis.{CoordAxis}
 use Rattle.zone.specs.Sizes.{glyphFits, pairFits, placedFits, twilightFits}
 use Rattle.zone.specs.Zone.{placeOf, fetchOf, marked, changeAt, markedAt, touchedOf, onCurve, overPart, setOnCurveOf}
 use Rattle.zone.specs.declared.Fetched.the-variants.{At}

@@ -11,9 +11,9 @@ use lib.Bits.{bitOr, bitXor, or-zero-r}
 use lib.ListN.{length, take, drop, getD, set, length-append, length-drop, length-set, List·getD-append}
 use lib.Seq.{getD-append-add, set-out, set-getD, length-take-le, getD-drop, getD-take, getD-set-same, getD-set-other}
 use Rattle.int.proofs.Ints.{split}
-use Rattle.point.proofs.Bits.{or-keeps, and-keeps, xor-keeps}
-use Rattle.point.specs.Flag.{bit, cleared, touchBits}
-use Rattle.point.specs.declared.CoordAxis.{CoordAxis}
+use Rattle.flags.proofs.Bits.{or-keeps, and-keeps, xor-keeps}
+use Rattle.flags.specs.Flag.{bit, cleared, touchBits}
+use Rattle.flags.specs.declared.CoordAxis.{CoordAxis}
 use Rattle.zone.proofs.Cases.{range-in, range-reversed, range-out}
 use Rattle.zone.proofs.Each.{length-map}
 use Rattle.zone.specs.Zone.{Marked, changeAt, markedAt, orAt, onCurve, overPart, setOnCurveOf}

@@ -1,3 +1,2 @@
-pub mod Direct
 pub mod Sizes
 pub mod Zone

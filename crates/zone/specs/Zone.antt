@@ -15,8 +15,8 @@ use Rattle.answer.specs.declared.Refusal.the-variants.{Point, Range}
 use Rattle.answer.specs.declared.Call.{Call}
 use Rattle.answer.specs.declared.Call.the-variants.{Done, Refused}
 use Rattle.graphics.specs.declared.Vector.{Vector}
-use Rattle.point.specs.Flag.{hasAny, cleared, touchBits}
-use Rattle.point.specs.declared.CoordAxis.{CoordAxis}
+use Rattle.flags.specs.Flag.{hasAny, cleared, touchBits}
+use Rattle.flags.specs.declared.CoordAxis.{CoordAxis}
 use Rattle.zone.specs.declared.Fetched.{Fetched}
 use Rattle.zone.specs.declared.Fetched.the-variants.{At}
 use Rattle.zone.specs.declared.Fetched.the-variants.{Refused as RefusedPlace}

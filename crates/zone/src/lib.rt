@@ -2,19 +2,19 @@
 //
 // A zone is slices of numbers that share one length; a function is given the slices that it works on and no other, so either zone will do, and
 // what it isn't given it leaves alone. Each contract is one equation with a definition of specs/, which says what is answered and what every
-// list holds afterwards, refused or not. `fetch` asks that its two slices have one length; the calls that begin with `try` ask nothing, test
-// the sizes first (answer 2) and then the point or the range (7 or 11). Contour ends are read by IUP alone.
+// list holds afterwards, refused or not. `fetch` asks that its two slices have one length; the direct calls, which ask nothing,
+// stand above, in the crate direct_zone. Contour ends are read by IUP alone.
 use answer::Call;
 use answer::Refusal;
+use flags::CoordAxis;
+use flags::ON_CURVE;
+use flags::flipped;
+use flags::has_any;
+use flags::with_bits;
+use flags::without_bits;
 use graphics::Vector;
 use limits::contours_fit;
 use limits::points_fit;
-use point::CoordAxis;
-use point::ON_CURVE;
-use point::flipped;
-use point::has_any;
-use point::with_bits;
-use point::without_bits;
 ghost use mathlib.Core.Path.{_≡_};
 ghost use mathlib.Core.List.{map};
 ghost use Prim.Native.Nat.{_≤_};
@@ -22,7 +22,6 @@ ghost use lib.IntN.{pos};
 ghost use lib.ListN.{length, getD};
 ghost use Rattle.zone.specs.Zone.{fetchOf, placeOf, orAt, marked, touchOf, untouchOf, flipOf, touchedOf, onCurve, setOnCurveOf, saidOfFetched, saidOfTouched};
 ghost use Rattle.zone.specs.Sizes.{pairFits, flagsFit, placedFits, twilightFits, glyphFits};
-ghost use Rattle.zone.specs.Direct.{tryFetchOf, tryUnscaledOf, tryTouchOf, tryUntouchOf, tryFlipOf, tryTouchedOf, trySetOnCurveOf};
 
 // ---- reads
 // A point's place.
@@ -250,76 +249,4 @@ pub fn glyph_fits(
         & pair_fits(ux, uy)
         & twilight_fits(ox, oy, cx, cy, flags)
         & contours_fit(contours.len())
-}
-
-// ---- the direct calls: nothing is asked of a caller
-// `point` and `original` of zone.rs.
-pub fn try_fetch(xs: &[i32], ys: &[i32], at: u64) -> Fetched
-    ensures { λ r. ⌜ r ≡ tryFetchOf (now (xs .entry)) (now (ys .entry)) at ⌝ }
-{
-    if pair_fits(xs, ys) {
-        fetch(xs, ys, at)
-    } else {
-        Fetched::Refused(Refusal::Sizes)
-    }
-}
-
-pub fn try_unscaled(xs: &[i32], ys: &[i32], at: u64) -> Fetched
-    ensures { λ r. ⌜ r ≡ tryUnscaledOf (now (xs .entry)) (now (ys .entry)) at ⌝ }
-{
-    if pair_fits(xs, ys) {
-        Fetched::At(unscaled_at(xs, ys, at))
-    } else {
-        Fetched::Refused(Refusal::Sizes)
-    }
-}
-
-pub fn try_touch(flags: &mut [u8], at: u64, axis: CoordAxis) -> Call
-    ensures { λ r. ⌜ marked r (now (flags .exit)) ≡ tryTouchOf (now (flags .entry)) at axis ⌝ }
-{
-    if flags_fit(flags) {
-        touch(flags, at, axis)
-    } else {
-        Call::Refused(Refusal::Sizes)
-    }
-}
-
-pub fn try_untouch(flags: &mut [u8], at: u64, axis: CoordAxis) -> Call
-    ensures { λ r. ⌜ marked r (now (flags .exit)) ≡ tryUntouchOf (now (flags .entry)) at axis ⌝ }
-{
-    if flags_fit(flags) {
-        untouch(flags, at, axis)
-    } else {
-        Call::Refused(Refusal::Sizes)
-    }
-}
-
-pub fn try_flip_on_curve(flags: &mut [u8], at: u64) -> Call
-    ensures { λ r. ⌜ marked r (now (flags .exit)) ≡ tryFlipOf (now (flags .entry)) at ⌝ }
-{
-    if flags_fit(flags) {
-        flip_on_curve(flags, at)
-    } else {
-        Call::Refused(Refusal::Sizes)
-    }
-}
-
-pub fn try_is_touched(flags: &[u8], at: u64, axis: CoordAxis) -> Touched
-    ensures { λ r. ⌜ r ≡ tryTouchedOf (now (flags .entry)) at axis ⌝ }
-{
-    if flags_fit(flags) {
-        is_touched(flags, at, axis)
-    } else {
-        Touched::Refused(Refusal::Sizes)
-    }
-}
-
-pub fn try_set_on_curve(flags: &mut [u8], start: u64, end: u64, on: bool) -> Call
-    ensures { λ r. ⌜ marked r (now (flags .exit)) ≡ trySetOnCurveOf (now (flags .entry)) start end on ⌝ }
-{
-    if flags_fit(flags) {
-        set_on_curve(flags, start, end, on)
-    } else {
-        Call::Refused(Refusal::Sizes)
-    }
 }

@@ -9,7 +9,7 @@ use Rattle.line_set.specs.Setters.{setOf}
 use Rattle.line_steps.specs.Steps.{into}
 use Rattle.opcodes.proofs.Rows.{Above, Covered, at-none, at-number, at-two}
 use Rattle.opcodes.specs.Table.{rows}
-use Rattle.world.specs.World.{Fixed, World, fixed, world}
+use Rattle.line.specs.World.{Fixed, World, fixed, world}
 use Rattle.dispatch.proofs.perform.Statement.{statement}
 use Rattle.dispatch.proofs.perform.Tie as tie
 

@@ -2,7 +2,7 @@
 use mathlib.Core.Path.{_∙_, sym}
 use borrow.Author.Needs.{needs}
 use denote.Ref.{now}
-use Rattle.world.specs.World.{fixed}
+use Rattle.line.specs.World.{fixed}
 use Rattle.exports.proofs.Cases.{refused, taken}
 use Rattle.exports.proofs.taleviqa_run.Tie as tie
 use Rattle.exports.proofs.taleviqa_run.Statement.{statement}

@@ -2,7 +2,7 @@
 use mathlib.Core.Path.{ap}
 use denote.Ref.{now}
 use Rattle.graphics.specs.declared.GraphicsState.{GraphicsState}
-use Rattle.world.specs.World.{world}
+use Rattle.line.specs.World.{world}
 use Rattle.line_flip.proofs.Bridge.{flippt-is}
 use Rattle.line_flip.proofs.flippt.Statement.{statement}
 use Rattle.line_flip.proofs.flippt.Tie as tie

@@ -4,7 +4,7 @@ use mathlib.Core.Path.{ap, refl, sym, _∙_}
 use borrow.Author.Needs.{needs}
 use denote.Ref.{now}
 use Rattle.line_steps.specs.Steps.{into}
-use Rattle.world.specs.World.{world}
+use Rattle.line.specs.World.{world}
 use Rattle.line_flip.proofs.Cases.{too-few, none-set, range-set}
 use Rattle.line_flip.proofs.fliprg.Statement.{statement}
 use Rattle.line_flip.proofs.fliprg.Tie as tie

@@ -4,7 +4,7 @@ use mathlib.Core.Path.{ap, refl}
 use denote.Ref.{now}
 use lib.IntN.{ℤ}
 use Rattle.line_steps.specs.Steps.{into}
-use Rattle.world.specs.World.{World, world}
+use Rattle.line.specs.World.{World, world}
 use Rattle.line_isect.proofs.Cases.{isect-missing, isect-out, isect-put}
 use borrow.Author.Needs.{needs}
 use Rattle.line_isect.proofs.isect.Statement.{statement}

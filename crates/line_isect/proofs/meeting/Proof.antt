@@ -4,7 +4,7 @@ use mathlib.Core.List.{List}
 use denote.Ref.{now}
 use lib.IntN.{ℤ}
 use Rattle.graphics.specs.declared.GraphicsState.{GraphicsState}
-use Rattle.world.specs.World.{World, world}
+use Rattle.line.specs.World.{World, world}
 use Rattle.line_isect.proofs.Cases.{a0-out, a1-out, b0-out, b1-out, lines-meet}
 use borrow.Author.Needs.{needs}
 use Rattle.line_isect.proofs.meeting.Statement.{statement}

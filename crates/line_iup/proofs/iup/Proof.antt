@@ -5,7 +5,7 @@ use Prim.Native.Nat.{ℕ}
 use denote.Ref.{now}
 use lib.IntN.{ℤ}
 use Rattle.line_steps.specs.Steps.{into}
-use Rattle.world.specs.World.{Fixed, World, fixed, world}
+use Rattle.line.specs.World.{Fixed, World, fixed, world}
 use Rattle.line_iup.proofs.Cases.{iup-past, iup-walked}
 use Rattle.line_iup.proofs.iup.Statement.{statement}
 use Rattle.line_iup.proofs.iup.Tie as tie

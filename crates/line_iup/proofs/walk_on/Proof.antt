@@ -5,7 +5,7 @@ use Prim.Native.Nat.{ℕ}
 use denote.Ref.{now}
 use lib.IntN.{ℤ}
 use Rattle.graphics.specs.declared.GraphicsState.{GraphicsState}
-use Rattle.world.specs.World.{Fixed, World, fixed, world}
+use Rattle.line.specs.World.{Fixed, World, fixed, world}
 use Rattle.line_iup.proofs.Cases.{walked-x, walked-y}
 use Rattle.line_iup.proofs.walk_on.Statement.{statement}
 use Rattle.line_iup.proofs.walk_on.Tie as tie

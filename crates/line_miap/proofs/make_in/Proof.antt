@@ -5,7 +5,7 @@ use mir.Facts.{toZ-ofZ}
 use Rattle.line_miap.specs.Numbers.{controlPlace}
 use Rattle.line_steps.proofs.Laws.{made-twilight}
 use Rattle.line_steps.specs.Steps.{madeIn}
-use Rattle.world.specs.World.{world}
+use Rattle.line.specs.World.{world}
 use borrow.Author.Needs.{needs}
 use Rattle.line_miap.proofs.make_in.Statement.{statement}
 use Rattle.line_miap.proofs.make_in.Tie as tie

@@ -5,7 +5,7 @@ use lib.IntN.{ℤ}
 use mir.Facts.{toZ-ofZ}
 use Rattle.line_steps.proofs.Laws.{made-twilight}
 use Rattle.line_steps.specs.Steps.{madeIn}
-use Rattle.world.specs.World.{world}
+use Rattle.line.specs.World.{world}
 use Rattle.zone.specs.Zone.{placeOf}
 use Rattle.line_msirp.specs.Msirp.{madePlace}
 use Rattle.line_msirp.proofs.make_in.Statement.{statement}

@@ -4,7 +4,7 @@ use denote.Ref.{now}
 use Rattle.int.proofs.Words.{back32}
 use Rattle.line_steps.specs.Steps.{into, withPoints}
 use Rattle.moves.specs.Apply.{bothMoved}
-use Rattle.world.specs.World.{World, world}
+use Rattle.line.specs.World.{World, world}
 use Rattle.line_msirp.proofs.Cases.{msirp-missing, msirp-moved, msirp-passed}
 use Rattle.line_msirp.proofs.msirp.Statement.{statement}
 use Rattle.line_msirp.proofs.msirp.Tie as tie

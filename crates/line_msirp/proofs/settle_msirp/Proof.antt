@@ -2,7 +2,7 @@
 use mathlib.Core.Path.{sym, ap, _∙_}
 use Rattle.line.specs.Line.{doneWith}
 use Rattle.line_steps.specs.Steps.{byCall, doneIn, inState, into}
-use Rattle.world.specs.World.{World}
+use Rattle.line.specs.World.{World}
 use Rattle.line_msirp.specs.Msirp.{referencesAfter}
 use Rattle.line_msirp.proofs.settle_msirp.Statement.{statement}
 use Rattle.line_msirp.proofs.settle_msirp.Tie as tie

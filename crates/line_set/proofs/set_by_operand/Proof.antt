@@ -5,7 +5,7 @@ use mir.Facts.{toZ-ofZ}
 use lib.Dec.{eqb}
 use Rattle.graphics.specs.State.{withRound}
 use Rattle.int.specs.Word.{indexOf}
-use Rattle.selector.specs.Selector.{superOf}
+use Rattle.super_round.specs.Selector.{superOf}
 use Rattle.line.specs.Line.{doneWith}
 use Rattle.line_set.specs.Setters.{referenceBy, zoneBy, loopBy, operandBy}
 use Rattle.line_set.proofs.set_by_operand.Statement.{statement}

@@ -7,7 +7,7 @@ use denote.Ref.{now}
 use lib.IntN.{ℤ}
 use Rattle.line_span.proofs.Bridge.{span-is}
 use Rattle.line_steps.specs.Steps.{into}
-use Rattle.world.specs.World.{Fixed, World, fixed, world}
+use Rattle.line.specs.World.{Fixed, World, fixed, world}
 use Rattle.line_shc_shz.proofs.Cases.{contour-shifted, no-such-contour, shc-missing}
 use borrow.Author.Needs.{needs}
 use Rattle.line_shc_shz.proofs.shc.Statement.{statement}

@@ -7,7 +7,7 @@ use denote.Ref.{now}
 use lib.IntN.{ℤ}
 use Rattle.line_span.proofs.Bridge.{span-is}
 use Rattle.line_steps.specs.Steps.{into}
-use Rattle.world.specs.World.{Fixed, World, fixed, world}
+use Rattle.line.specs.World.{Fixed, World, fixed, world}
 use Rattle.line_shc_shz.proofs.Cases.{no-such-zone, shz-missing, zone-shifted}
 use Rattle.line_shc_shz.proofs.shz.Statement.{statement}
 use Rattle.line_shc_shz.proofs.shz.Tie as tie

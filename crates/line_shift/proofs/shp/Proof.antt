@@ -8,7 +8,7 @@ use lib.IntN.{ℤ}
 use Rattle.graphics.specs.declared.GraphicsState.{GraphicsState}
 use Rattle.int.proofs.Words.{back32}
 use Rattle.line_steps.specs.Steps.{into}
-use Rattle.world.specs.World.{Fixed, World, fixed, world}
+use Rattle.line.specs.World.{Fixed, World, fixed, world}
 use Rattle.line_shift.proofs.Cases.{shp-refused, shp-shifted}
 use Rattle.line_shift.proofs.shp.Statement.{statement}
 use Rattle.line_shift.proofs.shp.Tie as tie

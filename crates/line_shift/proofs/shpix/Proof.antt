@@ -9,7 +9,7 @@ use lib.IntN.{ℤ}
 use Rattle.graphics.specs.declared.GraphicsState.{GraphicsState}
 use Rattle.int.proofs.Words.{back32}
 use Rattle.line_steps.specs.Steps.{into}
-use Rattle.world.specs.World.{World, world}
+use Rattle.line.specs.World.{World, world}
 use Rattle.line_shift.proofs.Cases.{amount-first, compatible, no-amount}
 use Rattle.line_shift.proofs.shpix.Statement.{statement}
 use Rattle.line_shift.proofs.shpix.Tie as tie

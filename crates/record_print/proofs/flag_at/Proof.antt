@@ -3,7 +3,7 @@ use mathlib.Core.Path.{_∙_, ap}
 use Prim.Native.Nat.{_%_, _+_, ℕ}
 use borrow.Author.Needs.{needs}
 use denote.Ref.{now}
-use Rattle.word_lists.specs.Lists.{word}
+use Rattle.words.specs.Lists.{word}
 use Rattle.record_print.proofs.flag_at.Statement.{statement}
 use Rattle.record_print.proofs.flag_at.Tie as tie
 

@@ -5,8 +5,8 @@ use native.Mathlib.Omega.{arith}
 use borrow.Author.Needs.{needs}
 use denote.Ref.{now}
 use lib.ListN.{length}
-use Rattle.after.specs.After.{shelved}
-use Rattle.shelf.specs.Shelf.{shelfOf}
+use Rattle.record_run.specs.After.{shelved}
+use Rattle.record_replay.specs.Shelf.{shelfOf}
 use Rattle.record_print.specs.Print.{answerLine, blank}
 use Rattle.record_print.proofs.Room.{answer-most, lines-few, printed}
 use Rattle.record_print.proofs.print.Statement.{statement}

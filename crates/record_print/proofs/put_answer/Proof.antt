@@ -6,7 +6,7 @@ use native.Mathlib.Omega.{arith}
 use borrow.Author.Needs.{needs}
 use denote.Ref.{now}
 use lib.ListN.{length}
-use Rattle.after.specs.declared.Replayed.{Replayed}
+use Rattle.record_run.specs.declared.Replayed.{Replayed}
 use Rattle.record_print.specs.Print.{answerLine}
 use Rattle.record_print.specs.Steps.{Put, ended}
 use Rattle.record_print.specs.Text.{decimal}

@@ -11,8 +11,8 @@ use mir.Syntax.{w32}
 use mir.Val.{ofZ, toZ}
 use Rattle.int.proofs.Words.{back32}
 use Rattle.int.specs.Word.{ofBits}
-use Rattle.word_lists.specs.Lists.{word}
-use Rattle.layout.specs.Order.{atCurrentX, atCurrentY}
+use Rattle.words.specs.Lists.{word}
+use Rattle.record_layout.specs.Order.{atCurrentX, atCurrentY}
 use Rattle.record_print.specs.Print.{pointLine}
 use Rattle.record_print.specs.Steps.{Put, ended}
 use Rattle.record_print.specs.Text.{decimal, signedDecimal}

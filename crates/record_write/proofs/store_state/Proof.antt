@@ -5,7 +5,7 @@ use Prim.Native.Nat.{ℕ}
 use borrow.Author.Needs.{needs}
 use denote.Ref.{now}
 use Rattle.state_words.specs.Words.{written}
-use Rattle.word_lists.specs.Lists.{placed}
+use Rattle.words.specs.Lists.{placed}
 use Rattle.record_write.proofs.store_state.Statement.{statement}
 use Rattle.record_write.proofs.store_state.Tie as tie
 

@@ -2,8 +2,8 @@
 use mathlib.Core.Path.{_∙_, sym}
 use borrow.Author.Tests.{not-false, not-true}
 use denote.Ref.{now}
-use Rattle.world.specs.World.{fixed, world}
-use Rattle.record.specs.Format.{held}
+use Rattle.line.specs.World.{fixed, world}
+use Rattle.record_read.specs.Format.{held}
 use Rattle.record_write.proofs.Cases.{count-words, no-zones, too-long, too-short, written}
 use Rattle.record_write.proofs.write.Statement.{statement}
 use Rattle.record_write.proofs.write.Tie as tie

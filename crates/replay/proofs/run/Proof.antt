@@ -4,9 +4,9 @@ use lib.Dec.{leb}
 use lib.ListN.{length}
 use borrow.Author.Needs.{needs}
 use denote.Ref.{now}
-use Rattle.world.specs.World.{Fixed, World, fixed, world}
-use Rattle.onward.specs.declared.Outcome.{Outcome}
-use Rattle.onward.specs.Onward.{ran}
+use Rattle.line.specs.World.{Fixed, World, fixed, world}
+use Rattle.run_lines.specs.declared.Outcome.{Outcome}
+use Rattle.run_lines.specs.Onward.{ran}
 use Rattle.round.specs.Round.{usable}
 use Rattle.graphics.specs.State.{usableState}
 use Rattle.replay.proofs.Entry.{entered, entered-alike, entry-is, not-entered}

@@ -3,7 +3,7 @@ use mathlib.Core.Path.{ap, _∙_}
 use borrow.Author.Needs.{needs}
 use lib.ListN.{getD}
 use denote.Ref.{now}
-use Rattle.point.specs.Flag.{hasAny}
+use Rattle.flags.specs.Flag.{hasAny}
 use Rattle.zone.proofs.Cases.{touched-in, touched-out}
 use Rattle.zone.proofs.is_touched.Statement.{statement}
 use Rattle.zone.proofs.is_touched.Tie as tie

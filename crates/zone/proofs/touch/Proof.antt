@@ -3,7 +3,7 @@ use mathlib.Core.Path.{ap, _∙_}
 use Prim.Native.Nat.{ℕ}
 use lib.Bits.{bitOr}
 use denote.Ref.{now}
-use Rattle.point.specs.Flag.{touchBits}
+use Rattle.flags.specs.Flag.{touchBits}
 use Rattle.zone.proofs.Cases.{marked-in, marked-out}
 use Rattle.zone.specs.Zone.{orAt}
 use Rattle.zone.proofs.touch.Statement.{statement}

@@ -4,7 +4,7 @@ use Prim.Native.Nat.{ℕ}
 use borrow.Author.Needs.{needs}
 use lib.ListN.{getD, set}
 use denote.Ref.{now}
-use Rattle.point.specs.Flag.{cleared, touchBits}
+use Rattle.flags.specs.Flag.{cleared, touchBits}
 use Rattle.zone.proofs.Cases.{marked-in, marked-out}
 use Rattle.zone.proofs.untouch.Statement.{statement}
 use Rattle.zone.proofs.untouch.Tie as tie

@@ -1,0 +1,85 @@
+-- `direct_moves::try_move_original` meets its contract: by what the entry says, and then by what the move ensures. Assumes nothing.
+use mathlib.Core.Path.{refl, ap, _∙_}
+use denote.Ref.{now}
+use mir.Facts.{toZ-ofZ}
+use Rattle.direct_moves.proofs.Cases.{begun-fits, pairs-lengths, original-begun}
+use Rattle.graphics.specs.State.{usableState}
+use Rattle.moves.specs.Apply.{shiftIn}
+use Rattle.moves.specs.Move.{originalMoveOf}
+use Rattle.moves.specs.declared.Move.{Move}
+use Rattle.direct_moves.proofs.try_move_original.Statement.{statement}
+use Rattle.direct_moves.proofs.try_move_original.Tie as tie
+
+pairs-fit-requires : tie.Need-pairs-fit-requires
+pairs-fit-requires c κs = tt
+
+entry-requires : tie.Need-entry-requires
+entry-requires c κs = tt
+
+enum-known-begun : tie.Need-enum-known-begun
+enum-known-begun c = c .match .keys1
+
+enum-told : tie.Need-enum-told
+enum-told c = c .match .keys2
+
+original-move-of-requires : tie.Need-original-move-of-requires
+original-move-of-requires c κs = tt
+
+apply-coords-in-requires : tie.Need-apply-coords-in-requires
+apply-coords-in-requires c κs = let t = c .before .before .before .before .before in let e = t .before .before in let a = e .before .before .before .before .before .before .before .args in
+    pairs-lengths (now (a .gx)) (now (a .gy)) (now (a .tx)) (now (a .ty)) (begun-fits (usableState (a .s)) (e .before .pairs-fit .ensures) (e .entry .ensures) (t .enum-told .given .1))
+
+same-length : tie.Need-same-length
+same-length c = refl
+
+same-length-2 : tie.Need-same-length-2
+same-length-2 c = refl
+
+same-length-3 : tie.Need-same-length-3
+same-length-3 c = refl
+
+same-length-4 : tie.Need-same-length-4
+same-length-4 c = refl
+
+returns : tie.Need-returns
+returns c = let b = c .before in let e = b .before .before in let a = e .before .before .before .before .before .before .before .args in
+    original-begun (now (a .gx)) (now (a .gy)) (now (a .tx)) (now (a .ty)) (a .s) (a .zone) (a .at) (a .distance) (e .before .pairs-fit .ensures) (e .entry .ensures) (b .begun .given .1)
+
+same-length-5 : tie.Need-same-length-5
+same-length-5 c = c .before .before .before .before .apply-coords-in .kept .1 .1 .1 .0
+
+same-length-6 : tie.Need-same-length-6
+same-length-6 c = c .before .before .before .before .apply-coords-in .kept .1 .1 .1 .1 .0
+
+same-length-7 : tie.Need-same-length-7
+same-length-7 c = c .before .before .before .before .apply-coords-in .kept .1 .1 .1 .1 .1 .0
+
+same-length-8 : tie.Need-same-length-8
+same-length-8 c = c .before .before .before .before .apply-coords-in .kept .1 .1 .1 .1 .1 .1 .0
+
+returns-2 : tie.Need-returns-2
+returns-2 c = let p = c .before .before .before .before in let m = p .before .before .before .before .before in let t = m .before in let e = t .before .before in let s = e .before .before .before .before .before .before .before in let a = s .args in
+    p .apply-coords-in .ensures
+    ∙ ap (λ (m : Move). shiftIn m (a .at) (now (a .gx)) (now (a .gy)) (now (a .tx)) (now (a .ty)) (a .zone)) (m .original-move-of .ensures ∙ ap (originalMoveOf (a .s .vectors)) (toZ-ofZ (s .fits .distance)))
+    ∙ original-begun (now (a .gx)) (now (a .gy)) (now (a .tx)) (now (a .ty)) (a .s) (a .zone) (a .at) (a .distance) (e .before .pairs-fit .ensures) (e .entry .ensures) (t .enum-told .given .1)
+
+pub try-move-original-spec : {M : Type 1} → statement M
+try-move-original-spec =
+    tie.close
+    (tie.spec
+    pairs-fit-requires
+    entry-requires
+    enum-known-begun
+    enum-told
+    original-move-of-requires
+    apply-coords-in-requires
+    same-length
+    same-length-2
+    same-length-3
+    same-length-4
+    returns
+    same-length-5
+    same-length-6
+    same-length-7
+    same-length-8
+    returns-2)

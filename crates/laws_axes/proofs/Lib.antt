@@ -1,0 +1,15 @@
+pub mod Seen
+pub mod Inert
+pub mod Steps
+pub mod Walk
+pub mod Lines
+pub mod Held
+pub mod Table
+pub mod Opcodes
+pub mod Count
+pub mod Reaches
+pub mod RunSteps
+pub mod Apart
+pub mod Plain
+pub mod Still
+pub mod Examples

@@ -1,0 +1,14 @@
+-- What a record can hold. Assumes nothing.
+use mathlib.Core.Bool.{true}
+use mathlib.Core.Path.{_≡_}
+use Prim.Native.Nat.{_≤_}
+use Rattle.record_layout.specs.Order.{mostBytes, recordSize}
+use Rattle.record_read.specs.Format.{Held, layoutFor}
+use Rattle.line.specs.Sizes.{worldFits}
+use Rattle.record_read.proofs.Widths.{HeldInWidth}
+
+-- what a record can hold: lists within document 01's sizes, 24 KiB in all, and each value within its width
+pub record Keepable (h : Held) : Type 0 where
+  pub sizes : worldFits (h .fixed) (h .sheet) (h .world) ≡ true
+  pub short : recordSize (layoutFor h) ≤ mostBytes
+  pub widths : HeldInWidth h

@@ -1,0 +1,110 @@
+-- What is read can be held by a record: `read-keepable` holds of every byte string that `readOf` keeps. Assumes nothing.
+use mathlib.Core.List.{List, [], _∷_}
+use mathlib.Core.Path.{_≡_, subst}
+use Prim.Native.Nat.{_%_, _*_, _+_, _<_, _^_, ℕ}
+use native.Mathlib.Omega.{arith}
+use mir.Facts.{sfits-toZ}
+use mir.Syntax.{w32}
+use mir.Val.{SFits}
+use lib.ListN.{getD}
+use Rattle.int.specs.Word.{ofBits}
+use Rattle.state_words.specs.Words.{stateOf, stateSize}
+use Rattle.words.specs.Lists.{endsOf, flagsOf, numbersOf, part}
+use Rattle.words.proofs.Back.{Bytes, Words, part-fits}
+use Rattle.words.proofs.Back.Words.{more, none}
+use Rattle.record_layout.specs.Order.{atControls, atCurrentX, atCurrentY, atEnds, atFlags, atOriginalX, atOriginalY, atSheet, atTwilightFlags, atTwilightOriginalX, atTwilightOriginalY, atTwilightX, atTwilightY, atUnscaledX, atUnscaledY}
+use Rattle.record_layout.specs.declared.Layout.{Layout}
+use Rattle.record_read.specs.Format.{Held}
+use Rattle.record_read.specs.Read.{heldIn, openOf, readAs, readOf}
+use Rattle.record_read.specs.Read.Read.{Kept}
+use Rattle.record_read.specs.declared.Opened.{Opened}
+use Rattle.record_read.specs.declared.Opened.the-variants.{Damaged, Whole}
+use Rattle.laws_record.proofs.Keepable.{Keepable}
+use Rattle.laws_record.proofs.Values.{words-at}
+use Rattle.laws_record.proofs.Whence.{refused-or-kept, whence}
+use Rattle.words.proofs.Widths.{Below, Numbers, no-word, one-word}
+use Rattle.record_read.proofs.Widths.{FixedInWidth, HeldInWidth, InWidth, StateInWidth}
+
+-- ---- words of 32 bits, read as numbers, flags, ends and a state
+number-fits : (w : ℕ) → w < 2 ^ 32 → SFits w32 (ofBits w)
+number-fits w h = sfits-toZ {w = w32} (record { fits = h })
+
+numbers-fit : {ws : List ℕ} → Words ws → Numbers (numbersOf ws)
+numbers-fit none = no-word
+numbers-fit (more {w} h f) = one-word (number-fits w h) (numbers-fit f)
+
+flag-fits : (w : ℕ) → w % 256 < 256
+flag-fits w = omega arith
+
+flags-fit : (ws : List ℕ) → Below 256 (flagsOf ws)
+flags-fit [] = no-word
+flags-fit (w ∷ ws) = one-word (flag-fits w) (flags-fit ws)
+
+end-fits : (w : ℕ) → w % 65536 < 65536
+end-fits w = omega arith
+
+ends-fit : (ws : List ℕ) → Below 65536 (endsOf ws)
+ends-fit [] = no-word
+ends-fit (w ∷ ws) = one-word (end-fits w) (ends-fit ws)
+
+long-fits : (low high : ℕ) → low < 2 ^ 32 → high < 2 ^ 32 → low + high * 2 ^ 32 < 2 ^ 64
+long-fits low high f g = omega arith
+
+module _ (ws : List ℕ) (f : Words ws) where
+  at : (k : ℕ) → SFits w32 (ofBits (getD ws k 0))
+  at k = number-fits (getD ws k 0) (words-at ws k f)
+
+  long : (low high : ℕ) → getD ws low 0 + getD ws high 0 * 2 ^ 32 < 2 ^ 64
+  long low high = long-fits (getD ws low 0) (getD ws high 0) (words-at ws low f) (words-at ws high f)
+
+  state-fits : StateInWidth (stateOf ws)
+  unfolding stateOf
+  state-fits = record {
+    signed = record { vectors = ((at 0, at 1), (at 2, at 3), (at 4, at 5)); round = (at 7, at 8, at 9); cut-in = at 25 };
+    loop = words-at ws 16 f;
+    rp0 = long 10 11;
+    rp1 = long 12 13;
+    rp2 = long 14 15;
+  }
+
+-- ---- what lies in bytes is within its width, wherever it lies
+module _ (bytes : List ℕ) (f : Bytes bytes) (l : Layout) where
+  numbers : (first count : ℕ) → Numbers (numbersOf (part bytes first count))
+  numbers first count = numbers-fit (part-fits bytes first count f)
+
+  fixed-fits : FixedInWidth (heldIn bytes l .fixed)
+  fixed-fits = record {
+    controls = numbers (atControls l) (l .controls);
+    gux = numbers (atUnscaledX l) (l .points);
+    guy = numbers (atUnscaledY l) (l .points);
+    gox = numbers (atOriginalX l) (l .points);
+    goy = numbers (atOriginalY l) (l .points);
+    contours = ends-fit (part bytes (atEnds l) (l .contours));
+  }
+
+  world-fits : InWidth (heldIn bytes l .world)
+  world-fits = record {
+    state = state-fits (part bytes 0 stateSize) (part-fits bytes 0 stateSize f);
+    gx = numbers (atCurrentX l) (l .points);
+    gy = numbers (atCurrentY l) (l .points);
+    gflags = flags-fit (part bytes (atFlags l) (l .points));
+    tox = numbers (atTwilightOriginalX l) (l .twilight);
+    toy = numbers (atTwilightOriginalY l) (l .twilight);
+    tx = numbers (atTwilightX l) (l .twilight);
+    ty = numbers (atTwilightY l) (l .twilight);
+    tflags = flags-fit (part bytes (atTwilightFlags l) (l .twilight));
+  }
+
+  held-fits : HeldInWidth (heldIn bytes l)
+  held-fits = record { fixed = fixed-fits; sheet = numbers (atSheet l) (l .words); world = world-fits }
+
+-- ---- over every byte string
+by-verdict : (bytes : List ℕ) → Bytes bytes → (o : Opened) (h : Held) → readAs bytes o ≡ Kept h → HeldInWidth h
+by-verdict bytes f (Whole l) h e = let g : heldIn bytes l ≡ h = cc e in subst HeldInWidth g (held-fits bytes f l)
+by-verdict bytes f (Damaged why) h e = absurd (refused-or-kept e)
+
+-- what is read can be held by a record: it is within the sizes, and each value within its width
+pub read-keepable : (bytes : List ℕ) → Bytes bytes → (h : Held) → readOf bytes ≡ Kept h → Keepable h
+read-keepable bytes f h e =
+    let w = whence bytes h e in
+    record { sizes = w .fit; short = omega (arith, w .size, w .short); widths = by-verdict bytes f (openOf bytes) h e }

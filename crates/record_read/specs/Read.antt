@@ -1,0 +1,123 @@
+-- What a byte string holds, or why it is refused: document 02, K4. `readOf` answers for every byte string. Assumes nothing.
+use Prim.Native.Nat.{ℕ, _+_, _-_, _*_, _/_, _%_}
+use mathlib.Core.Bool.{Bool, cond, _&&_}
+use mathlib.Core.List.{List}
+use lib.Dec.{eqb, leb}
+use lib.IntN.{ℤ}
+use lib.ListN.{length}
+use Rattle.limits.specs.Limits.{mostPoints, mostContours, mostControlValues, mostWords}
+use Rattle.state_words.specs.Words.{stateSize, stateOf, isState}
+use Rattle.words.specs.Lists.{word, part, numbersOf, flagsOf, endsOf, allAtMost, wrappingSum}
+use Rattle.line.specs.World.{Fixed, fixed, World, world}
+use Rattle.record_layout.specs.declared.Layout.{Layout}
+use Rattle.record_layout.specs.Order.{edition, mostBytes, trailerSize, mostFlag, mostEnd, atUnscaledX, atUnscaledY, atOriginalX, atOriginalY, atCurrentX, atCurrentY, atFlags, atEnds, atTwilightOriginalX, atTwilightOriginalY, atTwilightX, atTwilightY, atTwilightFlags, atControls, atSheet, atTrailer}
+use Rattle.record_read.specs.declared.Damage.{Damage}
+use Rattle.record_read.specs.declared.Damage.the-variants.{TooLong, Form, Sum}
+use Rattle.record_read.specs.declared.Opened.{Opened}
+use Rattle.record_read.specs.declared.Opened.the-variants.{Whole, Damaged}
+use Rattle.record_read.specs.Format.{Held, held}
+
+-- ---- the trailer, read from the end
+-- whole words of a byte string
+abbrev pub wordCount : List ℕ → ℕ
+wordCount bytes = length bytes / 4
+
+abbrev pub trailerWord : List ℕ → ℕ → ℕ
+trailerWord bytes k = word bytes ((wordCount bytes - trailerSize) + k)
+
+abbrev pub layoutOf : List ℕ → Layout
+layoutOf bytes =
+    record {
+      points = trailerWord bytes 0;
+      contours = trailerWord bytes 1;
+      twilight = trailerWord bytes 2;
+      controls = trailerWord bytes 3;
+      words = trailerWord bytes 4;
+    }
+
+-- ---- what is refused with 16
+-- a length that is no whole number of words, or too short
+abbrev pub lengthFits : List ℕ → Bool
+lengthFits bytes = eqb (length bytes % 4) 0 && leb (stateSize + trailerSize) (wordCount bytes)
+
+-- counts that pass document 01's sizes
+abbrev pub countsFit : Layout → Bool
+countsFit l =
+    leb (l .points) mostPoints
+    && leb (l .contours) mostContours
+    && leb (l .twilight) mostPoints
+    && leb (l .controls) mostControlValues
+    && leb (l .words) mostWords
+
+-- counts that do not add up, another edition, or a wrong way back
+abbrev pub trailerFits : List ℕ → Layout → Bool
+trailerFits bytes l =
+    eqb (atTrailer l + trailerSize) (wordCount bytes) && eqb (trailerWord bytes 5) edition && eqb (trailerWord bytes 6) (atTrailer l * 4)
+
+abbrev pub framed : List ℕ → Bool
+framed bytes = lengthFits bytes && countsFit (layoutOf bytes) && trailerFits bytes (layoutOf bytes)
+
+-- words out of their range: the state's, a flag, a contour's end
+abbrev pub wordsFit : List ℕ → Layout → Bool
+wordsFit bytes l =
+    isState (part bytes 0 stateSize)
+    && allAtMost mostFlag (part bytes (atFlags l) (l .points))
+    && allAtMost mostEnd (part bytes (atEnds l) (l .contours))
+    && allAtMost mostFlag (part bytes (atTwilightFlags l) (l .twilight))
+
+-- ---- what is refused with 15
+abbrev pub sumFits : List ℕ → Bool
+sumFits bytes = eqb (wrappingSum (part bytes 0 (wordCount bytes - 1))) (trailerWord bytes 7)
+
+-- ---- reading
+-- the refusals, in order: too long, then form, then sum
+unfoldable pub openOf : List ℕ → Opened
+openOf bytes =
+    cond (leb (length bytes) mostBytes)
+    (cond (framed bytes && wordsFit bytes (layoutOf bytes)) (cond (sumFits bytes) (Whole (layoutOf bytes)) (Damaged Sum)) (Damaged Form))
+    (Damaged TooLong)
+
+abbrev pub numberOf : Damage → ℕ
+numberOf TooLong = 17
+numberOf Form = 16
+numberOf Sum = 15
+
+-- what the lists of a layout hold
+abbrev pub fixedIn : List ℕ → Layout → Fixed
+fixedIn bytes l =
+    fixed (numbersOf (part bytes (atControls l) (l .controls)))
+    (numbersOf (part bytes (atUnscaledX l) (l .points)))
+    (numbersOf (part bytes (atUnscaledY l) (l .points)))
+    (numbersOf (part bytes (atOriginalX l) (l .points)))
+    (numbersOf (part bytes (atOriginalY l) (l .points)))
+    (endsOf (part bytes (atEnds l) (l .contours)))
+
+abbrev pub worldIn : List ℕ → Layout → World
+worldIn bytes l =
+    world (stateOf (part bytes 0 stateSize))
+    (numbersOf (part bytes (atCurrentX l) (l .points)))
+    (numbersOf (part bytes (atCurrentY l) (l .points)))
+    (flagsOf (part bytes (atFlags l) (l .points)))
+    (numbersOf (part bytes (atTwilightOriginalX l) (l .twilight)))
+    (numbersOf (part bytes (atTwilightOriginalY l) (l .twilight)))
+    (numbersOf (part bytes (atTwilightX l) (l .twilight)))
+    (numbersOf (part bytes (atTwilightY l) (l .twilight)))
+    (flagsOf (part bytes (atTwilightFlags l) (l .twilight)))
+
+abbrev pub sheetIn : List ℕ → Layout → List ℤ
+sheetIn bytes l = numbersOf (part bytes (atSheet l) (l .words))
+
+abbrev pub heldIn : List ℕ → Layout → Held
+heldIn bytes l = held (fixedIn bytes l) (sheetIn bytes l) (worldIn bytes l)
+
+-- what a byte string holds, or the number that refuses it
+pub data Read : Type 0 where
+  Kept : Held → Read
+  Refused : ℕ → Read
+
+abbrev pub readAs : List ℕ → Opened → Read
+readAs bytes (Whole l) = Kept (heldIn bytes l)
+readAs bytes (Damaged why) = Refused (numberOf why)
+
+abbrev pub readOf : List ℕ → Read
+readOf bytes = readAs bytes (openOf bytes)

@@ -1,0 +1,75 @@
+-- A replay of a record by its parts: the lists that were loaded, and the verdict on the bytes. Assumes nothing.
+use mathlib.Core.List.{List, _++_}
+use mathlib.Core.Path.{_∙_, _≡_, ap, ap₂, refl, subst, sym}
+use Prim.Native.Nat.{_≤_, ℕ}
+use native.Mathlib.Omega.{arith}
+use lib.IntN.{ℤ}
+use lib.ListN.{drop, length, take}
+use lib.Seq.{take-at}
+use Rattle.int.specs.Word.{ofBits}
+use Rattle.words.proofs.Parts.{mapped-length}
+use Rattle.words.specs.Lists.{endOf, endsOf, flagOf, flagsOf, numbersOf, part}
+use Rattle.graphics.specs.declared.GraphicsState.{GraphicsState}
+use Rattle.line.specs.World.{Fixed, World, fixed, world}
+use Rattle.record_layout.specs.Order.{listRoom}
+use Rattle.record_layout.specs.declared.Layout.{Layout}
+use Rattle.record_read.proofs.Whole.{layout-is, layout-kept, sound}
+use Rattle.record_read.specs.Format.{held, layoutFor}
+use Rattle.record_read.specs.Read.{fixedIn, heldIn, layoutOf, numberOf, openOf, readAs}
+use Rattle.record_read.specs.declared.Damage.{Damage}
+use Rattle.record_read.specs.declared.Opened.the-variants.{Damaged, Whole}
+use Rattle.record_run.specs.After.{shelved, shelvedFor}
+use Rattle.record_replay.specs.Room.{pointRoom, twilightRoom}
+use Rattle.record_replay.specs.Shelf.{onRead, refusedAs, shelfOf}
+
+-- ---- the lists that were loaded
+-- the front of what a list was loaded to
+front : {A : Type 0} (f rest l : List A) (n : ℕ) → l ≡ f ++ rest → length f ≡ n → take n l ≡ f
+front f rest l n e h = ap (take n) e ∙ take-at f rest n h
+
+pub numbers-front : (bytes : List ℕ) (at n : ℕ) (l z : List ℤ) → l ≡ numbersOf (part bytes at n) ++ drop n z → take n l ≡ numbersOf (part bytes at n)
+numbers-front bytes at n l z e = front (numbersOf (part bytes at n)) (drop n z) l n e (mapped-length ofBits bytes at n)
+
+pub flags-front : (bytes : List ℕ) (at n : ℕ) (l z : List ℕ) → l ≡ flagsOf (part bytes at n) ++ drop n z → take n l ≡ flagsOf (part bytes at n)
+flags-front bytes at n l z e = front (flagsOf (part bytes at n)) (drop n z) l n e (mapped-length flagOf bytes at n)
+
+pub ends-front : (bytes : List ℕ) (at n : ℕ) (l z : List ℕ) → l ≡ endsOf (part bytes at n) ++ drop n z → take n l ≡ endsOf (part bytes at n)
+ends-front bytes at n l z e = front (endsOf (part bytes at n)) (drop n z) l n e (mapped-length endOf bytes at n)
+
+pub same-world : {s s′ : GraphicsState} {gx gx′ gy gy′ : List ℤ} {gflags gflags′ : List ℕ} {tox tox′ toy toy′ tx tx′ ty ty′ : List ℤ} {tflags tflags′ : List ℕ}
+    → s ≡ s′ → gx ≡ gx′ → gy ≡ gy′ → gflags ≡ gflags′ → tox ≡ tox′ → toy ≡ toy′ → tx ≡ tx′ → ty ≡ ty′ → tflags ≡ tflags′
+    → world s gx gy gflags tox toy tx ty tflags ≡ world s′ gx′ gy′ gflags′ tox′ toy′ tx′ ty′ tflags′
+same-world a b c d e f g h i = cc
+
+pub same-fixed : {k k′ ux ux′ uy uy′ ox ox′ oy oy′ : List ℤ} {c c′ : List ℕ}
+    → k ≡ k′ → ux ≡ ux′ → uy ≡ uy′ → ox ≡ ox′ → oy ≡ oy′ → c ≡ c′ → fixed k ux uy ox oy c ≡ fixed k′ ux′ uy′ ox′ oy′ c′
+same-fixed a b c d e f = cc
+
+pub whole-held : (l : Layout) (bytes : List ℕ) (w : World) (out : List ℕ) {f : Fixed} {sheet : List ℤ} → f ≡ fixedIn bytes l → sheet ≡ heldIn bytes l .sheet → w ≡ heldIn bytes l .world
+    → shelvedFor l (held f sheet w) out ≡ shelvedFor l (heldIn bytes l) out
+whole-held l bytes w out e g h = ap (λ k. shelvedFor l k out) (ap₂ (λ f s. held f s w) e g ∙ ap (held (fixedIn bytes l) (heldIn bytes l .sheet)) h)
+
+-- ---- the verdict
+module _ (bytes out : List ℕ) where
+  pub damaged : (why : Damage) → openOf bytes ≡ Damaged why → shelved (refusedAs (numberOf why)) out ≡ shelfOf bytes out
+  unfolding shelfOf onRead
+  damaged why e = sym (ap (λ o. onRead out (readAs bytes o)) e)
+
+  pub opened : (l : Layout) → openOf bytes ≡ Whole l → shelvedFor l (heldIn bytes l) out ≡ shelfOf bytes out
+  unfolding shelfOf onRead
+  opened l e = sym (ap (λ o. onRead out (readAs bytes o)) e ∙ ap (λ m. shelvedFor m (heldIn bytes l) out) (layout-kept bytes l))
+
+-- a record's lists have no more words together than are between its state and its trailer
+pub within : (bytes : List ℕ) (l : Layout) → openOf bytes ≡ Whole l → (l .points ≤ pointRoom) × ((l .contours ≤ listRoom) × ((l .twilight ≤ twilightRoom) × ((l .controls ≤ listRoom) × (l .words ≤ listRoom))))
+within bytes l e =
+    let s = sound bytes l e in
+    let u = s .adds-up in
+    let z = s .size-is in
+    let m = layoutOf bytes in
+    let g = layout-is bytes l e in
+    let p : m .points ≤ pointRoom = omega (arith, u, z) in
+    let c : m .contours ≤ listRoom = omega (arith, u, z) in
+    let t : m .twilight ≤ twilightRoom = omega (arith, u, z) in
+    let k : m .controls ≤ listRoom = omega (arith, u, z) in
+    let w : m .words ≤ listRoom = omega (arith, u, z) in
+    subst (λ (n : Layout). (n .points ≤ pointRoom) × ((n .contours ≤ listRoom) × ((n .twilight ≤ twilightRoom) × ((n .controls ≤ listRoom) × (n .words ≤ listRoom))))) g (p, (c, (t, (k, w))))

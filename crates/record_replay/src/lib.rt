@@ -1,0 +1,175 @@
+// A record replayed: document 02, K4. Both programs of the shelf are this one call.
+//
+// `replay` answers for every byte string: what it says, and the record that it leaves at the front of `out`, are one equation with `shelfOf` of
+// specs/Shelf.antt. A byte string that is no record is refused by its number, and `out` stays as it was.
+use record_layout::Layout;
+use record_layout::at_controls;
+use record_layout::at_current_x;
+use record_layout::at_current_y;
+use record_layout::at_ends;
+use record_layout::at_flags;
+use record_layout::at_original_x;
+use record_layout::at_original_y;
+use record_layout::at_sheet;
+use record_layout::at_twilight_flags;
+use record_layout::at_twilight_original_x;
+use record_layout::at_twilight_original_y;
+use record_layout::at_twilight_x;
+use record_layout::at_twilight_y;
+use record_layout::at_unscaled_x;
+use record_layout::at_unscaled_y;
+use record_layout::wide;
+use record_load::ends_at;
+use record_load::flags_at;
+use record_load::numbers_at;
+use record_read::Opened;
+use record_read::load_state;
+use record_read::open;
+use record_run::Replayed;
+use record_run::run_and_write;
+ghost use mathlib.Core.Path.{_≡_};
+ghost use Prim.Native.Nat.{_≤_};
+ghost use Rattle.line.specs.World.{fixed};
+ghost use Rattle.record_layout.specs.Order.{listRoom};
+ghost use Rattle.record_replay.specs.Room.{pointRoom, twilightRoom};
+ghost use Rattle.record_read.specs.Format.{held};
+ghost use Rattle.record_read.specs.Read.{worldIn, heldIn};
+ghost use Rattle.record_run.specs.After.{shelved, shelvedFor};
+ghost use Rattle.record_replay.specs.Shelf.{refusedAs, shelfOf};
+
+// No list of a record is longer than the words between its state and its trailer; a glyph point takes seven of these words, a twilight point five.
+const LIST_ROOM: usize = 6110;
+
+const POINT_ROOM: usize = 872;
+
+const TWILIGHT_ROOM: usize = 1222;
+
+// A replay over what lines only read; what they change is loaded here.
+fn replay_over(
+    bytes: &[u8],
+    l: Layout,
+    sheet: &[i32],
+    controls: &[i32],
+    gux: &[i32],
+    guy: &[i32],
+    gox: &[i32],
+    goy: &[i32],
+    contours: &[u16],
+    out: &mut [u8],
+) -> Replayed
+    requires { ⌜ l .points ≤ pointRoom ⌝ }
+    requires { ⌜ l .twilight ≤ twilightRoom ⌝ }
+    ensures { λ r. ⌜ shelved r (now (out .exit)) ≡ shelvedFor l (held (fixed (now (controls .entry)) (now (gux .entry)) (now (guy .entry)) (now (gox .entry)) (now (goy .entry)) (now (contours .entry))) (now (sheet .entry)) (worldIn (now (bytes .entry)) l)) (now (out .entry)) ⌝ }
+{
+    let n = wide(l.points);
+    let m = wide(l.twilight);
+    let mut gx = [0i32; POINT_ROOM];
+    numbers_at(bytes, at_current_x(l), n, &mut gx);
+    let mut gy = [0i32; POINT_ROOM];
+    numbers_at(bytes, at_current_y(l), n, &mut gy);
+    let mut gflags = [0u8; POINT_ROOM];
+    flags_at(bytes, at_flags(l), n, &mut gflags);
+    let mut tox = [0i32; TWILIGHT_ROOM];
+    numbers_at(bytes, at_twilight_original_x(l), m, &mut tox);
+    let mut toy = [0i32; TWILIGHT_ROOM];
+    numbers_at(bytes, at_twilight_original_y(l), m, &mut toy);
+    let mut tx = [0i32; TWILIGHT_ROOM];
+    numbers_at(bytes, at_twilight_x(l), m, &mut tx);
+    let mut ty = [0i32; TWILIGHT_ROOM];
+    numbers_at(bytes, at_twilight_y(l), m, &mut ty);
+    let mut tflags = [0u8; TWILIGHT_ROOM];
+    flags_at(bytes, at_twilight_flags(l), m, &mut tflags);
+    let s = load_state(bytes);
+    run_and_write(
+        l,
+        s,
+        sheet,
+        controls,
+        gux,
+        guy,
+        gox,
+        goy,
+        contours,
+        &mut gx[..n],
+        &mut gy[..n],
+        &mut gflags[..n],
+        &mut tox[..m],
+        &mut toy[..m],
+        &mut tx[..m],
+        &mut ty[..m],
+        &mut tflags[..m],
+        out,
+    )
+}
+
+// A replay of a whole record; what lines only read is loaded here.
+fn replay_whole(bytes: &[u8], l: Layout, out: &mut [u8]) -> Replayed
+    requires { ⌜ l .points ≤ pointRoom ⌝ }
+    requires { ⌜ l .contours ≤ listRoom ⌝ }
+    requires { ⌜ l .twilight ≤ twilightRoom ⌝ }
+    requires { ⌜ l .controls ≤ listRoom ⌝ }
+    requires { ⌜ l .words ≤ listRoom ⌝ }
+    ensures { λ r. ⌜ shelved r (now (out .exit)) ≡ shelvedFor l (heldIn (now (bytes .entry)) l) (now (out .entry)) ⌝ }
+{
+    let words = wide(l.words);
+    let values = wide(l.controls);
+    let n = wide(l.points);
+    let ends = wide(l.contours);
+    let mut sheet = [0i32; LIST_ROOM];
+    numbers_at(bytes, at_sheet(l), words, &mut sheet);
+    let mut controls = [0i32; LIST_ROOM];
+    numbers_at(bytes, at_controls(l), values, &mut controls);
+    let mut gux = [0i32; POINT_ROOM];
+    numbers_at(bytes, at_unscaled_x(l), n, &mut gux);
+    let mut guy = [0i32; POINT_ROOM];
+    numbers_at(bytes, at_unscaled_y(l), n, &mut guy);
+    let mut gox = [0i32; POINT_ROOM];
+    numbers_at(bytes, at_original_x(l), n, &mut gox);
+    let mut goy = [0i32; POINT_ROOM];
+    numbers_at(bytes, at_original_y(l), n, &mut goy);
+    let mut contours = [0u16; LIST_ROOM];
+    ends_at(bytes, at_ends(l), ends, &mut contours);
+    replay_over(
+        bytes,
+        l,
+        &sheet[..words],
+        &controls[..values],
+        &gux[..n],
+        &guy[..n],
+        &gox[..n],
+        &goy[..n],
+        &contours[..ends],
+        out,
+    )
+}
+
+fn refuse(number: u32) -> Replayed
+    ensures { λ r. ⌜ r ≡ refusedAs number ⌝ }
+{
+    let layout = Layout {
+        points: 0,
+        contours: 0,
+        twilight: 0,
+        controls: 0,
+        words: 0,
+    };
+    Replayed {
+        number,
+        place: 0,
+        lines: 0,
+        detail: 0,
+        size: 0,
+        layout,
+    }
+}
+
+// A record replayed: the answer, and the record as it then stands at the front of `out`, where there is room for it.
+pub fn replay(bytes: &[u8], out: &mut [u8]) -> Replayed
+    ensures { λ r. ⌜ shelved r (now (out .exit)) ≡ shelfOf (now (bytes .entry)) (now (out .entry)) ⌝ }
+{
+    let opened = open(bytes);
+    match opened {
+        Opened::Damaged(why) => refuse(why.number()),
+        Opened::Whole(l) => replay_whole(bytes, l, out),
+    }
+}

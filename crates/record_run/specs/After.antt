@@ -1,0 +1,49 @@
+-- A run of what a record holds, and what is written of it: document 02, K4. Assumes nothing.
+use Prim.Native.Nat.{ℕ}
+use mathlib.Core.List.{List}
+use lib.IntN.{ℤ}
+use lib.ListN.{length}
+use Rattle.line.specs.World.{World, world}
+use Rattle.run_lines.specs.Onward.{Ran, numberOfAnswer, detailOfAnswer}
+use Rattle.run_lines.specs.declared.Outcome.{Outcome}
+use Rattle.replay.specs.Run.{runOf}
+use Rattle.record_layout.specs.declared.Layout.{Layout}
+use Rattle.record_read.specs.Format.{Held, held}
+use Rattle.record_write.specs.Written.{Wrote, writeOf}
+use Rattle.record_run.specs.declared.Replayed.{Replayed}
+
+-- what is said, and the bytes afterwards
+pub record Shelved : Type 0 where
+  pub said : Replayed
+  pub out : List ℕ
+
+abbrev pub shelved : Replayed → List ℕ → Shelved
+shelved said out = record { said = said; out = out }
+
+-- "The start is 0, the budget the sheet's word count."
+abbrev pub ranFrom : Held → Ran
+ranFrom h = runOf (h .fixed) (h .sheet) (length (h .sheet)) 0 (h .world)
+
+-- "the record as it stands after the replay"
+abbrev pub after : Held → Held
+after h = held (h .fixed) (h .sheet) (ranFrom h .world)
+
+-- the world after the run, with these lists in the place of its own
+abbrev pub leftWith : Held → List ℤ → List ℤ → List ℕ → List ℤ → List ℤ → List ℤ → List ℤ → List ℕ → World
+leftWith h gx gy gflags tox toy tx ty tflags = world (ranFrom h .world .state) gx gy gflags tox toy tx ty tflags
+
+-- number, place, lines and detail, the bytes that are written, and how the lists lie in them
+abbrev pub saidOf : Layout → Ran → ℕ → Replayed
+saidOf l r size =
+    record { number = numberOfAnswer (r .answer); place = r .place; lines = r .lines; detail = detailOfAnswer (r .answer); size = size; layout = l }
+
+-- the same of what `run` hands back
+abbrev pub told : Layout → Outcome → ℕ → Replayed
+told l r size =
+    record { number = numberOfAnswer (r .answer); place = r .place; lines = r .lines; detail = detailOfAnswer (r .answer); size = size; layout = l }
+
+abbrev pub shelvedAs : Layout → Ran → Wrote → Shelved
+shelvedAs l r w = shelved (saidOf l r (w .size)) (w .bytes)
+
+abbrev pub shelvedFor : Layout → Held → List ℕ → Shelved
+shelvedFor l h out = shelvedAs l (ranFrom h) (writeOf (after h) out)

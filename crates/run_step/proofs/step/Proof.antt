@@ -1,0 +1,103 @@
+-- `run_step::step` meets its contract: by what was read off the sheet; the operands that were read lie in it. Assumes nothing.
+use mathlib.Core.Path.{_∙_, sym}
+use native.Mathlib.Omega.{arith}
+use borrow.Author.Needs.{needs}
+use denote.Ref.{now}
+use Rattle.line.specs.World.{Fixed, World, fixed, world}
+use Rattle.run_step.proofs.Steps.{not-read, operands-inside, was-done}
+use Rattle.run_step.proofs.step.Tie as tie
+use Rattle.run_step.proofs.step.Statement.{statement}
+
+abbrev entry : tie.Start → World
+entry s =
+    world (s .args .s) (now (s .args .gx)) (now (s .args .gy)) (now (s .args .gflags)) (now (s .args .tox)) (now (s .args .toy)) (now (s .args .tx)) (now (s .args .ty)) (now (s .args .tflags))
+
+abbrev held : tie.Start → Fixed
+held s = fixed (now (s .args .controls)) (now (s .args .gux)) (now (s .args .guy)) (now (s .args .gox)) (now (s .args .goy)) (now (s .args .contours))
+
+decode-requires : tie.Need-decode-requires
+decode-requires c κs = search needs
+
+enum-known-line : tie.Need-enum-known-line
+enum-known-line c = search needs
+
+enum-known-line-2 : tie.Need-enum-known-line-2
+enum-known-line-2 c = search needs
+
+mul-perform : tie.Need-mul-perform
+mul-perform c = let l = c .before in let k = l .before .before in let s = k .before .before .before .before .before in let b = operands-inside (now (s .args .sheet)) (s .args .s .«loop_counter») (s .args .at) (sym (k .decode .ensures) ∙ l .line2 .given .1) in
+    omega (arith, b .0, b .1, s .good .1 .1 .0 .1)
+
+sub-perform : tie.Need-sub-perform
+sub-perform c = let l = c .before in let k = l .before .before in let s = k .before .before .before .before .before in let b = operands-inside (now (s .args .sheet)) (s .args .s .«loop_counter») (s .args .at) (sym (k .decode .ensures) ∙ l .line2 .given .1) in
+    omega (arith, b .0)
+
+part-perform-start : tie.Need-part-perform-start
+part-perform-start c = let l = c .before in let k = l .before .before in let s = k .before .before .before .before .before in let b = operands-inside (now (s .args .sheet)) (s .args .s .«loop_counter») (s .args .at) (sym (k .decode .ensures) ∙ l .line2 .given .1) in
+    omega (arith, b .0)
+
+part-perform-end : tie.Need-part-perform-end
+part-perform-end c = let l = c .before in let k = l .before .before in let s = k .before .before .before .before .before in let b = operands-inside (now (s .args .sheet)) (s .args .s .«loop_counter») (s .args .at) (sym (k .decode .ensures) ∙ l .line2 .given .1) in
+    omega (arith, b .1)
+
+perform-requires : tie.Need-perform-requires
+perform-requires c κs = let s = c .before .before .before .before .before .before .before .before .before .before .before .before .before .before .before .before .before in s .pre .1
+
+land-requires : tie.Need-land-requires
+land-requires c κs = search needs
+
+returns : tie.Need-returns
+returns c = let l = c .before in let k = l .before .before in let s = k .before .before .before .before .before in
+    not-read (held s) (now (s .args .sheet)) (s .args .at) (entry s) (sym (k .decode .ensures) ∙ l .line .given .1)
+
+same-length : tie.Need-same-length
+same-length c = let k = c .before .before .before .before .before .before .before .before .before .before .before in k .perform .kept .1 .1 .1 .1 .1 .1 .1 .1 .0
+
+same-length-2 : tie.Need-same-length-2
+same-length-2 c = let k = c .before .before .before .before .before .before .before .before .before .before .before in k .perform .kept .1 .1 .1 .1 .1 .1 .1 .1 .1 .0
+
+same-length-3 : tie.Need-same-length-3
+same-length-3 c = let k = c .before .before .before .before .before .before .before .before .before .before .before in k .perform .kept .1 .1 .1 .1 .1 .1 .1 .1 .1 .1 .0
+
+same-length-4 : tie.Need-same-length-4
+same-length-4 c = let k = c .before .before .before .before .before .before .before .before .before .before .before in k .perform .kept .1 .1 .1 .1 .1 .1 .1 .1 .1 .1 .1 .1 .0
+
+same-length-5 : tie.Need-same-length-5
+same-length-5 c = let k = c .before .before .before .before .before .before .before .before .before .before .before in k .perform .kept .1 .1 .1 .1 .1 .1 .1 .1 .1 .1 .1 .1 .1 .0
+
+same-length-6 : tie.Need-same-length-6
+same-length-6 c = let k = c .before .before .before .before .before .before .before .before .before .before .before in k .perform .kept .1 .1 .1 .1 .1 .1 .1 .1 .1 .1 .1 .1 .1 .1 .0
+
+same-length-7 : tie.Need-same-length-7
+same-length-7 c = let k = c .before .before .before .before .before .before .before .before .before .before .before in k .perform .kept .1 .1 .1 .1 .1 .1 .1 .1 .1 .1 .1 .1 .1 .1 .1 .0
+
+same-length-8 : tie.Need-same-length-8
+same-length-8 c = let k = c .before .before .before .before .before .before .before .before .before .before .before in k .perform .kept .1 .1 .1 .1 .1 .1 .1 .1 .1 .1 .1 .1 .1 .1 .1 .1 .0
+
+returns-2 : tie.Need-returns-2
+returns-2 c = let p = c .before .before .before .before .before .before .before .before .before .before .before in let l = p .before .before .before .before .before .before .before .before .before .before .before in let k = l .before .before in let s = k .before .before .before .before .before in
+    was-done (held s) (now (s .args .sheet)) (s .args .at) (entry s) (sym (k .decode .ensures) ∙ l .line2 .given .1) (p .perform .ensures) (c .land .ensures)
+
+pub step-spec : {M : Type 1} → statement M
+step-spec =
+    tie.close
+    (tie.spec
+    decode-requires
+    enum-known-line
+    enum-known-line-2
+    mul-perform
+    sub-perform
+    part-perform-start
+    part-perform-end
+    perform-requires
+    land-requires
+    returns
+    same-length
+    same-length-2
+    same-length-3
+    same-length-4
+    same-length-5
+    same-length-6
+    same-length-7
+    same-length-8
+    returns-2)

@@ -1,0 +1,178 @@
+// One of the oracle's runs: a sheet run on lists, and judged by the case (docs/ORACLE.md).
+//
+// Words 10 and 11 of a case hold the start, 12 and 13 the budget. A run tests every size itself. Nothing is promised here but that every
+// function is safe and ends.
+use graphics::GraphicsState;
+use run_lines::Outcome;
+use test_cases::flags_of;
+use test_cases::length_of;
+use test_cases::long;
+use test_cases::state_of;
+use test_cases::words_of;
+use test_compare::Compared;
+use test_compare::Said;
+use test_compare::compare_pair;
+use test_compare::compare_placed;
+use test_compare::compare_state;
+
+fn of_outcome(outcome: Outcome) -> Said {
+    let answer = outcome.answer;
+    Said {
+        number: answer.number(),
+        place: outcome.place as u64,
+        lines: outcome.lines,
+        detail: answer.detail(),
+        x: 0,
+        y: 0,
+    }
+}
+
+// What a run may change, against the case.
+fn left_as(
+    case: &[u8],
+    state: GraphicsState,
+    cx: &[i32],
+    cy: &[i32],
+    flags: &[u8],
+    tox: &[i32],
+    toy: &[i32],
+    tcx: &[i32],
+    tcy: &[i32],
+    tflags: &[u8],
+) -> Compared {
+    let glyph = compare_placed(case, 4, cx, cy, flags);
+    let made = compare_pair(case, 8, tox, toy);
+    let twilight = compare_placed(case, 10, tcx, tcy, tflags);
+    glyph
+        .and(made)
+        .and(twilight)
+        .and(compare_state(case, state))
+}
+
+fn run_over(
+    case: &[u8],
+    ux: &[i32],
+    uy: &[i32],
+    contours: &[u16],
+    controls: &[i32],
+    sheet: &[i32],
+    ox: &[i32],
+    oy: &[i32],
+    cx: &mut [i32],
+    cy: &mut [i32],
+    flags: &mut [u8],
+    tox: &mut [i32],
+    toy: &mut [i32],
+    tcx: &mut [i32],
+    tcy: &mut [i32],
+    tflags: &mut [u8],
+) -> Outcome {
+    let start = long(case, 10) as usize;
+    let budget = long(case, 12);
+    let s = state_of(case);
+    replay::run(
+        start,
+        budget,
+        s,
+        sheet,
+        controls,
+        ux,
+        uy,
+        ox,
+        oy,
+        cx,
+        cy,
+        flags,
+        contours,
+        tox,
+        toy,
+        tcx,
+        tcy,
+        tflags,
+    )
+}
+
+fn agrees_over(
+    case: &[u8],
+    ux: &[i32],
+    uy: &[i32],
+    contours: &[u16],
+    controls: &[i32],
+    sheet: &[i32],
+    ox: &[i32],
+    oy: &[i32],
+    cx: &mut [i32],
+    cy: &mut [i32],
+    flags: &mut [u8],
+    tox: &mut [i32],
+    toy: &mut [i32],
+    tcx: &mut [i32],
+    tcy: &mut [i32],
+    tflags: &mut [u8],
+) -> bool {
+    let outcome = run_over(
+        case,
+        ux,
+        uy,
+        contours,
+        controls,
+        sheet,
+        ox,
+        oy,
+        cx,
+        cy,
+        flags,
+        tox,
+        toy,
+        tcx,
+        tcy,
+        tflags,
+    );
+    let state = outcome.state;
+    let left = left_as(case, state, cx, cy, flags, tox, toy, tcx, tcy, tflags);
+    of_outcome(outcome).agrees(left, case)
+}
+
+// The twilight zone's lists are read here.
+pub fn agrees_in_glyph(
+    case: &[u8],
+    ux: &[i32],
+    uy: &[i32],
+    contours: &[u16],
+    controls: &[i32],
+    sheet: &[i32],
+    ox: &[i32],
+    oy: &[i32],
+    cx: &mut [i32],
+    cy: &mut [i32],
+    flags: &mut [u8],
+) -> bool {
+    let mut tox = words_of(case, 8);
+    let mut toy = words_of(case, 9);
+    let mut tcx = words_of(case, 10);
+    let mut tcy = words_of(case, 11);
+    let mut tflags = flags_of(case, 12);
+    let n8 = length_of(case, 8, 16385);
+    let n9 = length_of(case, 9, 16385);
+    let n10 = length_of(case, 10, 16385);
+    let n11 = length_of(case, 11, 16385);
+    let n12 = length_of(case, 12, 16385);
+    agrees_over(
+        case,
+        ux,
+        uy,
+        contours,
+        controls,
+        sheet,
+        ox,
+        oy,
+        cx,
+        cy,
+        flags,
+        &mut tox[..n8],
+        &mut toy[..n9],
+        &mut tcx[..n10],
+        &mut tcy[..n11],
+        &mut tflags[..n12],
+    )
+}

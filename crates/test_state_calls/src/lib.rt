@@ -1,0 +1,153 @@
+// The oracle's calls over a state and both zones, move_original to move_zp2_point, and point_displacement by the crate test_displacements: each made on a case's
+// lists, and judged by the case (docs/ORACLE.md).
+//
+// Word 2 of a case says which zone, words 3 and 4 which point, word 7 a choice, words 8 and 9 distances. A call is given the lists that it
+// works on as the case has them, of whatever lengths: it tests their sizes itself, and nothing is answered here in its place. Nothing is
+// promised here but that every function is safe and ends.
+use answer::Call;
+use state_words::zone_of;
+use test_cases::KIND;
+use test_cases::flags_of;
+use test_cases::length_of;
+use test_cases::long;
+use test_cases::number;
+use test_cases::state_of;
+use test_cases::word;
+use test_cases::words_of;
+use test_compare::Said;
+use test_compare::compare_pair;
+use test_compare::compare_placed;
+
+// ---- move_original
+fn original_agrees_over(
+    case: &[u8],
+    ox: &mut [i32],
+    oy: &mut [i32],
+    tox: &mut [i32],
+    toy: &mut [i32],
+) -> bool {
+    let s = state_of(case);
+    let zone = zone_of(word(case, 2));
+    let at = long(case, 3);
+    let distance = number(case, 8);
+    let call = direct_moves::try_move_original(s, zone, at, distance, ox, oy, tox, toy);
+    let glyph = compare_pair(case, 2, ox, oy);
+    let twilight = compare_pair(case, 8, tox, toy);
+    Said::of_call(call).agrees(glyph.and(twilight), case)
+}
+
+fn original_agrees(case: &[u8]) -> bool {
+    let mut ox = words_of(case, 2);
+    let mut oy = words_of(case, 3);
+    let mut tox = words_of(case, 8);
+    let mut toy = words_of(case, 9);
+    let n2 = length_of(case, 2, 16385);
+    let n3 = length_of(case, 3, 16385);
+    let n8 = length_of(case, 8, 16385);
+    let n9 = length_of(case, 9, 16385);
+    original_agrees_over(
+        case,
+        &mut ox[..n2],
+        &mut oy[..n3],
+        &mut tox[..n8],
+        &mut toy[..n9],
+    )
+}
+
+// ---- move_point and move_zp2_point
+fn moved_point(
+    case: &[u8],
+    cx: &mut [i32],
+    cy: &mut [i32],
+    flags: &mut [u8],
+    tcx: &mut [i32],
+    tcy: &mut [i32],
+    tflags: &mut [u8],
+) -> Call {
+    let s = state_of(case);
+    let zone = zone_of(word(case, 2));
+    let at = long(case, 3);
+    let distance = number(case, 8);
+    direct_moves::try_move_point(s, zone, at, distance, cx, cy, flags, tcx, tcy, tflags)
+}
+
+fn moved_zp2_point(
+    case: &[u8],
+    cx: &mut [i32],
+    cy: &mut [i32],
+    flags: &mut [u8],
+    tcx: &mut [i32],
+    tcy: &mut [i32],
+    tflags: &mut [u8],
+) -> Call {
+    let s = state_of(case);
+    let at = long(case, 3);
+    let touches = word(case, 7) == 1;
+    let dx = number(case, 8);
+    let dy = number(case, 9);
+    direct_moves::try_move_zp2_point(s, at, dx, dy, touches, cx, cy, flags, tcx, tcy, tflags)
+}
+
+fn moved(
+    case: &[u8],
+    cx: &mut [i32],
+    cy: &mut [i32],
+    flags: &mut [u8],
+    tcx: &mut [i32],
+    tcy: &mut [i32],
+    tflags: &mut [u8],
+) -> Call {
+    if word(case, KIND) == 11 {
+        moved_point(case, cx, cy, flags, tcx, tcy, tflags)
+    } else {
+        moved_zp2_point(case, cx, cy, flags, tcx, tcy, tflags)
+    }
+}
+
+fn move_agrees_over(
+    case: &[u8],
+    cx: &mut [i32],
+    cy: &mut [i32],
+    flags: &mut [u8],
+    tcx: &mut [i32],
+    tcy: &mut [i32],
+    tflags: &mut [u8],
+) -> bool {
+    let call = moved(case, cx, cy, flags, tcx, tcy, tflags);
+    let glyph = compare_placed(case, 4, cx, cy, flags);
+    let twilight = compare_placed(case, 10, tcx, tcy, tflags);
+    Said::of_call(call).agrees(glyph.and(twilight), case)
+}
+
+fn move_agrees(case: &[u8]) -> bool {
+    let mut cx = words_of(case, 4);
+    let mut cy = words_of(case, 5);
+    let mut flags = flags_of(case, 6);
+    let mut tcx = words_of(case, 10);
+    let mut tcy = words_of(case, 11);
+    let mut tflags = flags_of(case, 12);
+    let n4 = length_of(case, 4, 16385);
+    let n5 = length_of(case, 5, 16385);
+    let n6 = length_of(case, 6, 16385);
+    let n10 = length_of(case, 10, 16385);
+    let n11 = length_of(case, 11, 16385);
+    let n12 = length_of(case, 12, 16385);
+    move_agrees_over(
+        case,
+        &mut cx[..n4],
+        &mut cy[..n5],
+        &mut flags[..n6],
+        &mut tcx[..n10],
+        &mut tcy[..n11],
+        &mut tflags[..n12],
+    )
+}
+
+// ---- every call
+pub fn agrees(case: &[u8]) -> bool {
+    match word(case, KIND) {
+        10 => original_agrees(case),
+        11 | 12 => move_agrees(case),
+        _ => test_displacements::agrees(case),
+    }
+}
