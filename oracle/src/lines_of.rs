@@ -4,6 +4,7 @@ use crate::{
     answer,
     case::{Case, Outcome},
     direct::Call,
+    opcodes::{row_of, Access, Operand, Reference, Row},
     words::widened,
     world::CONTOURS,
 };
@@ -55,78 +56,79 @@ fn line_at(sheet: &[i32], place: usize) -> ReachedLine {
     }
 }
 
-/// An access that a line makes: its name, the zone and the index.
-pub struct Access {
+/// A point that a line looks for: the access's name, the zone and the index.
+pub struct Accessed {
     pub name: String,
     pub zone: u32,
     pub index: u64,
 }
 
 /// The point accesses of a line in document 01's order, for a run's first line.
-pub fn accesses(case: &Case, line: &ReachedLine) -> Vec<Access> {
-    let state = &case.world.state;
-    let [zp0, zp1, zp2] = state.zones;
-    let [rp0, rp1, rp2] = state.references;
-    let access = |name: &str, zone: u32, index: u64| Access {
+pub fn accesses(case: &Case, line: &ReachedLine) -> Vec<Accessed> {
+    let Some(row) = row_of(line.opcode) else {
+        return Vec::new();
+    };
+    let one = |access: &Access| accessed(case, line, row, access);
+    let mut accesses: Vec<Accessed> = row.accesses.iter().flat_map(one).collect();
+    let [_, zp1, _] = case.world.state.zones;
+    // MSIRP makes a twilight point from rp0, and so looks for that first.
+    if matches!(line.opcode, 0x3A | 0x3B) && zp1 == 0 {
+        accesses.reverse();
+    }
+    accesses
+}
+
+fn accessed(case: &Case, line: &ReachedLine, row: &Row, access: &Access) -> Vec<Accessed> {
+    let pointers = case.world.state.zones;
+    let [_, _, zp2] = pointers;
+    let called = |name: &str, (zone, index): (u32, u64)| Accessed {
         name: name.into(),
         zone,
         index,
     };
-    let operand = |number: usize| widened(line.operands[number]);
-    let each_point = |zone: u32| {
-        let operands = line.operands.iter().enumerate();
-        operands.map(move |(number, operand)| Access {
-            name: format!("point {number}"),
-            zone,
-            index: widened(*operand),
-        })
-    };
-    match line.opcode {
-        0x0F => vec![
-            access("a0", zp1, operand(3)),
-            access("a1", zp1, operand(2)),
-            access("b0", zp0, operand(1)),
-            access("b1", zp0, operand(0)),
-            access("point", zp2, operand(4)),
-        ],
-        0x2E | 0x2F => vec![access("point", zp0, operand(0))],
-        0x3E | 0x3F => vec![access("point", zp0, operand(1))],
-        0x3A | 0x3B if zp1 == 0 => vec![access("rp0", zp0, rp0), access("point", zp1, operand(1))],
-        0x3A | 0x3B => vec![access("point", zp1, operand(1)), access("rp0", zp0, rp0)],
-        0x34..=0x37 => {
-            let (zone, index) = reference_of(case, line.opcode);
-            let reference = access("reference", zone, index);
+    let name = access.name();
+    match access {
+        Access::Named(_, number) => {
+            let Operand::Point(zone) = row.operands[*number] else {
+                unreachable!("{}: {name} is no point", row.name);
+            };
+            let index = widened(line.operands[*number]);
+            vec![called(name, (zone.number(pointers), index))]
+        }
+        Access::Each(after) => {
+            let zone = row.looped.map_or(0, |zone| zone.number(pointers));
+            let looped = line.operands.iter().enumerate();
+            let mut found = Vec::new();
+            for (number, operand) in looped.skip(row.operands.len()) {
+                found.push(called(
+                    &format!("{name} {number}"),
+                    (zone, widened(*operand)),
+                ));
+                found.extend(after.iter().flat_map(|one| accessed(case, line, row, one)));
+            }
+            found
+        }
+        Access::PastTheEnd => {
             let points = points_shifted(case, line);
             // The points before it are there.
             let missing = points.start.max(case.world.points_of(zp2) as u64);
-            let beyond = (missing < points.end).then(|| access("point past n", zp2, missing));
-            std::iter::once(reference).chain(beyond).collect()
+            let beyond = (missing < points.end).then(|| called(name, (zp2, missing)));
+            beyond.into_iter().collect()
         }
-        0x38 => each_point(zp2).skip(1).collect(),
-        0x3C => each_point(zp1)
-            .flat_map(|point| [point, access("rp0", zp0, rp0)])
-            .collect(),
-        0x32 => std::iter::once(access("reference", zp1, rp2))
-            .chain(each_point(zp2))
-            .collect(),
-        0x33 => std::iter::once(access("reference", zp0, rp1))
-            .chain(each_point(zp2))
-            .collect(),
-        0x80 => each_point(1).collect(),
-        0x30 | 0x31 => vec![access("first point", 1, 0)],
-        _ => Vec::new(),
+        Access::FirstPoint => vec![called(name, (1, 0))],
+        Access::Rp0 | Access::OfShift => {
+            let reference = access.reference(line.opcode).into_iter();
+            let place = reference.map(|reference| place_of(case, reference));
+            place.map(|place| called(name, place)).collect()
+        }
     }
 }
 
-/// The zone and the index of the point that a shift goes by.
-pub fn reference_of(case: &Case, opcode: u8) -> (u32, u64) {
+/// The zone and the index that a reference point has.
+pub fn place_of(case: &Case, reference: Reference) -> (u32, u64) {
     let state = &case.world.state;
-    let [zp0, zp1, _] = state.zones;
-    let [_, rp1, rp2] = state.references;
-    match opcode & 1 {
-        1 => (zp0, rp1),
-        _ => (zp1, rp2),
-    }
+    let zone = reference.zone.number(state.zones);
+    (zone, state.references[reference.number])
 }
 
 /// The points of zp2's zone that an SHC or SHZ names, before the reference is
@@ -151,7 +153,7 @@ pub fn points_shifted(case: &Case, line: &ReachedLine) -> Range<u64> {
 }
 
 /// The first access of the line that its zone doesn't have.
-pub fn first_outside(case: &Case, line: &ReachedLine) -> Option<Access> {
-    let outside = |access: &Access| access.index >= case.world.points_of(access.zone) as u64;
+pub fn first_outside(case: &Case, line: &ReachedLine) -> Option<Accessed> {
+    let outside = |access: &Accessed| access.index >= case.world.points_of(access.zone) as u64;
     accesses(case, line).into_iter().find(outside)
 }

@@ -13,6 +13,7 @@ mod lines_of;
 mod math_rows;
 mod notable;
 mod numbers;
+mod opcodes;
 mod panics;
 mod projection_rows;
 mod random;

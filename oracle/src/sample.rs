@@ -8,10 +8,11 @@ use crate::{
         every_length, every_limit, every_opcode, every_selector, every_setter, every_shift,
         far_calls, far_references, iup_case, length_case, limit_cases, line_case, long_iup_case,
         long_iup_shift_case, rounds_by_every_selector, run_case, runs_of_01, selector_counts,
-        selector_run_case, shift_case, shift_run_case, turns, zone_case, OUTLINE_LINES,
-        SELECTOR_LINES, SHIFT_LINES,
+        selector_run_case, shift_case, shift_run_case, turns, zone_case,
     },
-    math_rows, notable, projection_rows,
+    math_rows, notable,
+    opcodes::{rows_of, Family},
+    projection_rows,
     random::Random,
     words,
     world::MOST_POINTS,
@@ -150,8 +151,8 @@ fn iup_cases() -> Vec<Case> {
 fn outline_cases() -> Vec<Case> {
     let mut random = Random::new(OUTLINE_SEED);
     let mut cases = notable::lines();
-    for (_, opcodes) in OUTLINE_LINES {
-        cases.extend((0..LINES_EACH).map(|_| line_case(&mut random, opcodes)));
+    for row in rows_of(Family::Outline) {
+        cases.extend((0..LINES_EACH).map(|_| line_case(&mut random, row)));
     }
     cases
 }
@@ -172,8 +173,8 @@ fn runs() -> Vec<Case> {
 fn shifts() -> Vec<Case> {
     let mut random = Random::new(SHIFTS_SEED);
     let mut cases = every_shift();
-    for (_, opcodes) in SHIFT_LINES {
-        cases.extend((0..SHIFTS_EACH).map(|_| shift_case(&mut random, opcodes)));
+    for row in rows_of(Family::Shift) {
+        cases.extend((0..SHIFTS_EACH).map(|_| shift_case(&mut random, row)));
     }
     cases.extend((0..SHIFT_RUN_CASES).map(|_| shift_run_case(&mut random)));
     cases
@@ -186,8 +187,8 @@ fn selectors() -> Vec<Case> {
     let mut cases = every_selector();
     cases.extend(rounds_by_every_selector());
     cases.extend(selector_counts());
-    for (_, opcodes) in SELECTOR_LINES {
-        cases.extend((0..SELECTORS_EACH).map(|_| line_case(&mut random, opcodes)));
+    for row in rows_of(Family::Selector) {
+        cases.extend((0..SELECTORS_EACH).map(|_| line_case(&mut random, row)));
     }
     cases.extend((0..SELECTOR_RUN_CASES).map(|_| selector_run_case(&mut random)));
     cases

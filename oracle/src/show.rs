@@ -4,8 +4,8 @@ use crate::{
     case::{read_stream, Case, Outcome},
     direct::Call,
     math_rows::{self, MathRow},
+    opcodes::name_of,
     projection_rows::{self, ProjectionRow},
-    replay::name_of,
     words::joined,
     world::{fresh_state, state_words, World, LIST_NAMES, SHEET, STATE_NAMES},
 };
@@ -53,10 +53,11 @@ pub fn cases(words: &[u32]) -> Result<String, String> {
 }
 
 fn whole_rows(words: &[u32], size: usize) -> Result<std::slice::ChunksExact<'_, u32>, String> {
-    if words.len() % size != 0 {
-        return Err(format!("{} words are no whole rows of {size}", words.len()));
+    let rows = words.chunks_exact(size);
+    match rows.remainder() {
+        [] => Ok(rows),
+        _ => Err(format!("{} words are no whole rows of {size}", words.len())),
     }
-    Ok(words.chunks_exact(size))
 }
 
 /// The call, what isn't fresh in the state, and the lists that aren't empty.

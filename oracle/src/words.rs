@@ -7,14 +7,15 @@ pub fn to_bytes(words: &[u32]) -> Vec<u8> {
 }
 
 pub fn from_bytes(bytes: &[u8]) -> Result<Vec<u32>, String> {
-    if bytes.len() % 4 != 0 {
+    let chunks = bytes.chunks_exact(4);
+    if !chunks.remainder().is_empty() {
         return Err(format!(
             "{} bytes are no whole number of words",
             bytes.len()
         ));
     }
     let word = |chunk: &[u8]| u32::from_le_bytes([chunk[0], chunk[1], chunk[2], chunk[3]]);
-    Ok(bytes.chunks_exact(4).map(word).collect())
+    Ok(chunks.map(word).collect())
 }
 
 pub fn read_all(mut from: impl Read) -> Result<Vec<u32>, String> {

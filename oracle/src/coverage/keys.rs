@@ -2,8 +2,7 @@
 
 use crate::{
     answer,
-    generate::{OUTLINE_LINES, SHIFT_LINES},
-    replay::name_of,
+    opcodes::{name_of, row_of, Family},
     vectors::VectorKind,
     world::*,
 };
@@ -42,12 +41,13 @@ pub const COORDINATES: [usize; 4] = [UNSCALED_X, ORIGINAL_X, CURRENT_X, TWILIGHT
 /// A 7 whose detail isn't the first outside index in document 01's order.
 pub const UNEXPLAINED: &str = "UNEXPLAINED: a 7 that document 01's order doesn't give";
 
-pub fn instruction_of(opcode: u8) -> &'static str {
-    OUTLINE_LINES
-        .iter()
-        .chain(&SHIFT_LINES)
-        .find(|(_, opcodes)| opcodes.contains(&opcode))
-        .map_or(name_of(opcode), |(name, _)| *name)
+/// The name that a line's instruction is counted under: a setter's codes are
+/// told apart.
+pub fn instruction_of(opcode: u8) -> String {
+    match row_of(opcode) {
+        Some(row) if row.family != Family::Setter => row.name.into(),
+        _ => name_of(opcode),
+    }
 }
 
 pub fn vector_key(name: &str, kind: VectorKind) -> String {

@@ -7,23 +7,11 @@ use crate::{
     case::{Case, Outcome},
     direct::Call,
     generate::every_call,
+    lines_of::place_of,
+    opcodes::{name_of, row_of},
     random::Random,
-    replay::name_of,
     world::*,
 };
-
-/// The lines that go by a reference, and which.
-const BY_REFERENCE: [(u8, usize); 9] = [
-    (0x3A, 0),
-    (0x3B, 0),
-    (0x3C, 0),
-    (0x32, 2),
-    (0x33, 1),
-    (0x34, 2),
-    (0x35, 1),
-    (0x36, 2),
-    (0x37, 1),
-];
 
 pub fn keys(case: &Case, outcome: &Outcome) -> Vec<String> {
     let number = outcome.returned.answer.number;
@@ -48,8 +36,9 @@ pub fn required() -> Vec<String> {
             keys.push(far_key(name(&call)));
         }
     }
-    let by_reference = BY_REFERENCE.map(|(opcode, _)| far_key(name_of(opcode)));
-    keys.extend(by_reference);
+    let goes_by_one = |code: &u8| row_of(*code).is_some_and(|row| row.reference(*code).is_some());
+    let by_reference = (0..=255).filter(goes_by_one);
+    keys.extend(by_reference.map(|code| far_key(&name_of(code))));
     keys.sort();
     keys.dedup();
     keys
@@ -136,14 +125,10 @@ fn far_index(call: &Call, world: &World) -> Option<String> {
 
 /// A run whose first line goes by a reference that is far.
 fn far_reference(case: &Case) -> Option<String> {
-    let opcode = *case.world.lists[SHEET].first()?;
-    let (opcode, reference) = BY_REFERENCE
-        .into_iter()
-        .find(|(by_reference, _)| u32::from(*by_reference) == opcode)?;
-    let state = &case.world.state;
-    let zone = state.zones[usize::from(reference == 2)];
-    let far = is_far(state.references[reference], case.world.points_of(zone));
-    far.then(|| far_key(name_of(opcode)))
+    let opcode = u8::try_from(*case.world.lists[SHEET].first()?).ok()?;
+    let (zone, index) = place_of(case, row_of(opcode)?.reference(opcode)?);
+    let far = is_far(index, case.world.points_of(zone));
+    far.then(|| far_key(&name_of(opcode)))
 }
 
 fn is_far(index: u64, points: usize) -> bool {

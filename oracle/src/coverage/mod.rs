@@ -15,9 +15,9 @@ use crate::{
     generate::{any_case, fixed_cases},
     lines_of::{finished_lines, first_outside, refused_line, ReachedLine},
     math_rows::{self, MathRow},
+    opcodes::{name_of, rounds, row_of},
     projection_rows::{self, ProjectionRow},
     random::Random,
-    replay::{name_of, needs_of, Needs},
     vectors::{self, kind_of},
     world::*,
 };
@@ -193,7 +193,7 @@ impl Coverage {
         self.add(format!("budget {}", budget_kind(budget, answer.number)));
         let opcode = case.world.lists[SHEET].first().map_or(256, |word| *word);
         if let (0, Ok(opcode)) = (start, u8::try_from(opcode)) {
-            self.add(alone_key(instruction_of(opcode), answer.number));
+            self.add(alone_key(&instruction_of(opcode), answer.number));
         }
         let lines = finished_lines(case, outcome);
         for line in &lines {
@@ -220,9 +220,9 @@ impl Coverage {
     fn count_single_line(&mut self, case: &Case, line: &ReachedLine) {
         let state = &case.world.state;
         let name = name_of(line.opcode);
-        self.add(zones_key(name, state.zones));
-        if line.opcode == 0x2F || line.opcode == 0x3F {
-            self.add(mode_key(name, state.rounding.mode));
+        self.add(zones_key(&name, state.zones));
+        if rounds(line.opcode) {
+            self.add(mode_key(&name, state.rounding.mode));
         }
     }
 
@@ -234,7 +234,7 @@ impl Coverage {
         let Ok(opcode) = u8::try_from(*word) else {
             return self.add("unreadable: opcode word outside 0 to 255".into());
         };
-        if needs_of(opcode) == Needs::Unknown {
+        if row_of(opcode).is_none() {
             self.add("unreadable: unknown opcode".into());
             return self.add(opcode_key(opcode, "unknown"));
         }

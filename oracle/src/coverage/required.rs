@@ -2,11 +2,13 @@
 
 use super::{branches, keys::*, lengths, rows, selectors, shifts};
 use crate::{
-    generate::{OUTLINE_LINES, SELECTOR_LINES, SHIFT_LINES},
-    replay::{name_of, needs_of, Needs},
+    opcodes::{name_of, rounds, row_of, Family, Row, TABLE},
     vectors,
     world::*,
 };
+
+/// The points of a loop that are told apart.
+const LOOPED: usize = 3;
 
 /// Everything that must come up.
 pub fn required() -> Vec<String> {
@@ -80,9 +82,8 @@ fn required_states() -> Vec<String> {
             keys.push(coordinate_key(list, (-turn) as i32));
         }
     }
-    for place in 0..6 {
-        keys.push(format!("refused for {}", STATE_NAMES[place]));
-    }
+    let vectors = &STATE_NAMES[..6];
+    keys.extend(vectors.iter().map(|name| format!("refused for {name}")));
     keys.push("refused for Super45 with period 0".into());
     keys
 }
@@ -104,109 +105,58 @@ fn required_sizes() -> Vec<String> {
 fn required_opcodes() -> Vec<String> {
     let mut keys = Vec::new();
     for opcode in 0..=255 {
-        let needs = needs_of(opcode);
-        if needs == Needs::Unknown {
+        let Some(row) = row_of(opcode) else {
             keys.push(opcode_key(opcode, "unknown"));
             continue;
-        }
-        keys.push(opcode_key(opcode, "done"));
-        keys.push(opcode_key(opcode, "refused 5"));
-        if needs != Needs::Operands(0) {
-            keys.push(opcode_key(opcode, "refused 6"));
-        }
-        let own: &[u32] = match opcode {
-            0x0F | 0x2E..=0x33 | 0x3A..=0x3C | 0x80 => &[7],
-            0x3E | 0x3F => &[7, 8],
-            0x13..=0x16 => &[9],
-            0x17 => &[10],
-            0x34 | 0x35 => &[7, 12],
-            0x36 | 0x37 => &[7, 9],
-            0x38 => &[7, 13],
-            0x81 | 0x82 => &[11],
-            _ => &[],
         };
-        keys.extend(
-            own.iter()
-                .map(|number| opcode_key(opcode, &format!("refused {number}"))),
-        );
+        keys.push(opcode_key(opcode, "done"));
+        let refused = |number| opcode_key(opcode, &format!("refused {number}"));
+        keys.extend(refusals(row).map(refused));
     }
-    for (_, opcodes) in OUTLINE_LINES.iter().chain(&SHIFT_LINES) {
-        for opcode in *opcodes {
+    for row in TABLE.iter().filter(|row| !row.family.sets_the_state()) {
+        for opcode in row.picked_codes() {
             let pointers = (0..8).map(|bits| [bits & 1, bits >> 1 & 1, bits >> 2]);
-            keys.extend(pointers.map(|zones| zones_key(name_of(*opcode), zones)));
+            keys.extend(pointers.map(|zones| zones_key(&name_of(opcode), zones)));
         }
     }
-    for opcode in [0x2F, 0x3F] {
-        keys.extend((0..8).map(|mode| mode_key(name_of(opcode), mode)));
+    for opcode in (0..=255).filter(|opcode| rounds(*opcode)) {
+        keys.extend((0..8).map(|mode| mode_key(&name_of(opcode), mode)));
     }
     keys
 }
 
+/// The answers that a line of the row can give of itself.
+fn refusals(row: &Row) -> impl Iterator<Item = u32> {
+    let too_few = row.takes_operands().then_some(6);
+    let own = row.refusals.iter().copied();
+    [5].into_iter().chain(too_few).chain(own)
+}
+
+/// The instructions that are looked at one by one.
+fn instructions() -> impl Iterator<Item = &'static Row> {
+    TABLE.iter().filter(|row| row.family != Family::Setter)
+}
+
+/// Each step that can refuse: 7 by each access, 6 after each number of operands.
 fn required_steps() -> Vec<String> {
     let mut keys = Vec::new();
-    let sevens: [(&str, &[&str]); 11] = [
-        ("FLIPPT", &["point 0", "point 1", "point 2"]),
-        ("SHP", &["reference", "point 0", "point 1", "point 2"]),
-        ("MSIRP", &["point", "rp0"]),
-        ("MDAP", &["point"]),
-        ("MIAP", &["point"]),
-        ("ALIGNRP", &["point 0", "point 1", "point 2", "rp0"]),
-        ("ISECT", &["a0", "a1", "b0", "b1", "point"]),
-        ("IUP", &["first point"]),
-        ("SHC", &["reference", "point past n"]),
-        ("SHZ", &["reference", "point past n"]),
-        ("SHPIX", &["point 1", "point 2", "point 3"]),
-    ];
-    for (name, steps) in sevens {
-        keys.extend(steps.iter().map(|step| format!("{name}: 7 by {step}")));
+    for row in instructions() {
+        let steps = row.steps(LOOPED).into_iter();
+        keys.extend(steps.map(|step| format!("{}: 7 by {step}", row.name)));
     }
-    let sixes = [
-        ("FLIPPT", 3),
-        ("SHP", 3),
-        ("MSIRP", 2),
-        ("MDAP", 1),
-        ("MIAP", 2),
-        ("ALIGNRP", 3),
-        ("ISECT", 5),
-        ("SHC", 1),
-        ("SHZ", 1),
-        ("SHPIX", 4),
-        ("FLIPRGON", 2),
-        ("FLIPRGOFF", 2),
-        ("SROUND", 1),
-        ("S45ROUND", 1),
-    ];
-    for (name, operands) in sixes {
-        keys.extend((0..operands).map(|given| format!("{name}: 6 after {given} operands")));
+    for row in instructions() {
+        let operands = 0..row.most_operands(LOOPED as u32);
+        keys.extend(operands.map(|given| format!("{}: 6 after {given} operands", row.name)));
     }
     keys
 }
 
-/// Each instruction that moves points or takes a selector, alone: every answer
-/// it can give.
+/// Each instruction alone: every answer it can give.
 fn required_alone() -> Vec<String> {
     let mut keys = Vec::new();
-    for (name, opcodes) in OUTLINE_LINES {
-        let takes_operands = needs_of(opcodes[0]) != Needs::Operands(0);
-        let numbers = (0..=8).filter(|number| match number {
-            6 => takes_operands,
-            8 => name == "MIAP",
-            _ => true,
-        });
-        keys.extend(numbers.map(|number| alone_key(name, number)));
-    }
-    for (name, _) in SELECTOR_LINES {
-        keys.extend((0..=6).map(|number| alone_key(name, number)));
-    }
-    for (name, _) in SHIFT_LINES {
-        let own: &[u32] = match name {
-            "SHC" => &[7, 12],
-            "SHZ" => &[7, 9],
-            "SHPIX" => &[7, 13],
-            _ => &[11],
-        };
-        let numbers = (0..=6).chain(own.iter().copied());
-        keys.extend(numbers.map(|number| alone_key(name, number)));
+    for row in instructions() {
+        let numbers = (0..=4).chain(refusals(row));
+        keys.extend(numbers.map(|number| alone_key(row.name, number)));
     }
     keys
 }

@@ -5,9 +5,8 @@ use super::branches::keeps_control_value;
 use crate::{
     case::{Case, Outcome},
     direct::Call,
-    generate::{is_selector, SELECTOR_LINES},
     lines_of::{finished_lines, ReachedLine},
-    replay::name_of,
+    opcodes::{codes_of, is_of, name_of, rounding_codes_of, rounds, Family},
     world::*,
 };
 use reference::door;
@@ -20,7 +19,6 @@ const ABOVE_THE_BYTE: [&str; 3] = [
     "bits of a positive word",
     "bits of a negative word",
 ];
-const ROUNDERS: [u8; 2] = [0x2F, 0x3F];
 
 /// What the run's finished lines say of selectors.
 pub fn keys(case: &Case, outcome: &Outcome) -> Vec<String> {
@@ -29,13 +27,13 @@ pub fn keys(case: &Case, outcome: &Outcome) -> Vec<String> {
     let mut set_by = None;
     for (number, line) in lines.iter().enumerate() {
         match (line.opcode, &line.operands[..]) {
-            (opcode, [operand]) if is_selector(opcode) => {
+            (opcode, [operand]) if is_of(opcode, Family::Selector) => {
                 keys.push(byte_key(opcode, *operand as u8));
                 keys.push(above_key(opcode, above(*operand)));
                 set_by = Some(opcode);
             }
             (0x18 | 0x19 | 0x3D | 0x7A | 0x7C | 0x7D, _) => set_by = None,
-            (opcode, _) if ROUNDERS.contains(&opcode) => {
+            (opcode, _) if is_of(opcode, Family::Outline) && rounds(opcode) => {
                 let kind = set_by.map(|selector| (selector, opcode));
                 keys.extend(kind.and_then(|kind| rounded(case, number, line, kind)));
             }
@@ -49,13 +47,13 @@ pub fn keys(case: &Case, outcome: &Outcome) -> Vec<String> {
 /// by either kind, both signs, short of the first step and past it.
 pub fn required() -> Vec<String> {
     let mut keys = Vec::new();
-    for opcode in SELECTOR_LINES.iter().flat_map(|(_, opcodes)| *opcodes) {
-        keys.extend((0..=255).map(|byte| byte_key(*opcode, byte)));
-        keys.extend(ABOVE_THE_BYTE.map(|above| above_key(*opcode, above)));
-        for rounder in ROUNDERS {
+    for opcode in codes_of(Family::Selector) {
+        keys.extend((0..=255).map(|byte| byte_key(opcode, byte)));
+        keys.extend(ABOVE_THE_BYTE.map(|above| above_key(opcode, above)));
+        for rounder in rounding_codes_of(Family::Outline) {
             for negative in [false, true] {
                 for short in [false, true] {
-                    keys.push(rounded_key((*opcode, rounder), negative, short));
+                    keys.push(rounded_key((opcode, rounder), negative, short));
                 }
             }
         }

@@ -1,7 +1,7 @@
 //! Cases of the direct calls.
 
 use super::{
-    lines::spoil,
+    spoil,
     states::sound_state,
     worlds::{fill_glyph, small_count, small_world},
 };

@@ -3,7 +3,13 @@
 //! that lines go by.
 
 use super::{calls::every_call, lengths::peopled};
-use crate::{case::Case, direct::Call, random::Random, scene::Scene};
+use crate::{
+    case::Case,
+    direct::Call,
+    opcodes::{Operand, Row, TABLE},
+    random::Random,
+    scene::Scene,
+};
 
 /// What a reading of 32 bits takes for 0.
 const FAR: [u64; 6] = [
@@ -16,19 +22,6 @@ const FAR: [u64; 6] = [
 ];
 const POINTS: u64 = 3;
 
-/// Lines that go by a reference, with operands that are points: ALIGNRP,
-/// MSIRP, SHP, SHC, SHZ.
-const BY_REFERENCE: [&[i32]; 9] = [
-    &[0x3C, 1, 1],
-    &[0x3A, 2, 70, 1],
-    &[0x3B, 2, 70, 1],
-    &[0x32, 1, 1],
-    &[0x33, 1, 1],
-    &[0x34, 1, 0],
-    &[0x35, 1, 0],
-    &[0x36, 1, 1],
-    &[0x37, 1, 1],
-];
 const ZONES: [[u32; 3]; 4] = [[1, 1, 1], [0, 0, 0], [1, 0, 1], [0, 1, 0]];
 
 /// Every direct call with an index, and every kind of range.
@@ -79,7 +72,7 @@ fn far_ranges(far: u64, near: u64) -> Vec<Call> {
 /// Each line that goes by a reference, in zones of every kind, pedantic or not.
 pub fn far_references() -> Vec<Case> {
     let mut cases = Vec::new();
-    for line in BY_REFERENCE {
+    for line in lines_by_reference() {
         for zones in ZONES {
             for (place, far) in FAR.into_iter().enumerate() {
                 let reference = far + place as u64 % POINTS;
@@ -92,7 +85,7 @@ pub fn far_references() -> Vec<Case> {
                         state.zones = zones;
                         state.pedantic = place % 2 == 1;
                     });
-                cases.push(scene.sheet(line).case(Call::Run {
+                cases.push(scene.sheet(&line).case(Call::Run {
                     start: 0,
                     budget: 1,
                 }));
@@ -100,4 +93,33 @@ pub fn far_references() -> Vec<Case> {
         }
     }
     cases
+}
+
+/// A line of each code that goes by a reference, its operands right: those of
+/// document 01 from the table's last to its first, then the others.
+fn lines_by_reference() -> Vec<Vec<i32>> {
+    let (mut rows, later): (Vec<&Row>, Vec<&Row>) =
+        TABLE.iter().partition(|row| row.family.is_of_01());
+    rows.reverse();
+    rows.extend(later);
+    let codes = rows
+        .iter()
+        .flat_map(|row| row.codes().map(|code| (*row, code)));
+    let by_reference = codes.filter(|(row, code)| row.reference(*code).is_some());
+    by_reference
+        .map(|(row, code)| right_line(row, code))
+        .collect()
+}
+
+/// A line for the scene's zones, contour and loop counter.
+fn right_line(row: &Row, code: u8) -> Vec<i32> {
+    let right = |operand: &Operand| match operand {
+        Operand::Distance => 70,
+        Operand::Contour => 0,
+        _ => 1,
+    };
+    let looped = row.looped.map(|_| 1);
+    let operands: Vec<i32> = row.operands.iter().map(right).chain(looped).collect();
+    let head = [i32::from(code), operands.len() as i32];
+    [&head[..], &operands].concat()
 }

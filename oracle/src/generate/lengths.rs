@@ -4,7 +4,7 @@
 
 use super::{
     calls::{every_call, leave_out_what_no_direct_call_takes, zone_call},
-    lines::spoil,
+    spoil,
     states::{make_unsound, sound_state},
     worlds::{fill_glyph, fill_twilight, small_world},
 };

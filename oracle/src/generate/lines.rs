@@ -1,36 +1,19 @@
 //! Single lines of the instructions that move points, whole and spoilt.
 
 use super::{
-    is_later, selectors, shifts,
+    operands::line,
+    spoil,
     states::{make_unsound, sound_state},
     worlds::{fill_glyph, fill_twilight, small_world},
 };
 use crate::{
-    case::Case,
-    direct::Call,
-    numbers::{any_word, mixed, near_corner},
-    random::Random,
-    replay::{needs_of, Needs},
-    vectors::ONE,
-    world::*,
+    case::Case, direct::Call, numbers::mixed, opcodes::Row, random::Random, vectors::ONE, world::*,
 };
 
-/// The instructions whose lines are made one by one, with their opcodes.
-pub const OUTLINE_LINES: [(&str, &[u8]); 8] = [
-    ("FLIPPT", &[0x80]),
-    ("SHP", &[0x32, 0x33]),
-    ("MSIRP", &[0x3A, 0x3B]),
-    ("MDAP", &[0x2E, 0x2F, 0x2F]),
-    ("MIAP", &[0x3E, 0x3F, 0x3F]),
-    ("ALIGNRP", &[0x3C]),
-    ("ISECT", &[0x0F]),
-    ("IUP", &[0x30, 0x31]),
-];
-
-/// A sheet of one line, its opcode one of the given ones.
-pub fn line_case(random: &mut Random, opcodes: &[u8]) -> Case {
+/// A sheet of one line of the instruction.
+pub fn line_case(random: &mut Random, row: &Row) -> Case {
     let mut world = peopled_world(random);
-    let opcode = random.pick(opcodes);
+    let opcode = random.pick(&row.picked_codes());
     suit_the_line(random, &mut world, opcode);
     let mut line = line(random, &world, opcode);
     if random.once_in(30) {
@@ -138,152 +121,5 @@ fn put_control_values_near_points(random: &mut Random, world: &mut World) {
         };
         let distance = signed.wrapping_add(random.pick(&[-1, 0, 0, 1]));
         *value = near.wrapping_add(distance) as u32;
-    }
-}
-
-/// A line of the opcode for the world's state as it stands.
-pub fn line(random: &mut Random, world: &World, opcode: u8) -> Vec<i32> {
-    let mut operands = operands(random, world, opcode);
-    if random.once_in(14) {
-        operands.pop();
-        operands.truncate(random.below(operands.len() + 1));
-    } else if random.once_in(14) {
-        operands.push(mixed(random));
-    }
-    let mut line = vec![i32::from(opcode), operands.len() as i32];
-    line.extend(operands);
-    line
-}
-
-fn operands(random: &mut Random, world: &World, opcode: u8) -> Vec<i32> {
-    let [zp0, zp1, zp2] = world.state.zones;
-    let point = |random: &mut Random, zone: u32| point_operand(random, world.points_of(zone));
-    match opcode {
-        0x0F => {
-            let mut operands = [zp0, zp0, zp1, zp1, zp2].map(|zone| point(random, zone));
-            keep_apart(&mut operands[..2], world.points_of(zp0));
-            keep_apart(&mut operands[2..4], world.points_of(zp1));
-            operands.to_vec()
-        }
-        0x10..=0x12 => vec![point(random, zp0)],
-        0x13..=0x16 => vec![zone_operand(random)],
-        0x17 => vec![loop_operand(random)],
-        0x2E | 0x2F => vec![point(random, zp0)],
-        0x3A | 0x3B => vec![mixed(random), point(random, zp1)],
-        0x3E | 0x3F => {
-            let entry = point_operand(random, world.lists[CONTROL_VALUES].len());
-            vec![entry, point(random, zp0)]
-        }
-        0x32 | 0x33 => looped(random, world, zp2),
-        0x3C => looped(random, world, zp1),
-        0x80 => looped(random, world, 1),
-        0x76 | 0x77 => vec![selectors::selector(random)],
-        _ => shifts::operands(random, world, opcode),
-    }
-}
-
-/// A line's two ends are mostly two points.
-fn keep_apart(ends: &mut [i32], count: usize) {
-    if ends[0] == ends[1] && count > 2 {
-        ends[1] = (ends[0] + 1) % count as i32;
-    }
-}
-
-/// As many points as the loop counter asks for, or a few of a great many.
-pub fn looped(random: &mut Random, world: &World, zone: u32) -> Vec<i32> {
-    let wanted = world.state.loop_counter as usize;
-    let count = if wanted > 5 { random.below(5) } else { wanted };
-    (0..count)
-        .map(|_| point_operand(random, world.points_of(zone)))
-        .collect()
-}
-
-/// Mostly an index below the count, now and then at it, above it or negative.
-pub fn point_operand(random: &mut Random, count: usize) -> i32 {
-    if count > 0 && !random.once_in(16) {
-        return random.below(count) as i32;
-    }
-    match random.below(4) {
-        0 => count as i32,
-        1 => -1,
-        2 => near_corner(random),
-        _ => any_word(random),
-    }
-}
-
-pub fn zone_operand(random: &mut Random) -> i32 {
-    if random.once_in(10) {
-        random.pick(&[2, -1, i32::MIN, i32::MAX, 256])
-    } else {
-        random.between(0, 1)
-    }
-}
-
-fn loop_operand(random: &mut Random) -> i32 {
-    if random.once_in(6) {
-        random.pick(&[-1, i32::MIN, 65_534, 65_535, 65_536, i32::MAX, 0])
-    } else {
-        random.between(0, 3)
-    }
-}
-
-/// How many operands the line takes as the state stands.
-pub fn taken(world: &World, opcode: u8) -> u32 {
-    match needs_of(opcode) {
-        Needs::Operands(count) => count,
-        Needs::AsManyAsTheLoop => world.state.loop_counter,
-        Needs::OneMoreThanTheLoop => world.state.loop_counter.saturating_add(1),
-        Needs::Unknown => 0,
-    }
-}
-
-/// Ways to spoil what a call is given.
-pub mod spoil {
-    use super::*;
-    use std::ops::RangeInclusive;
-
-    /// A word that makes the line unreadable.
-    pub fn line(random: &mut Random, line: &mut Vec<i32>) {
-        match random.below(6) {
-            0 => line[0] = random.pick(&[256, -1, i32::MIN, i32::MAX, 0x1000]),
-            1 => line[0] = i32::from(unknown_opcode(random)),
-            2 => line.truncate(1),
-            3 => line[1] = random.pick(&[-1, -2, i32::MIN]),
-            4 => line[1] = random.pick(&[i32::MAX, 65_536, line[1] + 1]),
-            _ => {
-                line.pop();
-            }
-        }
-    }
-
-    /// An opcode of no line of document 01. The later ones count as unknown
-    /// too, so that the cases made before them stay as they were.
-    pub fn unknown_opcode(random: &mut Random) -> u8 {
-        loop {
-            let opcode = random.next() as u8;
-            if needs_of(opcode) == Needs::Unknown || is_later(opcode) {
-                return opcode;
-            }
-        }
-    }
-
-    /// Some list of either zone is too long or too short by one.
-    pub fn some_length(random: &mut Random, world: &mut World) {
-        if random.flip() {
-            one_length(random, world, GLYPH_LISTS);
-        } else {
-            one_length(random, world, TWILIGHT_LISTS);
-        }
-    }
-
-    /// One of the given lists is too long or too short by one.
-    pub fn one_length(random: &mut Random, world: &mut World, lists: RangeInclusive<usize>) {
-        let count = lists.end() - lists.start() + 1;
-        let list = &mut world.lists[lists.start() + random.below(count)];
-        if random.flip() || list.is_empty() {
-            list.push(random.next() as u32 & 7);
-        } else {
-            list.pop();
-        }
     }
 }

@@ -5,10 +5,12 @@ mod far;
 mod lengths;
 mod limits;
 mod lines;
+mod operands;
 mod runs;
 mod selectors;
 mod shift_grid;
 mod shifts;
+mod spoil;
 mod states;
 mod turns;
 mod worlds;
@@ -17,25 +19,22 @@ pub use calls::{every_call, iup_case, zone_case};
 pub use far::{far_calls, far_references};
 pub use lengths::{every_length, every_limit, length_case};
 pub use limits::{limit_cases, long_iup_case, long_iup_shift_case};
-pub use lines::{line_case, OUTLINE_LINES};
+pub use lines::line_case;
 pub use runs::{
     every_opcode, every_setter, run_case, runs_of_01, selector_run_case, shift_run_case,
     whole_run_of_01,
 };
-pub use selectors::{
-    every_selector, is_selector, rounds_by_every_selector, selector_counts, SELECTOR_LINES,
-};
+pub use selectors::{every_selector, rounds_by_every_selector, selector_counts};
 pub use shift_grid::every_shift;
-pub use shifts::{shift_case, SHIFT_LINES};
+pub use shifts::shift_case;
 pub use turns::turns;
 
-use crate::{case::Case, notable, random::Random};
-
-/// True for the lines of document 02, which the cases made before them take
-/// for unknown.
-fn is_later(opcode: u8) -> bool {
-    shifts::is_shift(opcode) || is_selector(opcode)
-}
+use crate::{
+    case::Case,
+    notable,
+    opcodes::{rows_of, Family, Row},
+    random::Random,
+};
 
 /// What no chance is left to: document 01's runs, the scenes of note, each
 /// opcode, each setter, each shift, each selector, the limits, lists that don't
@@ -64,20 +63,24 @@ pub fn any_case(random: &mut Random) -> Case {
         0 => zone_case(random),
         1 => iup_case(random),
         2 => {
-            let (_, opcodes) = random.pick(&OUTLINE_LINES);
-            line_case(random, opcodes)
+            let row = any_row(random, Family::Outline);
+            line_case(random, row)
         }
         3 => run_case(random),
         4 => {
-            let (_, opcodes) = random.pick(&SHIFT_LINES);
-            shift_case(random, opcodes)
+            let row = any_row(random, Family::Shift);
+            shift_case(random, row)
         }
         5 => shift_run_case(random),
         6 => {
-            let (_, opcodes) = random.pick(&SELECTOR_LINES);
-            line_case(random, opcodes)
+            let row = any_row(random, Family::Selector);
+            line_case(random, row)
         }
         7 => selector_run_case(random),
         _ => length_case(random),
     }
+}
+
+fn any_row(random: &mut Random, family: Family) -> &'static Row {
+    random.pick(&rows_of(family))
 }

@@ -1,38 +1,41 @@
 //! Whole runs: sheets of several lines, starts and budgets of every kind.
 
 use super::{
-    is_later, is_selector,
-    lines::{line, spoil, taken},
-    shifts::calm_state,
-    states::{make_unsound, sound_state},
+    operands::line,
+    spoil,
+    states::{calm_state, make_unsound, sound_state},
     worlds::small_world,
 };
 use crate::{
     case::Case,
     direct::Call,
+    opcodes::{codes_of, is_of, rounding_codes_of, row_of, Family, Operand, Row},
     random::Random,
-    replay::{needs_of, Needs},
     world::*,
 };
 use reference::door::State;
+use std::sync::LazyLock;
 
 /// The opcodes of setters, each as likely as the others.
-const SETTERS: [u8; 20] = [
-    0x00, 0x01, 0x02, 0x03, 0x04, 0x05, 0x10, 0x11, 0x12, 0x13, 0x14, 0x15, 0x16, 0x17, 0x18, 0x19,
-    0x3D, 0x7D, 0x7C, 0x7A,
-];
-const MOVERS: [u8; 13] = [
-    0x0F, 0x2E, 0x2F, 0x30, 0x31, 0x32, 0x33, 0x3A, 0x3B, 0x3C, 0x3E, 0x3F, 0x80,
-];
+static SETTERS: LazyLock<Vec<u8>> = LazyLock::new(|| codes_of(Family::Setter));
+
+/// Document 01's other lines, by code.
+static MOVERS: LazyLock<Vec<u8>> = LazyLock::new(|| {
+    let mut movers = codes_of(Family::Outline);
+    movers.sort_unstable();
+    movers
+});
 
 /// The movers with the shifts and range flips, the latter twice as likely.
-const ALL_MOVERS: [u8; 27] = [
-    0x0F, 0x2E, 0x2F, 0x30, 0x31, 0x32, 0x33, 0x3A, 0x3B, 0x3C, 0x3E, 0x3F, 0x80, 0x34, 0x35, 0x36,
-    0x37, 0x38, 0x38, 0x81, 0x82, 0x34, 0x35, 0x36, 0x37, 0x81, 0x82,
-];
+static ALL_MOVERS: LazyLock<Vec<u8>> = LazyLock::new(|| {
+    const SHIFTS: [u8; 14] = [
+        0x34, 0x35, 0x36, 0x37, 0x38, 0x38, 0x81, 0x82, 0x34, 0x35, 0x36, 0x37, 0x81, 0x82,
+    ];
+    [&MOVERS[..], &SHIFTS].concat()
+});
 
-/// The lines that round by the state.
-const ROUNDERS: [u8; 2] = [0x2F, 0x3F];
+/// Document 01's lines that round by the state.
+static ROUNDERS: LazyLock<Vec<u8>> = LazyLock::new(|| rounding_codes_of(Family::Outline));
 
 /// Chooses a line's opcode, given that of the line before it.
 type Choice = fn(&mut Random, Option<u8>) -> u8;
@@ -53,8 +56,10 @@ pub fn shift_run_case(random: &mut Random) -> Case {
 pub fn selector_run_case(random: &mut Random) -> Case {
     let state = calm_state(random, 6);
     run_of(random, state, |random, before| match before {
-        Some(opcode) if is_selector(opcode) && !random.once_in(5) => random.pick(&ROUNDERS),
-        _ if random.flip() => random.pick(&[0x76, 0x77]),
+        Some(opcode) if is_of(opcode, Family::Selector) && !random.once_in(5) => {
+            random.pick(&ROUNDERS)
+        }
+        _ if random.flip() => random.pick(&codes_of(Family::Selector)),
         _ => setter_or(random, &ALL_MOVERS),
     })
 }
@@ -118,11 +123,15 @@ fn look_ahead(world: &mut World, line: &[i32]) {
         }
         (0x16, Some(zone @ 0..=1)) => state.zones = [*zone as u32; 3],
         (0x17, Some(count @ 0..)) => state.loop_counter = (*count as u32).min(0xFFFF),
-        (0x32 | 0x33 | 0x38 | 0x3C | 0x80, _) if taken(world, opcode) > 0 => {
-            world.state.loop_counter = 1;
-        }
+        _ if sets_the_loop_back(opcode, state.loop_counter) => state.loop_counter = 1,
         _ => {}
     }
+}
+
+/// A line that loops does, unless it takes nothing.
+fn sets_the_loop_back(opcode: u8, loop_counter: u32) -> bool {
+    let takes_some = |row: &Row| row.looped.is_some() && row.most_operands(loop_counter) > 0;
+    row_of(opcode).is_some_and(takes_some)
 }
 
 /// Mostly the first line, now and then another, inside one, or the end.
@@ -154,8 +163,8 @@ pub fn every_opcode() -> Vec<Case> {
     for opcode in 0..=255 {
         case.world.lists[SHEET] = vec![u32::from(opcode), 0];
         cases.push(case.clone());
-        if needs_of(opcode) != Needs::Unknown && !is_later(opcode) {
-            let count = taken(&case.world, opcode) + 1;
+        if let Some(row) = row_of(opcode).filter(|row| row.family.is_of_01()) {
+            let count = row.most_operands(case.world.state.loop_counter) as u32 + 1;
             case.world.lists[SHEET] = vec![u32::from(opcode), count];
             case.world.lists[SHEET].extend((0..count).map(|_| 0));
             cases.push(case.clone());
@@ -170,15 +179,16 @@ pub fn every_setter() -> Vec<Case> {
     let zones = [0, 1, 2, -1, 256, i32::MAX, i32::MIN];
     let loops = [0, 1, 65_534, 65_535, 65_536, i32::MAX, -1, i32::MIN];
     let mut cases = Vec::new();
-    for opcode in 0x10..=0x17 {
-        let operands: &[i32] = match opcode {
-            0x10..=0x12 => &references,
-            0x17 => &loops,
-            _ => &zones,
+    for opcode in codes_of(Family::Setter) {
+        let operands: &[i32] = match row_of(opcode).map(|row| row.operands) {
+            Some([Operand::PointNumber]) => &references,
+            Some([Operand::ZoneNumber]) => &zones,
+            Some([Operand::LoopCount]) => &loops,
+            _ => &[],
         };
         for operand in operands {
             let mut case = whole_run_of_01();
-            case.world.lists[SHEET] = vec![opcode, 1, *operand as u32];
+            case.world.lists[SHEET] = vec![u32::from(opcode), 1, *operand as u32];
             cases.push(case);
         }
     }

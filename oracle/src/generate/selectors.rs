@@ -2,37 +2,21 @@
 //! that round by what they set.
 
 use crate::{
-    case::Case, direct::Call, numbers::any_word, random::Random, scene::Scene, world::fresh_state,
+    case::Case,
+    direct::Call,
+    opcodes::{codes_of, Family},
+    scene::Scene,
+    world::fresh_state,
 };
 use reference::door::Rounding;
 
-/// The instructions that set the round state from a selector, with their
-/// opcodes.
-pub const SELECTOR_LINES: [(&str, &[u8]); 2] = [("SROUND", &[0x76]), ("S45ROUND", &[0x77])];
-
 /// What may stand above a selector's byte, and doesn't count.
-const ABOVE_THE_BYTE: [i32; 5] = [-0x100, 0x7FFF_FF00, 0x100, i32::MIN, 0x0055_AA00];
+pub const ABOVE_THE_BYTE: [i32; 5] = [-0x100, 0x7FFF_FF00, 0x100, i32::MIN, 0x0055_AA00];
 
 const WHOLE_RUN: Call = Call::Run {
     start: 0,
     budget: u64::MAX,
 };
-
-pub fn is_selector(opcode: u8) -> bool {
-    SELECTOR_LINES
-        .iter()
-        .any(|(_, opcodes)| opcodes.contains(&opcode))
-}
-
-/// The operand of such a line: a byte alone, or with anything above it.
-pub fn selector(random: &mut Random) -> i32 {
-    let byte = random.between(0, 255);
-    match random.below(3) {
-        0 => byte,
-        1 => byte | random.pick(&ABOVE_THE_BYTE),
-        _ => byte | any_word(random) << 8,
-    }
-}
 
 /// Each byte as the operand of each kind, from a state of which every number
 /// is set anew.
@@ -95,9 +79,7 @@ pub fn selector_counts() -> Vec<Case> {
 }
 
 fn opcodes() -> impl Iterator<Item = i32> {
-    SELECTOR_LINES
-        .iter()
-        .flat_map(|(_, opcodes)| opcodes.iter().map(|opcode| i32::from(*opcode)))
+    codes_of(Family::Selector).into_iter().map(i32::from)
 }
 
 /// Both kinds, each with all bytes.

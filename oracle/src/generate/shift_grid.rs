@@ -5,6 +5,7 @@ use crate::{
     direct::Call,
     notable::{along, DIAGONAL, NOWHERE, X, Y},
     numbers::corners,
+    opcodes::{codes_of, Family},
     scene::Scene,
 };
 use reference::door::State;
@@ -264,7 +265,7 @@ fn ranges() -> Vec<Scene> {
 /// Each opcode with no operand, one, and one more than it takes.
 fn counts() -> Vec<Scene> {
     let mut scenes = Vec::new();
-    for opcode in [0x34, 0x35, 0x36, 0x37, 0x38, 0x81, 0x82] {
+    for opcode in codes_of(Family::Shift).into_iter().map(i32::from) {
         let lines = [
             vec![opcode, 0],
             vec![opcode, 1, 9],

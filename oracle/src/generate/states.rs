@@ -25,6 +25,18 @@ pub fn sound_state(random: &mut Random) -> State {
     }
 }
 
+/// A sound state with backward compatibility once in so many times, since SHPIX
+/// ends a run then. Freedom (0, 0) comes often.
+pub fn calm_state(random: &mut Random, compatible_once_in: usize) -> State {
+    let mut state = sound_state(random);
+    state.backward_compatibility = random.once_in(compatible_once_in);
+    if random.once_in(12) {
+        state.vectors[4] = 0;
+        state.vectors[5] = 0;
+    }
+    state
+}
+
 /// Makes the state fail the entry test, in one of its ways.
 pub fn make_unsound(random: &mut Random, state: &mut State) {
     if random.once_in(3) {
