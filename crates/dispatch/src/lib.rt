@@ -15,6 +15,33 @@ use line_set::set_state;
 ghost use mathlib.Core.Path.{_≡_};
 ghost use Rattle.line.specs.World.{Alike, fixed, lined, world};
 ghost use Rattle.opcodes.specs.Table.{lineOf};
+ghost use Rattle.dispatch.specs.Steps.{Named};
+
+// The call that does an opcode's line. `perform` matches these, and not the numbers: down a chain of ranges the compiler takes the last calls for rare and
+// leaves them out of line, and then the state goes through memory at every line.
+pub enum Kind {
+    Isect,
+    Iup,
+    Shift,
+    Distance,
+    Flippt,
+    Fliprg,
+    Set,
+}
+
+fn kind_of(opcode: usize) -> Kind
+    ensures { λ r. ⌜ Named opcode r ⌝ }
+{
+    match opcode {
+        0x0F => Kind::Isect,
+        0x30 | 0x31 => Kind::Iup,
+        0x32..=0x38 => Kind::Shift,
+        0x2E | 0x2F | 0x3A..=0x3C | 0x3E | 0x3F => Kind::Distance,
+        0x80 => Kind::Flippt,
+        0x81 | 0x82 => Kind::Fliprg,
+        _ => Kind::Set,
+    }
+}
 
 // The line of an opcode, with its operands.
 pub fn perform(
@@ -39,10 +66,11 @@ pub fn perform(
     requires { ⌜ Alike (fixed (now controls) (now gux) (now guy) (now gox) (now goy) (now contours)) (world s (now gx) (now gy) (now gflags) (now tox) (now toy) (now tx) (now ty) (now tflags)) ⌝ }
     ensures { λ r. ⌜ lined r (now (gx .exit)) (now (gy .exit)) (now (gflags .exit)) (now (tox .exit)) (now (toy .exit)) (now (tx .exit)) (now (ty .exit)) (now (tflags .exit)) ≡ lineOf (fixed (now (controls .entry)) (now (gux .entry)) (now (guy .entry)) (now (gox .entry)) (now (goy .entry)) (now (contours .entry))) opcode (now (operands .entry)) (world s (now (gx .entry)) (now (gy .entry)) (now (gflags .entry)) (now (tox .entry)) (now (toy .entry)) (now (tx .entry)) (now (ty .entry)) (now (tflags .entry))) ⌝ }
 {
-    match opcode {
-        0x0F => isect(s, operands, gx, gy, gflags, tx, ty, tflags),
-        0x30 | 0x31 => iup(s, opcode, gux, guy, gox, goy, gx, gy, gflags, contours),
-        0x32..=0x38 => perform_shift(
+    let kind = kind_of(opcode);
+    match kind {
+        Kind::Isect => isect(s, operands, gx, gy, gflags, tx, ty, tflags),
+        Kind::Iup => iup(s, opcode, gux, guy, gox, goy, gx, gy, gflags, contours),
+        Kind::Shift => perform_shift(
             s,
             opcode,
             operands,
@@ -58,7 +86,7 @@ pub fn perform(
             ty,
             tflags,
         ),
-        0x2E | 0x2F | 0x3A..=0x3C | 0x3E | 0x3F => perform_distance(
+        Kind::Distance => perform_distance(
             s,
             opcode,
             operands,
@@ -72,8 +100,8 @@ pub fn perform(
             ty,
             tflags,
         ),
-        0x80 => flippt(s, operands, gflags),
-        0x81 | 0x82 => fliprg(s, opcode, operands, gflags),
-        _ => set_state(s, opcode, operands),
+        Kind::Flippt => flippt(s, operands, gflags),
+        Kind::Fliprg => fliprg(s, opcode, operands, gflags),
+        Kind::Set => set_state(s, opcode, operands),
     }
 }

@@ -2,7 +2,7 @@
 use Prim.Native.Nat.{ℕ, _-_, _<_}
 use mathlib.Core.Bool.{false, true}
 use mathlib.Core.List.{List, [], _∷_}
-use mathlib.Core.Path.{_≡_, ap, ap₂, refl, _∙_}
+use mathlib.Core.Path.{_≡_, ap, ap₂, refl, sym, _∙_}
 use native.Mathlib.Omega.{arith}
 use lib.IntN.{ℤ, pos}
 use lib.ListN.{drop, getD, length, take}
@@ -13,6 +13,9 @@ use Rattle.answer.specs.declared.Refusal.{Refusal}
 use Rattle.graphics.specs.State.{withLoopCounter}
 use Rattle.graphics.specs.declared.Facts.{Facts}
 use Rattle.graphics.specs.declared.Vectors.{Vectors}
+use Rattle.graphics.specs.declared.ZonePointer.the-variants.{Glyph, Twilight}
+use Rattle.graphics.specs.declared.ZonePointer.{ZonePointer}
+use Rattle.line.specs.Places.{fetchIn}
 use Rattle.line.specs.declared.Stepped.{Stepped}
 use Rattle.line_steps.proofs.Bridge.{zonesOf}
 use Rattle.line_steps.proofs.Laws.{first-missing, first-there, reference-is, reference-out, reference-there}
@@ -20,7 +23,7 @@ use Rattle.line_steps.proofs.Zones.{shift-is, zone-looped-is}
 use Rattle.line_steps.specs.Loop.{Zones, each, ended, inZone, shiftUnlessIdle}
 use Rattle.line_steps.specs.Steps.{looped, refusedIn, shiftPoint}
 use Rattle.math.specs.Fixed.{mulFix14}
-use Rattle.moves.specs.Displacement.{displacedIn, referenceOf}
+use Rattle.moves.specs.Displacement.{displacedAt, displacedFrom, displacedIn, referenceOf}
 use Rattle.moves.specs.Move.{zp2MoveOf}
 use Rattle.moves.specs.declared.Displaced.the-variants.{By}
 use Rattle.moves.specs.declared.Displaced.the-variants.{Refused as RefusedDisplacement}
@@ -30,6 +33,7 @@ use Rattle.moves.specs.declared.Move.{Move}
 use Rattle.moves.specs.declared.Reference.{Reference}
 use Rattle.line.specs.World.{Fixed, Lined, World, lined}
 use Rattle.zone.proofs.Tried.{outside, within}
+use Rattle.zone.specs.declared.Fetched.{Fetched}
 use Rattle.line_shift.specs.Shift.{pixelMove, shpOf, shpixOf}
 
 -- ---- the loop, by any move that is the line's
@@ -41,6 +45,21 @@ shifted-by operands w {m = m} e p q =
     zone-looped-is (shiftUnlessIdle m) (shiftPoint m) (shift-is m) operands w p q ∙ ap (λ (by : Move). looped operands w (shiftPoint by)) e
 
 -- ---- SHP
+-- the zone chosen at each place that is read
+module _ (v : Vectors) (p : Reference) (gox goy gx gy tox toy tx ty : List ℤ) where
+  in-zone : (zone : ZonePointer) → displacedFrom v p (fetchIn (p .at) gox goy tox toy zone) (fetchIn (p .at) gx gy tx ty zone) ≡ displacedIn v p gox goy gx gy tox toy tx ty zone
+  unfolding displacedIn displacedAt fetchIn
+  in-zone Glyph = refl
+  in-zone Twilight = refl
+
+  pub current-read : {here h : Fetched} → here ≡ fetchIn (p .at) gx gy tx ty (p .zone) → here ≡ h
+      → displacedFrom v p (fetchIn (p .at) gox goy tox toy (p .zone)) h ≡ displacedIn v p gox goy gx gy tox toy tx ty (p .zone)
+  current-read e q = ap (displacedFrom v p (fetchIn (p .at) gox goy tox toy (p .zone))) (sym q ∙ e) ∙ in-zone (p .zone)
+
+  pub both-read : {here h there t : Fetched} → here ≡ fetchIn (p .at) gx gy tx ty (p .zone) → here ≡ h → there ≡ fetchIn (p .at) gox goy tox toy (p .zone) → there ≡ t
+      → displacedFrom v p t h ≡ displacedIn v p gox goy gx gy tox toy tx ty (p .zone)
+  both-read {h = h} e q f r = ap (λ (original : Fetched). displacedFrom v p original h) (sym r ∙ f) ∙ current-read e q
+
 module _ (f : Fixed) (opcode : ℕ) (operands : List ℤ) (w : World) {p : Reference} {d : Displaced} (e : p ≡ referenceOf (w .state) opcode)
     (q : d ≡ displacedIn (w .state .vectors) p (f .gox) (f .goy) (w .gx) (w .gy) (w .tox) (w .toy) (w .tx) (w .ty) (p .zone)) where
   pub shp-refused : {why : Refusal} {r : Lined} → d ≡ RefusedDisplacement why → r ≡ refusedIn w why → r ≡ shpOf f opcode operands w

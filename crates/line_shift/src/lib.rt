@@ -14,15 +14,19 @@ use graphics::Vectors;
 use graphics::ZonePointer;
 use int::as_index;
 use line::Stepped;
+use line::fetch_in;
 use line::refused;
 use line_steps::take_each;
 use math::mul14;
 use moves::Displaced;
+use moves::Displacement;
 use moves::Move;
+use moves::Reference;
 use moves::apply;
-use moves::displaced_in;
+use moves::displacement_of;
 use moves::reference_of;
 use moves::zp2_move_of;
+use zone::Fetched;
 ghost use Prim.Native.Nat.{ℕ};
 ghost use mathlib.Core.List.{List};
 ghost use mathlib.Core.Path.{_≡_};
@@ -30,6 +34,7 @@ ghost use lib.IntN.{ℤ};
 ghost use lib.ListN.{length};
 ghost use Rattle.line_steps.specs.Loop.{each, ended, inZone, points, shiftAt, shiftUnlessIdle, zones};
 ghost use Rattle.line.specs.World.{Fixed, fixed, lined, world};
+ghost use Rattle.moves.specs.Displacement.{displacedIn};
 ghost use Rattle.line_shift.specs.Shift.{pixelMove, shpOf, shpixOf};
 
 // ---- points shifted by one move
@@ -102,6 +107,45 @@ fn shift_in(
 }
 
 // ---- SHP
+// `displaced_in` of the crate moves, but that the zone is chosen at each place that is read: called there, both zones' lists would go through memory.
+fn displaced(
+    v: Vectors,
+    p: Reference,
+    gox: &[i32],
+    goy: &[i32],
+    gx: &[i32],
+    gy: &[i32],
+    tox: &[i32],
+    toy: &[i32],
+    tx: &[i32],
+    ty: &[i32],
+) -> Displaced
+    requires { ⌜ (length (now goy) ≡ length (now gox)) × (length (now gy) ≡ length (now gx)) × (length (now toy) ≡ length (now tox)) × (length (now ty) ≡ length (now tx)) ⌝ }
+    ensures { λ r. ⌜ r ≡ displacedIn v p (now (gox .entry)) (now (goy .entry)) (now (gx .entry)) (now (gy .entry)) (now (tox .entry)) (now (toy .entry)) (now (tx .entry)) (now (ty .entry)) (p .zone) ⌝ }
+{
+    let zone = p.zone;
+    let at = p.at;
+    let here = fetch_in(zone, at, gx, gy, tx, ty);
+    match here {
+        Fetched::Refused(why) => Displaced::Refused(why),
+        Fetched::At(current) => {
+            let there = fetch_in(zone, at, gox, goy, tox, toy);
+            match there {
+                Fetched::Refused(why) => Displaced::Refused(why),
+                Fetched::At(original) => {
+                    let d = displacement_of(v, current, original);
+                    Displaced::By(Displacement {
+                        zone,
+                        at,
+                        dx: d.x,
+                        dy: d.y,
+                    })
+                }
+            }
+        }
+    }
+}
+
 pub fn shp(
     s: GraphicsState,
     opcode: usize,
@@ -126,8 +170,8 @@ pub fn shp(
     let zp2 = pointers.zp2;
     let count = s.loop_counter;
     let reference = reference_of(s, opcode);
-    let displaced = displaced_in(vectors, reference, gox, goy, gx, gy, tox, toy, tx, ty);
-    match displaced {
+    let by = displaced(vectors, reference, gox, goy, gx, gy, tox, toy, tx, ty);
+    match by {
         Displaced::Refused(why) => refused(s, why),
         Displaced::By(d) => {
             let m = zp2_move_of(vectors, facts, d.dx, d.dy, true);

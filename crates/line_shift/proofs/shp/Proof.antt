@@ -24,17 +24,17 @@ held s controls gux guy contours = fixed controls gux guy (now (s .args .gox)) (
 reference-of-requires : tie.Need-reference-of-requires
 reference-of-requires c κs = tt
 
-displaced-in-requires : tie.Need-displaced-in-requires
-displaced-in-requires c κs = let p = c .before .before .before .before .before .before .before .before .before .before .pre in (p .0, p .1, p .3, p .4)
+displaced-requires : tie.Need-displaced-requires
+displaced-requires c κs = let p = c .before .before .before .before .before .before .before .before .before .before .pre in (p .0, p .1, p .3, p .4)
 
-enum-known-displaced : tie.Need-enum-known-displaced
-enum-known-displaced c = c .match .keys1
+enum-known-by : tie.Need-enum-known-by
+enum-known-by c = c .match .keys1
 
 refused-requires : tie.Need-refused-requires
 refused-requires c κs = tt
 
-enum-known-displaced-2 : tie.Need-enum-known-displaced-2
-enum-known-displaced-2 c = c .match .keys2
+enum-known-by-2 : tie.Need-enum-known-by-2
+enum-known-by-2 c = c .match .keys2
 
 zp2-move-of-requires : tie.Need-zp2-move-of-requires
 zp2-move-of-requires c κs = tt
@@ -59,8 +59,8 @@ same-length-4 c = refl
 
 returns : tie.Need-returns
 returns c = let f = c .before .before in let x = f .before .before in let r = x .before .before .before .before .before in let s = r .before .before .before .before .before .before in
-    λ controls gux guy contours. shp-refused (held s controls gux guy contours) (s .args .opcode) (now (s .args .operands)) (entry s) (r .reference-of .ensures) (x .displaced-in .ensures)
-    (f .displaced .given .1) (ap (into (entry s)) (c .refused .ensures))
+    λ controls gux guy contours. shp-refused (held s controls gux guy contours) (s .args .opcode) (now (s .args .operands)) (entry s) (r .reference-of .ensures) (x .displaced .ensures)
+    (f .by .given .1) (ap (into (entry s)) (c .refused .ensures))
 
 same-length-5 : tie.Need-same-length-5
 same-length-5 c = c .before .before .before .before .before .before .before .before .before .shift-in .kept .1 .1 .1 .1 .0
@@ -82,8 +82,8 @@ same-length-10 c = c .before .before .before .before .before .before .before .be
 
 returns-2 : tie.Need-returns-2
 returns-2 c = let t = c .before .before .before .before .before .before .before .before .before in let m = t .before .before .before .before .before .before .before in let f = m .before .before .before .before in let x = f .before .before in let r = x .before .before .before .before .before in let s = r .before .before .before .before .before .before in
-    λ controls gux guy contours. shp-shifted (held s controls gux guy contours) (s .args .opcode) (now (s .args .operands)) (entry s) (r .reference-of .ensures) (x .displaced-in .ensures)
-    (f .displaced2 .given .1)
+    λ controls gux guy contours. shp-shifted (held s controls gux guy contours) (s .args .opcode) (now (s .args .operands)) (entry s) (r .reference-of .ensures) (x .displaced .ensures)
+    (f .by2 .given .1)
     (m .zp2-move-of .ensures)
     (back32 _ (omega (arith, m .before .before .struct-told .given .1 .1 .0)))
     (back32 _ (omega (arith, m .before .struct-told2 .given .1 .1 .1 .0)))
@@ -95,10 +95,10 @@ shp-spec =
     tie.close
     (tie.spec
     reference-of-requires
-    displaced-in-requires
-    enum-known-displaced
+    displaced-requires
+    enum-known-by
     refused-requires
-    enum-known-displaced-2
+    enum-known-by-2
     zp2-move-of-requires
     shift-in-requires
     reset-loop-counter-requires
