@@ -3,7 +3,6 @@
 use mathlib.Core.List.{List, [], _∷_, map}
 use mathlib.Core.Path.{_≡_, ap, refl}
 use Prim.Native.Nat.{ℕ}
-use lib.ListN.{length}
 use mathlib.Core.Bool.{false, true}
 use lib.IntN.{negsuc, pos, ℤ}
 use Rattle.line.specs.World.{Fixed, World, fixed, world}
@@ -25,6 +24,7 @@ use Rattle.line.specs.Sizes.{fits}
 use Rattle.run_step.specs.Step.{onDecoded, stepOf}
 use Rattle.laws_axes.specs.Plain.{OnlyXDiffers, OnlyYDiffers, SameHorizontally, SameVertically}
 use Rattle.laws_axes.specs.Reached.{afterCall, linesReached, none, onEntry as reachedOnEntry, reachedFrom}
+use Rattle.flags.specs.declared.Axis.{Axis}
 use Rattle.flags.specs.declared.Axis.the-variants.{X, Y}
 use Rattle.int.specs.Word.{abs32, add32, maxZ, minZ, mul32, neg32, quot32, sub32, wrap32}
 use Rattle.graphics.specs.State.{allAlong, freshState, usableState, vectorInRange, vectorsInRange, withVectors, yAxis}
@@ -77,84 +77,53 @@ here = five (pos 0) (pos 10) (pos 20) (pos 30) (pos 40)
 abbrev there : List ℤ
 there = five (pos 7) (negsuc 2) (pos 100) (pos 0) (pos 64)
 
-differ-in-x : (xs us ys : List ℤ) → length xs ≡ length us → OnlyXDiffers (held xs ys) (held us ys) (start xs ys) (start us ys)
-differ-in-x xs us ys e =
-    record {
-      controls = refl;
-      gux = e;
-      guy = refl;
-      gox = e;
-      goy = refl;
-      contours = refl;
-      state = refl;
-      gx = e;
-      gy = refl;
-      gflags = refl;
-      tox = refl;
-      toy = refl;
-      tx = refl;
-      ty = refl;
-      tflags = refl;
-    }
+-- along an axis the heights, across it these coordinates: the glyph, and the start with every vector along the axis
+abbrev glyph : Axis → List ℤ → Fixed
+glyph X across = held heights across
+glyph Y across = held across heights
 
-differ-in-y : (xs ys vs : List ℤ) → length ys ≡ length vs → OnlyYDiffers (held xs ys) (held xs vs) (level xs ys) (level xs vs)
-differ-in-y xs ys vs e =
-    record {
-      controls = refl;
-      gux = refl;
-      guy = e;
-      gox = refl;
-      goy = e;
-      contours = refl;
-      state = refl;
-      gx = refl;
-      gy = e;
-      gflags = refl;
-      tox = refl;
-      toy = refl;
-      tx = refl;
-      ty = refl;
-      tflags = refl;
-    }
+abbrev begun : Axis → List ℤ → World
+begun X across = level heights across
+begun Y across = start across heights
+
+differ-in-x : OnlyXDiffers (glyph Y here) (glyph Y there) (begun Y here) (begun Y there)
+differ-in-x = search
+
+differ-in-y : OnlyYDiffers (glyph X here) (glyph X there) (begun X here) (begun X there)
+differ-in-y = search
 
 -- MDAP[1] of point 0, then IUP on both axes
 abbrev moving : List ℤ
 moving = pos 47 ∷ pos 1 ∷ pos 0 ∷ pos 48 ∷ pos 0 ∷ pos 49 ∷ pos 0 ∷ []
 
-pub reaches : linesReached (held here heights) moving 3 0 (start here heights) ≡ 47 ∷ 48 ∷ 49 ∷ []
+pub reaches : (a : Axis) → linesReached (glyph a here) moving 3 0 (begun a here) ≡ 47 ∷ 48 ∷ 49 ∷ []
 unfolding linesReached reachedOnEntry reachedFrom afterCall entryOf fits glyphFits twilightFits pairFits placedFits usableState vectorsInRange vectorInRange stepOf onDecoded decodeOf decodeBy needOf lineOf rowOf setOf one two takeFive controlAt pointOr fetchIn madeIn moveIn laidIn applyIn putTouched outsideMdap mdapOf mdapDistance fromOrigin roundingStep grid alongOf axisOf rawFdotp notSmall fetchOf applyOf moveOf stepBy freedomAxisBy add32 sub32 neg32 abs32 wrap32 maxZ minZ keepUp keepDown padFloor padRound multipleBelow quotFloor markedFor iupLineOf iupOf walkOf past contourOf points touchedOf
-reaches = refl
+reaches X = refl
+reaches Y = refl
 
-pub ends-alike : SameVertically (runOf (held here heights) moving 3 0 (start here heights)) (runOf (held there heights) moving 3 0 (start there heights))
+pub ends-alike : SameVertically (runOf (glyph Y here) moving 3 0 (begun Y here)) (runOf (glyph Y there) moving 3 0 (begun Y there))
 ends-alike =
-    vertical-runs-agree (held here heights) (held there heights) moving 3 0 (start here heights) (start there heights) (differ-in-x here there heights refl) refl
-    (ap (none (mixes Y)) reaches)
+    vertical-runs-agree (glyph Y here) (glyph Y there) moving 3 0 (begun Y here) (begun Y there) differ-in-x refl (ap (none (mixes Y)) (reaches Y))
 
--- every point rises by 24
+pub ends-alike-level : SameHorizontally (runOf (glyph X here) moving 3 0 (begun X here)) (runOf (glyph X there) moving 3 0 (begun X there))
+ends-alike-level =
+    horizontal-runs-agree (glyph X here) (glyph X there) moving 3 0 (begun X here) (begun X there) differ-in-y refl (ap (none (mixes X)) (reaches X))
+
+-- every point moves by 24 along the axis
 abbrev raised : List ℤ
 raised = five (pos 64) (pos 124) (pos 24) (pos 88) (pos 24)
 
+abbrev coordinates : Axis → World → List ℤ
+coordinates X w = w .gx
+coordinates Y w = w .gy
+
 pub rise-alike :
-    (runOf (held here heights) moving 3 0 (start here heights) .world .gy ≡ raised)
-    × (runOf (held there heights) moving 3 0 (start there heights) .world .gy ≡ raised)
+    (a : Axis)
+    → (coordinates a (runOf (glyph a here) moving 3 0 (begun a here) .world) ≡ raised)
+    × (coordinates a (runOf (glyph a there) moving 3 0 (begun a there) .world) ≡ raised)
 unfolding runOf runOnEntry entryOf fits glyphFits twilightFits pairFits placedFits usableState vectorsInRange vectorInRange replayOf stepOf onDecoded onCall decodeOf decodeBy needOf lineOf rowOf setOf one two takeFive controlAt pointOr fetchIn madeIn moveIn laidIn applyIn putTouched outsideMdap mdapOf mdapDistance fromOrigin roundingStep grid alongOf axisOf rawFdotp notSmall fetchOf applyOf moveOf stepBy freedomAxisBy add32 sub32 neg32 abs32 wrap32 maxZ minZ keepUp keepDown padFloor padRound multipleBelow quotFloor markedFor iupLineOf iupOf walkOf past contourOf points touchedOf
-rise-alike = (refl, refl)
-
--- the same lines with level vectors, and starts that differ in y
-pub reaches-level : linesReached (held heights here) moving 3 0 (level heights here) ≡ 47 ∷ 48 ∷ 49 ∷ []
-unfolding linesReached reachedOnEntry reachedFrom afterCall entryOf fits glyphFits twilightFits pairFits placedFits usableState vectorsInRange vectorInRange stepOf onDecoded decodeOf decodeBy needOf lineOf rowOf setOf one two takeFive controlAt pointOr fetchIn madeIn moveIn laidIn applyIn putTouched outsideMdap mdapOf mdapDistance fromOrigin roundingStep grid alongOf axisOf rawFdotp notSmall fetchOf applyOf moveOf stepBy freedomAxisBy add32 sub32 neg32 abs32 wrap32 maxZ minZ keepUp keepDown padFloor padRound multipleBelow quotFloor markedFor iupLineOf iupOf walkOf past contourOf points touchedOf
-reaches-level = refl
-
-pub ends-alike-level : SameHorizontally (runOf (held heights here) moving 3 0 (level heights here)) (runOf (held heights there) moving 3 0 (level heights there))
-ends-alike-level =
-    horizontal-runs-agree (held heights here) (held heights there) moving 3 0 (level heights here) (level heights there) (differ-in-y heights here there refl) refl
-    (ap (none (mixes X)) reaches-level)
-
-pub move-alike-level :
-    (runOf (held heights here) moving 3 0 (level heights here) .world .gx ≡ raised)
-    × (runOf (held heights there) moving 3 0 (level heights there) .world .gx ≡ raised)
-unfolding runOf runOnEntry entryOf fits glyphFits twilightFits pairFits placedFits usableState vectorsInRange vectorInRange replayOf stepOf onDecoded onCall decodeOf decodeBy needOf lineOf rowOf setOf one two takeFive controlAt pointOr fetchIn madeIn moveIn laidIn applyIn putTouched outsideMdap mdapOf mdapDistance fromOrigin roundingStep grid alongOf axisOf rawFdotp notSmall fetchOf applyOf moveOf stepBy freedomAxisBy add32 sub32 neg32 abs32 wrap32 maxZ minZ keepUp keepDown padFloor padRound multipleBelow quotFloor markedFor iupLineOf iupOf walkOf past contourOf points touchedOf
-move-alike-level = (refl, refl)
+rise-alike X = (refl, refl)
+rise-alike Y = (refl, refl)
 
 -- ---- a pair that is refused
 -- MDAP[1] of point 0, then MIAP[1] by control value 5, which isn't there
@@ -168,7 +137,7 @@ reaches-refused = refl
 
 pub refused-alike : SameVertically (runOf (held here heights) refusing 9 0 (start here heights)) (runOf (held there heights) refusing 9 0 (start there heights))
 refused-alike =
-    vertical-runs-agree (held here heights) (held there heights) refusing 9 0 (start here heights) (start there heights) (differ-in-x here there heights refl) refl
+    vertical-runs-agree (held here heights) (held there heights) refusing 9 0 (start here heights) (start there heights) differ-in-x refl
     (ap (none (mixes Y)) reaches-refused)
 
 -- one line is finished, and point 0 has moved

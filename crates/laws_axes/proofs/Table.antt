@@ -16,6 +16,7 @@ use Rattle.int.proofs.Tests.{either}
 use Rattle.int.specs.Word.{eqZ}
 use Rattle.laws_lines.proofs.Lines.{line-leaves, no-question}
 use Rattle.laws_lines.proofs.Rows.{RowsHave, row-has, within}
+use Rattle.laws_lines.proofs.Rows.RowsHave.{_▸_, elsewhere}
 use Rattle.line.specs.declared.Stepped.{Stepped}
 use Rattle.line_isect.specs.Isect.{isectOf}
 use Rattle.line_iup.specs.Iup.{iupLineOf}
@@ -57,65 +58,27 @@ unfolding setOf
 set-seen a op m f operands w straight = ap (λ (u : World). into u (setBy (w .state) op operands)) (world-again a w .seen)
 
 rows-seen : (a : Axis) → RowsHave (SeenAt a) rows
-unfolding RowsHave
-rows-seen a = (
-  λ op h. set-seen a op,
-  (
-    λ op h m. absurd (no-intersection a op h m),
-    (
-      λ op h. set-seen a op,
-      (
-        λ op h. set-seen a op,
-        (
-          λ op h m f operands w s. mdap-seen a f op operands w s,
-          (
-            λ op h m f operands w s. iup-seen a f op operands w s,
-            (
-              λ op h m f operands w s. shp-seen a f op operands w s,
-              (
-                λ op h m f operands w s. shc-seen a f op operands w s,
-                (
-                  λ op h m f operands w s. shz-seen a f op operands w s,
-                  (
-                    λ op h m f operands w s. shpix-seen a f op operands w s,
-                    (
-                      λ op h m f operands w s. msirp-seen a f op operands w s,
-                      (
-                        λ op h m f operands w s. alignrp-seen a f op operands w s,
-                        (
-                          λ op h. set-seen a op,
-                          (
-                            λ op h m f operands w s. miap-seen a f op operands w s,
-                            (
-                              λ op h. set-seen a op,
-                              (
-                                λ op h. set-seen a op,
-                                (
-                                  λ op h. set-seen a op,
-                                  (
-                                    λ op h m f operands w s. flippt-seen a f op operands w s,
-                                    (
-                                      λ op h m f operands w s. fliprg-seen a f op operands w s,
-                                      set-seen a,
-                                    ),
-                                  ),
-                                ),
-                              ),
-                            ),
-                          ),
-                        ),
-                      ),
-                    ),
-                  ),
-                ),
-              ),
-            ),
-          ),
-        ),
-      ),
-    ),
-  ),
-)
+rows-seen a =
+    (λ op h. set-seen a op)
+    ▸ (λ op h m. absurd (no-intersection a op h m))
+    ▸ (λ op h. set-seen a op)
+    ▸ (λ op h. set-seen a op)
+    ▸ (λ op h m f operands w s. mdap-seen a f op operands w s)
+    ▸ (λ op h m f operands w s. iup-seen a f op operands w s)
+    ▸ (λ op h m f operands w s. shp-seen a f op operands w s)
+    ▸ (λ op h m f operands w s. shc-seen a f op operands w s)
+    ▸ (λ op h m f operands w s. shz-seen a f op operands w s)
+    ▸ (λ op h m f operands w s. shpix-seen a f op operands w s)
+    ▸ (λ op h m f operands w s. msirp-seen a f op operands w s)
+    ▸ (λ op h m f operands w s. alignrp-seen a f op operands w s)
+    ▸ (λ op h. set-seen a op)
+    ▸ (λ op h m f operands w s. miap-seen a f op operands w s)
+    ▸ (λ op h. set-seen a op)
+    ▸ (λ op h. set-seen a op)
+    ▸ (λ op h. set-seen a op)
+    ▸ (λ op h m f operands w s. flippt-seen a f op operands w s)
+    ▸ (λ op h m f operands w s. fliprg-seen a f op operands w s)
+    ▸ elsewhere (set-seen a)
 
 pub line-seen : (a : Axis) (f : Fixed) (op : ℕ) (operands : List ℤ) (w : World) → Straight a (w .state) → mixes a op ≡ false
     → linedSeen a (lineOf (fixedSeen a f) op operands (worldSeen a w)) ≡ linedSeen a (lineOf f op operands w)

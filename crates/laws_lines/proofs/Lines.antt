@@ -24,6 +24,7 @@ use Rattle.words.proofs.Widths.Every.{no-word, one-word}
 use Rattle.line.specs.World.{Alike, Fixed, World}
 use Rattle.laws_lines.proofs.Lengths.{Kept, in-state-kept, isect-kept, iup-kept, kept, stays-kept}
 use Rattle.laws_lines.proofs.Rows.{RowsHave, row-has, within}
+use Rattle.laws_lines.proofs.Rows.RowsHave.{_▸_, elsewhere}
 use Rattle.laws_lines.proofs.Usable.{isect-usable, iup-usable, set-usable, stays-usable}
 use Rattle.laws_lines.proofs.Stays.{Stays, alignrp-stays, flippt-stays, fliprg-stays, mdap-stays, miap-stays, msirp-stays, shc-stays, shp-stays, shpix-stays, shz-stays}
 
@@ -41,65 +42,27 @@ module _ (Word : ℤ → Type 0) (Refers : ℕ → Type 0) (refers : (z : ℤ) �
   module _ (start : (op : ℕ) (f : Fixed) (w : World) → Given op f w → P w w) (stays : (op : ℕ) (f : Fixed) (w : World) → Given op f w → Stays (w .state) Refers (P w))
       (set : (op : ℕ) → Has op setOf) (isect : (op : ℕ) → within 0x0F 0x0F op ≡ true → Has op isectOf) (iup : (op : ℕ) → within 0x30 0x31 op ≡ true → Has op iupLineOf) where
     all-rows : RowsHave Has rows
-    unfolding RowsHave
-    all-rows = (
-      λ op h. set op,
-      (
-        isect,
-        (
-          λ op h. set op,
-          (
-            λ op h. set op,
-            (
-              λ op h f operands w g o. mdap-stays f op operands w (stays op f w g) (start op f w g) (every-of refers o),
-              (
-                iup,
-                (
-                  λ op h f operands w g o. shp-stays f op operands w (stays op f w g) (start op f w g),
-                  (
-                    λ op h f operands w g o. shc-stays f op operands w (stays op f w g) (start op f w g),
-                    (
-                      λ op h f operands w g o. shz-stays f op operands w (stays op f w g) (start op f w g),
-                      (
-                        λ op h f operands w g o. shpix-stays f op operands w (stays op f w g) (start op f w g),
-                        (
-                          λ op h f operands w g o. msirp-stays f op operands w (stays op f w g) (start op f w g) (every-of refers o),
-                          (
-                            λ op h f operands w g o. alignrp-stays f op operands w (stays op f w g) (start op f w g),
-                            (
-                              λ op h. set op,
-                              (
-                                λ op h f operands w g o. miap-stays f op operands w (stays op f w g) (start op f w g) (every-of refers o),
-                                (
-                                  λ op h. set op,
-                                  (
-                                    λ op h. set op,
-                                    (
-                                      λ op h. set op,
-                                      (
-                                        λ op h f operands w g o. flippt-stays f op operands w (stays op f w g) (start op f w g),
-                                        (
-                                          λ op h f operands w g o. fliprg-stays f op operands w (stays op f w g) (start op f w g),
-                                          set,
-                                        ),
-                                      ),
-                                    ),
-                                  ),
-                                ),
-                              ),
-                            ),
-                          ),
-                        ),
-                      ),
-                    ),
-                  ),
-                ),
-              ),
-            ),
-          ),
-        ),
-      ),
-    )
+    all-rows =
+        (λ op h. set op)
+        ▸ isect
+        ▸ (λ op h. set op)
+        ▸ (λ op h. set op)
+        ▸ (λ op h f operands w g o. mdap-stays f op operands w (stays op f w g) (start op f w g) (every-of refers o))
+        ▸ iup
+        ▸ (λ op h f operands w g o. shp-stays f op operands w (stays op f w g) (start op f w g))
+        ▸ (λ op h f operands w g o. shc-stays f op operands w (stays op f w g) (start op f w g))
+        ▸ (λ op h f operands w g o. shz-stays f op operands w (stays op f w g) (start op f w g))
+        ▸ (λ op h f operands w g o. shpix-stays f op operands w (stays op f w g) (start op f w g))
+        ▸ (λ op h f operands w g o. msirp-stays f op operands w (stays op f w g) (start op f w g) (every-of refers o))
+        ▸ (λ op h f operands w g o. alignrp-stays f op operands w (stays op f w g) (start op f w g))
+        ▸ (λ op h. set op)
+        ▸ (λ op h f operands w g o. miap-stays f op operands w (stays op f w g) (start op f w g) (every-of refers o))
+        ▸ (λ op h. set op)
+        ▸ (λ op h. set op)
+        ▸ (λ op h. set op)
+        ▸ (λ op h f operands w g o. flippt-stays f op operands w (stays op f w g) (start op f w g))
+        ▸ (λ op h f operands w g o. fliprg-stays f op operands w (stays op f w g) (start op f w g))
+        ▸ elsewhere set
 
     pub line-leaves : (op : ℕ) → Has op lineOf
     unfolding lineOf rowOf

@@ -11,16 +11,16 @@ use Rattle.opcodes.specs.Table.{Line, Row, has, rowIn}
 abbrev pub within : ℕ → ℕ → ℕ → Bool
 within first last op = leb first op && leb op last
 
--- for the opcodes that it has, and where no row has the opcode
-unfoldable pub RowsHave : (ℕ → Line → Type 0) → List Row → Type 0
-RowsHave P [] = (op : ℕ) → P op setOf
-RowsHave P (r ∷ more) = ((op : ℕ) → has r op ≡ true → P op (r .line)) × RowsHave P more
+-- each row's line for the opcodes that it has, in the table's order, and the setters' where no row has the opcode
+pub data RowsHave (P : ℕ → Line → Type 0) : List Row → Type 0 where
+  elsewhere : ((op : ℕ) → P op setOf) → RowsHave P []
+  _▸_ : {r : Row} {more : List Row} → ((op : ℕ) → has r op ≡ true → P op (r .line)) → RowsHave P more → RowsHave P (r ∷ more)
 
+infixr 5 _▸_
 by-test : (P : ℕ → Line → Type 0) (op : ℕ) (r s : Row) (t : Bool) → has r op ≡ t → (has r op ≡ true → P op (r .line)) → P op (s .line) → P op (cond t r s .line)
 by-test P op r s true e h k = h e
 by-test P op r s false e h k = k
 
 pub row-has : (P : ℕ → Line → Type 0) (table : List Row) → RowsHave P table → (op : ℕ) → P op (rowIn table op .line)
-unfolding RowsHave
-row-has P [] h op = h op
-row-has P (r ∷ more) h op = by-test P op r (rowIn more op) (has r op) refl (h .0 op) (row-has P more (h .1) op)
+row-has P [] (elsewhere h) op = h op
+row-has P (r ∷ more) (h ▸ k) op = by-test P op r (rowIn more op) (has r op) refl (h op) (row-has P more k op)

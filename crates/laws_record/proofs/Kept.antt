@@ -12,7 +12,7 @@ use Rattle.words.proofs.Back.{Bytes, bytes-back, part-fits, part-join, word-fit
 use Rattle.words.proofs.Parts.{mapped-length}
 use Rattle.record_read.specs.Format.{Held, bodyWords, glyphWords, layoutFor, recordOf, trailerWords, twilightWords, wordsOf}
 use Rattle.record_read.specs.Read.{Kept, heldIn, layoutOf, openOf, readAs, readOf, trailerWord, wordCount}
-use Rattle.record_layout.specs.Order.{atControls, atCurrentX, atCurrentY, atEnds, atFlags, atOriginalX, atOriginalY, atSheet, atTrailer, atTwilightFlags, atTwilightOriginalX, atTwilightOriginalY, atTwilightX, atTwilightY, atUnscaledX, atUnscaledY}
+use Rattle.record_layout.specs.Order.{atTrailer, placeOf}
 use Rattle.record_layout.specs.declared.Layout.{Layout}
 use Rattle.record_read.specs.declared.Opened.{Opened}
 use Rattle.record_read.specs.declared.Opened.the-variants.{Whole, Damaged}
@@ -58,25 +58,25 @@ module _ (bytes : List ℕ) (f : Bytes bytes) where
     abbrev rest-size : ℕ
     rest-size = l .controls + l .words
 
-    glyph-is : glyphWords h ≡ at (atUnscaledX l) glyph-size
+    glyph-is : glyphWords h ≡ at (placeOf l 0) glyph-size
     glyph-is =
-        cat (atUnscaledX l) n _ (numbers (atUnscaledX l) n)
-        (cat (atUnscaledY l) n _ (numbers (atUnscaledY l) n)
-        (cat (atOriginalX l) n _ (numbers (atOriginalX l) n)
-        (cat (atOriginalY l) n _ (numbers (atOriginalY l) n)
-        (cat (atCurrentX l) n _ (numbers (atCurrentX l) n)
-        (cat (atCurrentY l) n _ (numbers (atCurrentY l) n)
-        (cat (atFlags l) n c (flags-back (at (atFlags l) n) (s .flags-are)) (ends-back (at (atEnds l) c) (s .ends-are))))))))
+        cat (placeOf l 0) n _ (numbers (placeOf l 0) n)
+        (cat (placeOf l 1) n _ (numbers (placeOf l 1) n)
+        (cat (placeOf l 2) n _ (numbers (placeOf l 2) n)
+        (cat (placeOf l 3) n _ (numbers (placeOf l 3) n)
+        (cat (placeOf l 4) n _ (numbers (placeOf l 4) n)
+        (cat (placeOf l 5) n _ (numbers (placeOf l 5) n)
+        (cat (placeOf l 6) n c (flags-back (at (placeOf l 6) n) (s .flags-are)) (ends-back (at (placeOf l 7) c) (s .ends-are))))))))
 
-    twilight-is : twilightWords h ≡ at (atTwilightOriginalX l) twilight-size
+    twilight-is : twilightWords h ≡ at (placeOf l 8) twilight-size
     twilight-is =
-        cat (atTwilightOriginalX l) m _ (numbers (atTwilightOriginalX l) m)
-        (cat (atTwilightOriginalY l) m _ (numbers (atTwilightOriginalY l) m)
-        (cat (atTwilightX l) m _ (numbers (atTwilightX l) m)
-        (cat (atTwilightY l) m m (numbers (atTwilightY l) m) (flags-back (at (atTwilightFlags l) m) (s .twilight-are)))))
+        cat (placeOf l 8) m _ (numbers (placeOf l 8) m)
+        (cat (placeOf l 9) m _ (numbers (placeOf l 9) m)
+        (cat (placeOf l 10) m _ (numbers (placeOf l 10) m)
+        (cat (placeOf l 11) m m (numbers (placeOf l 11) m) (flags-back (at (placeOf l 12) m) (s .twilight-are)))))
 
-    rest-is : wordsOfNumbers (h .fixed .controls) ++ wordsOfNumbers (h .sheet) ≡ at (atControls l) (l .controls + l .words)
-    rest-is = cat (atControls l) (l .controls) (l .words) (numbers (atControls l) (l .controls)) (numbers (atSheet l) (l .words))
+    rest-is : wordsOfNumbers (h .fixed .controls) ++ wordsOfNumbers (h .sheet) ≡ at (placeOf l 13) (l .controls + l .words)
+    rest-is = cat (placeOf l 13) (l .controls) (l .words) (numbers (placeOf l 13) (l .controls)) (numbers (placeOf l 14) (l .words))
 
     fit-state : (k : ℕ) → getD (at 0 stateSize) k 0 < 2 ^ 32
     fit-state k = words-at (at 0 stateSize) k (part-fits bytes 0 stateSize f)
@@ -86,9 +86,9 @@ module _ (bytes : List ℕ) (f : Bytes bytes) where
 
     body-is : bodyWords h ≡ at 0 (atTrailer l)
     body-is =
-        let a : atUnscaledX l ≡ 0 + stateSize = omega arith in
-        let b : atTwilightOriginalX l ≡ 0 + stateSize + glyph-size = omega arith in
-        let d : atControls l ≡ 0 + stateSize + glyph-size + twilight-size = omega arith in
+        let a : placeOf l 0 ≡ 0 + stateSize = omega arith in
+        let b : placeOf l 8 ≡ 0 + stateSize + glyph-size = omega arith in
+        let d : placeOf l 13 ≡ 0 + stateSize + glyph-size + twilight-size = omega arith in
         let all : stateSize + (glyph-size + (twilight-size + rest-size)) ≡ atTrailer l = omega arith in
         cat 0 stateSize (glyph-size + (twilight-size + rest-size)) state-back
         (cat (0 + stateSize) glyph-size (twilight-size + rest-size) (glyph-is ∙ ap (λ (k : ℕ). at k glyph-size) a)
@@ -103,19 +103,19 @@ module _ (bytes : List ℕ) (f : Bytes bytes) where
     t = atTrailer l
 
     points-are : length (h .world .gx) ≡ n
-    points-are = mapped-length ofBits bytes (atCurrentX l) n
+    points-are = mapped-length ofBits bytes (placeOf l 4) n
 
     contours-are : length (h .fixed .contours) ≡ c
-    contours-are = mapped-length endOf bytes (atEnds l) c
+    contours-are = mapped-length endOf bytes (placeOf l 7) c
 
     twilight-are : length (h .world .tx) ≡ m
-    twilight-are = mapped-length ofBits bytes (atTwilightX l) m
+    twilight-are = mapped-length ofBits bytes (placeOf l 10) m
 
     controls-are : length (h .fixed .controls) ≡ l .controls
-    controls-are = mapped-length ofBits bytes (atControls l) (l .controls)
+    controls-are = mapped-length ofBits bytes (placeOf l 13) (l .controls)
 
     words-are : length (h .sheet) ≡ l .words
-    words-are = mapped-length ofBits bytes (atSheet l) (l .words)
+    words-are = mapped-length ofBits bytes (placeOf l 14) (l .words)
 
     same-trailer : atTrailer (layoutFor h) ≡ t
     same-trailer = omega (arith, points-are, contours-are, twilight-are, controls-are, words-are)

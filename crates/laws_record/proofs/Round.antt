@@ -24,9 +24,9 @@ use Rattle.words.proofs.Back.{Bytes, Words}
 use Rattle.words.proofs.Back.Bytes.{more as more-bytes, none as none-bytes}
 use Rattle.words.proofs.Back.Words.{more, none}
 use Rattle.words.proofs.Storing.{bytes-length}
-use Rattle.record_read.specs.Format.{Held, bodyWords, glyphWords, layoutFor, recordOf, trailerWords, twilightWords, wordsOf}
+use Rattle.record_read.specs.Format.{Held, bodyWords, glyphWords, layout, layoutFor, recordOf, trailerWords, twilightWords, wordsOf}
 use Rattle.record_read.specs.Read.{Kept, countsFit, framed, layoutOf, openOf, readAs, readOf, sumFits, trailerFits, trailerWord, wordCount, wordsFit}
-use Rattle.record_layout.specs.Order.{atEnds, atFlags, atTrailer, atTwilightFlags, edition, mostBytes, recordSize, trailerSize}
+use Rattle.record_layout.specs.Order.{atTrailer, edition, mostBytes, placeOf, recordSize, trailerSize}
 use Rattle.record_layout.specs.declared.Layout.{Layout}
 use Rattle.record_read.specs.declared.Opened.the-variants.{Whole}
 use Rattle.limits.specs.Limits.{mostContours, mostControlValues, mostPoints, mostWords}
@@ -62,8 +62,9 @@ unfolding isState stateWords
 state-is s =
     let p = s .pointers in
     let f = s .facts in
-    both (both (both refl (mode-fits (s .round .mode))) (both (both (zone-fits (p .zp0)) (zone-fits (p .zp1))) (zone-fits (p .zp2))))
-    (both (both (both (both (fact-fits (f .«backward_compatibility»)) (fact-fits (f .pedantic))) (fact-fits (f .«native_clear_type_x»))) (fact-fits (f .«did_iup_x»))) (fact-fits (f .«did_iup_y»)))
+    both (mode-fits (s .round .mode))
+    (both (zone-fits (p .zp0)) (both (zone-fits (p .zp1)) (both (zone-fits (p .zp2))
+    (both (fact-fits (f .«backward_compatibility»)) (both (fact-fits (f .pedantic)) (both (fact-fits (f .«native_clear_type_x»)) (both (fact-fits (f .«did_iup_x»)) (both (fact-fits (f .«did_iup_y»)) refl))))))))
 
 flags-within : {ws : List ℕ} → Below 256 ws → allAtMost 255 ws ≡ true
 flags-within no-word = refl
@@ -73,10 +74,7 @@ ends-within : {ws : List ℕ} → Below 65536 ws → allAtMost 65535 ws ≡ true
 ends-within no-word = refl
 ends-within (one-word {w} h f) = both (le-leb w 65535 (omega arith)) (ends-within f)
 
-abbrev layout5 : ℕ → ℕ → ℕ → ℕ → ℕ → Layout
-layout5 p c t k w = record { points = p; contours = c; twilight = t; controls = k; words = w }
-
-same-layout : {p p′ c c′ t t′ k k′ w w′ : ℕ} → p ≡ p′ → c ≡ c′ → t ≡ t′ → k ≡ k′ → w ≡ w′ → layout5 p c t k w ≡ layout5 p′ c′ t′ k′ w′
+same-layout : {p p′ c c′ t t′ k k′ w w′ : ℕ} → p ≡ p′ → c ≡ c′ → t ≡ t′ → k ≡ k′ → w ≡ w′ → layout p c t k w ≡ layout p′ c′ t′ k′ w′
 same-layout e0 e1 e2 e3 e4 = cc
 
 -- the counts of what is held are within document 01's sizes
@@ -255,9 +253,9 @@ module _ (h : Held) (k : Keepable h) where
       ap (wordsFit bs) layout-same
       ∙ both (both (both
       (ap isState (lies-at bs (stateWords (h .world .state)) 0 stateSize refl (sym (state-long h k fit)) (state-lies h k fit)) ∙ state-is (h .world .state))
-      (ap (allAtMost 255) (lies-at bs (h .world .gflags) (atFlags lay) (lay .points) (flags-at h k fit) (sym (flags-long h k fit)) (flags-lies h k fit)) ∙ flags-within (k .widths .world .gflags)))
-      (ap (allAtMost 65535) (lies-at bs (h .fixed .contours) (atEnds lay) (lay .contours) (ends-at h k fit) refl (ends-lies h k fit)) ∙ ends-within (k .widths .fixed .contours)))
-      (ap (allAtMost 255) (lies-at bs (h .world .tflags) (atTwilightFlags lay) (lay .twilight) (twilightFlags-at h k fit) (sym (twilightFlags-long h k fit)) (twilightFlags-lies h k fit)) ∙ flags-within (k .widths .world .tflags))
+      (ap (allAtMost 255) (lies-at bs (h .world .gflags) (placeOf lay 6) (lay .points) (flags-at h k fit) (sym (flags-long h k fit)) (flags-lies h k fit)) ∙ flags-within (k .widths .world .gflags)))
+      (ap (allAtMost 65535) (lies-at bs (h .fixed .contours) (placeOf lay 7) (lay .contours) (ends-at h k fit) refl (ends-lies h k fit)) ∙ ends-within (k .widths .fixed .contours)))
+      (ap (allAtMost 255) (lies-at bs (h .world .tflags) (placeOf lay 12) (lay .twilight) (twilightFlags-at h k fit) (sym (twilightFlags-long h k fit)) (twilightFlags-lies h k fit)) ∙ flags-within (k .widths .world .tflags))
 
   sum-holds : sumFits bs ≡ true
   sum-holds =

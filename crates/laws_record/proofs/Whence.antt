@@ -15,7 +15,7 @@ use Rattle.zone.specs.Sizes.{glyphFits, pairFits, placedFits, twilightFits}
 use Rattle.line.specs.Sizes.{fits, worldFits}
 use Rattle.words.proofs.Parts.{mapped-length}
 use Rattle.words.specs.Lists.{endOf, endsOf, flagOf, flagsOf, numbersOf, part}
-use Rattle.record_layout.specs.Order.{atControls, atCurrentX, atCurrentY, atEnds, atFlags, atOriginalX, atOriginalY, atSheet, atTwilightFlags, atTwilightOriginalX, atTwilightOriginalY, atTwilightX, atTwilightY, atUnscaledX, atUnscaledY, mostBytes, recordSize}
+use Rattle.record_layout.specs.Order.{mostBytes, placeOf, recordSize}
 use Rattle.record_layout.specs.declared.Layout.{Layout}
 use Rattle.record_read.proofs.Whole.{layout-is, layout-kept, sound}
 use Rattle.record_read.specs.Format.{Held, layoutFor}
@@ -77,10 +77,10 @@ module _ (bytes : List ℕ) where
       (and-right (leb (l .points) mostPoints && leb (l .contours) mostContours && leb (l .twilight) mostPoints && leb (l .controls) mostControlValues) (leb (l .words) mostWords) e) in
       both
       (both
-      (both (eight (atUnscaledX l) (atUnscaledY l) (atOriginalX l) (atOriginalY l) (atCurrentX l) (atCurrentY l) (atFlags l) (atEnds l) (l .points) (l .contours) n k)
-      (five (atTwilightOriginalX l) (atTwilightOriginalY l) (atTwilightX l) (atTwilightY l) (atTwilightFlags l) (l .twilight) m))
-      (least (atControls l) (l .controls) mostControlValues v))
-      (least (atSheet l) (l .words) mostWords w)
+      (both (eight (placeOf l 0) (placeOf l 1) (placeOf l 2) (placeOf l 3) (placeOf l 4) (placeOf l 5) (placeOf l 6) (placeOf l 7) (l .points) (l .contours) n k)
+      (five (placeOf l 8) (placeOf l 9) (placeOf l 10) (placeOf l 11) (placeOf l 12) (l .twilight) m))
+      (least (placeOf l 13) (l .controls) mostControlValues v))
+      (least (placeOf l 14) (l .words) mostWords w)
 
 -- what a byte string holds, where it is read
 pub record Whence (bytes : List ℕ) (h : Held) : Type 0 where
@@ -92,7 +92,7 @@ whence-whole : (bytes : List ℕ) (l : Layout) → openOf bytes ≡ Whole l → 
 whence-whole bytes l e =
     let m = layoutOf bytes in
     let s = sound bytes l e in
-    let same-size : recordSize (layoutFor (heldIn bytes m)) ≡ length bytes = ap recordSize (layout-kept bytes m) ∙ omega (arith, s .adds-up, s .length-is) in
+    let same-size : recordSize (layoutFor (heldIn bytes m)) ≡ length bytes = ap recordSize (layout-kept bytes m refl) ∙ omega (arith, s .adds-up, s .length-is) in
     subst (λ (n : Layout). Whence bytes (heldIn bytes n)) (layout-is bytes l e) (record { fit = read-fits bytes m (s .counts-fit); size = same-size; short = s .size-is })
 
 pub refused-or-kept : {n : ℕ} {h : Held} → Refused n ≡ Kept h → ⊥

@@ -11,7 +11,7 @@ use Rattle.line.specs.Sizes.{worldFits}
 use Rattle.run_lines.proofs.Loop.{Sizes}
 use Rattle.laws_run.proofs.Keeps.{run-keeps, still-fits}
 use Rattle.record_layout.specs.Order.{mostBytes, recordSize}
-use Rattle.record_read.specs.Format.{Held, layoutFor, recordOf}
+use Rattle.record_read.specs.Format.{Held, layout, layoutFor, recordOf}
 use Rattle.record_read.specs.Read.{readOf}
 use Rattle.record_read.specs.Read.Read.{Kept}
 use Rattle.laws_record.proofs.Whence.{both, whence}
@@ -22,7 +22,7 @@ use Rattle.record_replay.specs.Shelf.{onRead, shelfOf}
 -- ---- what is within the sizes is still so after the run
 pub after-layout : (h : Held) → layoutFor (after h) ≡ layoutFor h
 after-layout h =
-    ap (λ (z : Sizes). record { points = z .gx; contours = length (h .fixed .contours); twilight = z .tx; controls = length (h .fixed .controls); words = length (h .sheet) })
+    ap (λ (z : Sizes). layout (z .gx) (length (h .fixed .contours)) (z .tx) (length (h .fixed .controls)) (length (h .sheet)))
     (run-keeps (h .fixed) (h .sheet) (length (h .sheet)) 0 (h .world) .lengths)
 
 pub after-fits : (h : Held) → worldFits (after h .fixed) (after h .sheet) (after h .world) ≡ worldFits (h .fixed) (h .sheet) (h .world)

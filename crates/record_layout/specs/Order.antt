@@ -1,6 +1,8 @@
 -- A record, edition 1: its edition, its limits, and where each list lies, counted in words from its first: document 02, K4. Assumes nothing.
-use Prim.Native.Nat.{ℕ, _+_, _*_}
-use Rattle.state_words.specs.Words.{stateSize}
+use Prim.Native.Nat.{ℕ, zero, suc, _+_, _*_}
+use mathlib.Core.List.{List, [], _∷_}
+use lib.ListN.{getD}
+use Rattle.words.specs.Lists.{part}
 use Rattle.record_layout.specs.declared.Layout.{Layout}
 
 -- ---- the numbers of this edition
@@ -15,71 +17,29 @@ mostBytes = 24576
 abbrev pub trailerSize : ℕ
 trailerSize = 8
 
--- words between the state and the trailer of the longest record: no list has more
-abbrev pub listRoom : ℕ
-listRoom = 6110
+-- ---- the lists, by their number
+-- how many words each has: "glyph unscaled, original and current x and y, flags, contours; twilight original and current x and y, flags; control values;
+-- sheet"
+abbrev pub counts : Layout → List ℕ
+counts l =
+    l .points ∷ l .points ∷ l .points ∷ l .points ∷ l .points ∷ l .points ∷ l .points ∷ l .contours
+    ∷ l .twilight ∷ l .twilight ∷ l .twilight ∷ l .twilight ∷ l .twilight ∷ l .controls ∷ l .words ∷ []
 
-abbrev pub mostFlag : ℕ
-mostFlag = 255
+abbrev pub countOf : Layout → ℕ → ℕ
+countOf l k = getD (counts l) k 0
 
-abbrev pub mostEnd : ℕ
-mostEnd = 65535
+-- the first word of list k: "First the state", then the lists before it
+abbrev pub placeOf : Layout → ℕ → ℕ
+placeOf l zero = l .state
+placeOf l (suc k) = placeOf l k + countOf l k
 
--- ---- the first word of each list, by the counts
--- "First the state, 26 words. Then glyph unscaled, original and current x and y, flags, contours"
-abbrev pub atUnscaledX : Layout → ℕ
-atUnscaledX l = stateSize
+-- the words of list k in the bytes of a record
+abbrev pub listIn : List ℕ → Layout → ℕ → List ℕ
+listIn bytes l k = part bytes (placeOf l k) (countOf l k)
 
-abbrev pub atUnscaledY : Layout → ℕ
-atUnscaledY l = atUnscaledX l + l .points
-
-abbrev pub atOriginalX : Layout → ℕ
-atOriginalX l = atUnscaledY l + l .points
-
-abbrev pub atOriginalY : Layout → ℕ
-atOriginalY l = atOriginalX l + l .points
-
-abbrev pub atCurrentX : Layout → ℕ
-atCurrentX l = atOriginalY l + l .points
-
-abbrev pub atCurrentY : Layout → ℕ
-atCurrentY l = atCurrentX l + l .points
-
-abbrev pub atFlags : Layout → ℕ
-atFlags l = atCurrentY l + l .points
-
-abbrev pub atEnds : Layout → ℕ
-atEnds l = atFlags l + l .points
-
--- "twilight original and current x and y, flags"
-abbrev pub atTwilightOriginalX : Layout → ℕ
-atTwilightOriginalX l = atEnds l + l .contours
-
-abbrev pub atTwilightOriginalY : Layout → ℕ
-atTwilightOriginalY l = atTwilightOriginalX l + l .twilight
-
-abbrev pub atTwilightX : Layout → ℕ
-atTwilightX l = atTwilightOriginalY l + l .twilight
-
-abbrev pub atTwilightY : Layout → ℕ
-atTwilightY l = atTwilightX l + l .twilight
-
-abbrev pub atTwilightFlags : Layout → ℕ
-atTwilightFlags l = atTwilightY l + l .twilight
-
--- "control values; sheet. Last a trailer of eight words"
-abbrev pub atControls : Layout → ℕ
-atControls l = atTwilightFlags l + l .twilight
-
-abbrev pub atSheet : Layout → ℕ
-atSheet l = atControls l + l .controls
-
+-- "Last a trailer of eight words", behind the fifteen lists
 abbrev pub atTrailer : Layout → ℕ
-atTrailer l = atSheet l + l .words
-
--- the trailer's last word
-abbrev pub sumPlace : Layout → ℕ
-sumPlace l = atTrailer l + 7
+atTrailer l = placeOf l 15
 
 -- the bytes of a record
 abbrev pub recordSize : Layout → ℕ

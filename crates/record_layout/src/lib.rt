@@ -1,9 +1,10 @@
 // Where the lists of a record lie, edition 1: document 02, K4.
 //
-// A record is little-endian words: the state, the lists, and a trailer of eight words. The places follow from the counts; edition, limits and order
+// A record is little-endian words: the state, fifteen lists, and a trailer of eight words. The places follow from the counts; edition, limits and order
 // stand here once, as constants and as definitions of specs/Order.antt, and nothing that reads or writes a record names a place itself.
 ghost use mathlib.Core.Path.{_≡_};
-ghost use Rattle.record_layout.specs.Order.{atUnscaledX, atUnscaledY, atOriginalX, atOriginalY, atCurrentX, atCurrentY, atFlags, atEnds, atTwilightOriginalX, atTwilightOriginalY, atTwilightX, atTwilightY, atTwilightFlags, atControls, atSheet, atTrailer, sumPlace, recordSize};
+ghost use Rattle.record_layout.specs.Order.{countOf, placeOf, atTrailer, recordSize};
+ghost use Rattle.record_layout.specs.Steps.{capped};
 
 pub const EDITION: u32 = 1;
 
@@ -12,14 +13,47 @@ pub const MOST_BYTES: usize = 24576;
 
 pub const TRAILER_WORDS: usize = 8;
 
-pub const STATE_WORDS: usize = 26;
-
 pub const MOST_FLAG: u32 = 255;
 
 pub const MOST_END: u32 = 65535;
 
-// How many there are of each: points of the glyph and of the twilight zone, contours, control values, words of the sheet.
+// ---- the lists by their number, in the record's order
+pub const UNSCALED_X: usize = 0;
+
+pub const UNSCALED_Y: usize = 1;
+
+pub const ORIGINAL_X: usize = 2;
+
+pub const ORIGINAL_Y: usize = 3;
+
+pub const CURRENT_X: usize = 4;
+
+pub const CURRENT_Y: usize = 5;
+
+pub const FLAGS: usize = 6;
+
+pub const ENDS: usize = 7;
+
+pub const TWILIGHT_ORIGINAL_X: usize = 8;
+
+pub const TWILIGHT_ORIGINAL_Y: usize = 9;
+
+pub const TWILIGHT_X: usize = 10;
+
+pub const TWILIGHT_Y: usize = 11;
+
+pub const TWILIGHT_FLAGS: usize = 12;
+
+pub const CONTROLS: usize = 13;
+
+pub const SHEET: usize = 14;
+
+// How many lists there are.
+pub const LISTS: usize = 15;
+
+// How many there are of each: words of the state, points of the glyph and of the twilight zone, contours, control values, words of the sheet.
 pub struct Layout {
+    pub state: u32,
     pub points: u32,
     pub contours: u32,
     pub twilight: u32,
@@ -33,107 +67,51 @@ pub fn wide(x: u32) -> usize
     x as usize
 }
 
-// ---- the first word of each list
-pub fn at_unscaled_x(l: Layout) -> usize
-    ensures { λ r. ⌜ r ≡ atUnscaledX l ⌝ }
+// How many words list k has.
+pub fn count(l: Layout, k: usize) -> u32
+    ensures { λ r. ⌜ r ≡ countOf l k ⌝ }
 {
-    STATE_WORDS
+    if k < ENDS {
+        l.points
+    } else if k < TWILIGHT_ORIGINAL_X {
+        l.contours
+    } else if k < CONTROLS {
+        l.twilight
+    } else if k < SHEET {
+        l.controls
+    } else if k < LISTS {
+        l.words
+    } else {
+        0
+    }
 }
 
-pub fn at_unscaled_y(l: Layout) -> usize
-    ensures { λ r. ⌜ r ≡ atUnscaledY l ⌝ }
+// As many lists as there are at most.
+fn lists_before(k: usize) -> usize
+    ensures { λ r. ⌜ r ≡ capped k ⌝ }
 {
-    at_unscaled_x(l) + wide(l.points)
+    if k < LISTS { k } else { LISTS }
 }
 
-pub fn at_original_x(l: Layout) -> usize
-    ensures { λ r. ⌜ r ≡ atOriginalX l ⌝ }
+// The first word of list k: it stands behind the state and the lists before it.
+pub fn place(l: Layout, k: usize) -> usize
+    ensures { λ r. ⌜ r ≡ placeOf l k ⌝ }
 {
-    at_unscaled_y(l) + wide(l.points)
+    let end = lists_before(k);
+    let mut at = wide(l.state);
+    let mut i = 0;
+    while i < end {
+        at += wide(count(l, i));
+        i += 1;
+    }
+    at
 }
 
-pub fn at_original_y(l: Layout) -> usize
-    ensures { λ r. ⌜ r ≡ atOriginalY l ⌝ }
-{
-    at_original_x(l) + wide(l.points)
-}
-
-pub fn at_current_x(l: Layout) -> usize
-    ensures { λ r. ⌜ r ≡ atCurrentX l ⌝ }
-{
-    at_original_y(l) + wide(l.points)
-}
-
-pub fn at_current_y(l: Layout) -> usize
-    ensures { λ r. ⌜ r ≡ atCurrentY l ⌝ }
-{
-    at_current_x(l) + wide(l.points)
-}
-
-pub fn at_flags(l: Layout) -> usize
-    ensures { λ r. ⌜ r ≡ atFlags l ⌝ }
-{
-    at_current_y(l) + wide(l.points)
-}
-
-pub fn at_ends(l: Layout) -> usize
-    ensures { λ r. ⌜ r ≡ atEnds l ⌝ }
-{
-    at_flags(l) + wide(l.points)
-}
-
-pub fn at_twilight_original_x(l: Layout) -> usize
-    ensures { λ r. ⌜ r ≡ atTwilightOriginalX l ⌝ }
-{
-    at_ends(l) + wide(l.contours)
-}
-
-pub fn at_twilight_original_y(l: Layout) -> usize
-    ensures { λ r. ⌜ r ≡ atTwilightOriginalY l ⌝ }
-{
-    at_twilight_original_x(l) + wide(l.twilight)
-}
-
-pub fn at_twilight_x(l: Layout) -> usize
-    ensures { λ r. ⌜ r ≡ atTwilightX l ⌝ }
-{
-    at_twilight_original_y(l) + wide(l.twilight)
-}
-
-pub fn at_twilight_y(l: Layout) -> usize
-    ensures { λ r. ⌜ r ≡ atTwilightY l ⌝ }
-{
-    at_twilight_x(l) + wide(l.twilight)
-}
-
-pub fn at_twilight_flags(l: Layout) -> usize
-    ensures { λ r. ⌜ r ≡ atTwilightFlags l ⌝ }
-{
-    at_twilight_y(l) + wide(l.twilight)
-}
-
-pub fn at_controls(l: Layout) -> usize
-    ensures { λ r. ⌜ r ≡ atControls l ⌝ }
-{
-    at_twilight_flags(l) + wide(l.twilight)
-}
-
-pub fn at_sheet(l: Layout) -> usize
-    ensures { λ r. ⌜ r ≡ atSheet l ⌝ }
-{
-    at_controls(l) + wide(l.controls)
-}
-
+// The trailer stands behind the last list.
 pub fn at_trailer(l: Layout) -> usize
     ensures { λ r. ⌜ r ≡ atTrailer l ⌝ }
 {
-    at_sheet(l) + wide(l.words)
-}
-
-pub fn sum_place(l: Layout) -> usize
-    ensures { λ r. ⌜ r ≡ sumPlace l ⌝ }
-{
-    at_trailer(l) + 7
+    place(l, LISTS)
 }
 
 // The bytes of a record.

@@ -9,7 +9,7 @@ use lib.Seq.{length-sets, sets}
 use Rattle.int.specs.Word.{ofBits}
 use Rattle.words.proofs.Parts.{left, left-all, left-next, left-none}
 use Rattle.words.specs.Lists.{flagOf, flagsOf, numbersOf, word}
-use Rattle.record_layout.specs.Order.{atCurrentX, atCurrentY, atFlags}
+use Rattle.record_layout.specs.Order.{placeOf}
 use Rattle.record_layout.specs.declared.Layout.{Layout}
 use Rattle.record_run.specs.declared.Replayed.{Replayed}
 use Rattle.record_print.specs.Print.{answerLine, glyphLines, pointLine, pointLines}
@@ -39,11 +39,11 @@ four-long a b c d =
 
 -- ---- points, from the i-th on
 abbrev pub nextLine : List ℕ → Layout → ℕ → List ℕ
-nextLine out l i = pointLine (ofBits (word out (atCurrentX l + i))) (ofBits (word out (atCurrentY l + i))) (flagOf (word out (atFlags l + i)))
+nextLine out l i = pointLine (ofBits (word out (placeOf l 4 + i))) (ofBits (word out (placeOf l 5 + i))) (flagOf (word out (placeOf l 6 + i)))
 
 unfoldable pub linesLeft : List ℕ → Layout → ℕ → List ℕ
 linesLeft out l i =
-    pointLines (numbersOf (left out (atCurrentX l) (l .points) i)) (numbersOf (left out (atCurrentY l) (l .points) i)) (flagsOf (left out (atFlags l) (l .points) i))
+    pointLines (numbersOf (left out (placeOf l 4) (l .points) i)) (numbersOf (left out (placeOf l 5) (l .points) i)) (flagsOf (left out (placeOf l 6) (l .points) i))
 
 module _ (out : List ℕ) (l : Layout) where
   abbrev lines : List ℕ → List ℕ → List ℕ → List ℕ
@@ -54,15 +54,15 @@ module _ (out : List ℕ) (l : Layout) where
 
   pub all-left : glyphLines out l ≡ linesLeft out l 0
   unfolding linesLeft
-  all-left = same-lines (left-all out (atCurrentX l) (l .points)) (left-all out (atCurrentY l) (l .points)) (left-all out (atFlags l) (l .points))
+  all-left = same-lines (left-all out (placeOf l 4) (l .points)) (left-all out (placeOf l 5) (l .points)) (left-all out (placeOf l 6) (l .points))
 
   pub next-left : (i : ℕ) → i < l .points → linesLeft out l i ≡ nextLine out l i ++ linesLeft out l (i + 1)
   unfolding linesLeft
-  next-left i h = same-lines (left-next out (atCurrentX l) (l .points) i h) (left-next out (atCurrentY l) (l .points) i h) (left-next out (atFlags l) (l .points) i h)
+  next-left i h = same-lines (left-next out (placeOf l 4) (l .points) i h) (left-next out (placeOf l 5) (l .points) i h) (left-next out (placeOf l 6) (l .points) i h)
 
   pub none-left : (i : ℕ) → l .points ≤ i → linesLeft out l i ≡ []
   unfolding linesLeft
-  none-left i h = same-lines (left-none out (atCurrentX l) (l .points) i h) (left-none out (atCurrentY l) (l .points) i h) (left-none out (atFlags l) (l .points) i h)
+  none-left i h = same-lines (left-none out (placeOf l 4) (l .points) i h) (left-none out (placeOf l 5) (l .points) i h) (left-none out (placeOf l 6) (l .points) i h)
 
 -- ---- pieces put so far, and what is left of the text
 pub record Printing (all rest : List ℕ) (start at : ℕ) (l₀ l : List ℕ) : Type 0 where

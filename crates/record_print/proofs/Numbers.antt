@@ -3,13 +3,14 @@ use Prim.Native.Nat.{ℕ}
 use mathlib.Core.List.{List, [], _∷_}
 use mathlib.Core.Path.{_≡_, refl}
 use lib.IntN.{negsuc, pos}
+use Rattle.record_read.specs.Format.{layout}
 use Rattle.record_run.specs.declared.Replayed.{Replayed}
 use Rattle.record_print.specs.Print.{answerLine, pointLine}
 use Rattle.record_print.specs.Text.{decimal, signedDecimal}
 
 -- what document 01's whole run says
 abbrev wholeRun : Replayed
-wholeRun = record { number = 0; place = 7; lines = 3; detail = 0; size = 252; layout = record { points = 3; contours = 1; twilight = 0; controls = 0; words = 7 } }
+wholeRun = record { number = 0; place = 7; lines = 3; detail = 0; size = 252; layout = layout 3 1 0 0 7 }
 
 -- the text on the left is the bytes on the right
 pub record Row : Type 0 where

@@ -12,9 +12,9 @@ use lib.Seq.{length-sets, length-take-le, sets-eq}
 use mir.Val.{sel}
 use Rattle.int.specs.Word.{ofBits}
 use Rattle.words.specs.Lists.{flagOf, flagsOf, numbersOf, part, word}
-use Rattle.record_layout.specs.Order.{atCurrentX, atCurrentY, atFlags}
+use Rattle.record_layout.specs.Order.{placeOf}
 use Rattle.record_layout.specs.declared.Layout.{Layout}
-use Rattle.record_read.proofs.Whole.{layout-is, layout-kept, sound}
+use Rattle.record_read.proofs.Whole.{edition-state, layout-is, layout-kept, sound}
 use Rattle.record_read.specs.Read.{layoutOf, openOf, readAs}
 use Rattle.record_read.specs.declared.Opened.{Opened}
 use Rattle.record_read.specs.declared.Opened.the-variants.{Damaged, Whole}
@@ -75,7 +75,7 @@ lines-most out a b c (suc n) =
     omega (arith, length-append first rest, point-most (word out a) (word out b) (word out c), lines-most out (suc a) (suc b) (suc c) n)
 
 pub glyph-most : (out : List ℕ) (l : Layout) → length (glyphLines out l) ≤ 28 * l .points
-glyph-most out l = lines-most out (atCurrentX l) (atCurrentY l) (atFlags l) (l .points)
+glyph-most out l = lines-most out (placeOf l 4) (placeOf l 5) (placeOf l 6) (l .points)
 
 -- a point takes seven words of a record, which has 6,110 for its lists
 pub few-points : (bytes out : List ℕ) → shelfOf bytes out .said .layout .points ≤ 872
@@ -87,7 +87,7 @@ few-points bytes out = by-verdict (openOf bytes) refl
         let s = sound bytes l e in
         let m = layoutOf bytes in
         let few : m .points ≤ 872 = omega (arith, s .adds-up, s .size-is) in
-        subst (λ (k : Layout). k .points ≤ 872) (layout-is bytes l e ∙ sym (layout-kept bytes l)) few
+        subst (λ (k : Layout). k .points ≤ 872) (layout-is bytes l e ∙ sym (layout-kept bytes l (edition-state bytes l e))) few
     by-verdict (Damaged why) e = omega arith
 
 -- ---- the text

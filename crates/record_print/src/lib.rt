@@ -5,11 +5,12 @@
 use int::from_bits;
 use int::magnitude;
 use int::non_negative;
+use record_layout::CURRENT_X;
+use record_layout::CURRENT_Y;
+use record_layout::FLAGS;
 use record_layout::Layout;
 use record_layout::MOST_BYTES;
-use record_layout::at_current_x;
-use record_layout::at_current_y;
-use record_layout::at_flags;
+use record_layout::place;
 use record_layout::wide;
 use record_replay::replay;
 use record_run::Replayed;
@@ -20,7 +21,7 @@ ghost use mathlib.Core.List.{_++_};
 ghost use lib.ListN.{length, drop};
 ghost use Rattle.words.specs.Lists.{word, flagOf};
 ghost use Rattle.int.specs.Word.{ofBits};
-ghost use Rattle.record_layout.specs.Order.{atCurrentX, atCurrentY, atFlags};
+ghost use Rattle.record_layout.specs.Order.{placeOf};
 ghost use Rattle.record_print.specs.Print.{answerLine, pointLine, glyphLines, printOf, Front};
 ghost use Rattle.record_print.specs.Text.{lastDigit, decimal, signedDecimal};
 ghost use Rattle.record_print.specs.Steps.{ended, Put};
@@ -99,17 +100,17 @@ fn put_answer(r: Replayed, text: &mut [u8]) -> usize
 
 // The flag of a point, the low byte of its word.
 fn flag_at(out: &[u8], l: Layout, i: usize) -> u64
-    ensures { λ r. ⌜ r ≡ flagOf (word (now (out .entry)) (atFlags l + i)) ⌝ }
+    ensures { λ r. ⌜ r ≡ flagOf (word (now (out .entry)) (placeOf l 6 + i)) ⌝ }
 {
-    (word(out, at_flags(l), i) % 256) as u64
+    (word(out, place(l, FLAGS), i) % 256) as u64
 }
 
 fn put_point(out: &[u8], l: Layout, i: usize, text: &mut [u8], at: usize) -> usize
-    requires { ⌜ at + length (pointLine (ofBits (word (now out) (atCurrentX l + i))) (ofBits (word (now out) (atCurrentY l + i))) (flagOf (word (now out) (atFlags l + i)))) ≤ length (now text) ⌝ }
-    ensures { λ r. ⌜ Put (pointLine (ofBits (word (now (out .entry)) (atCurrentX l + i))) (ofBits (word (now (out .entry)) (atCurrentY l + i))) (flagOf (word (now (out .entry)) (atFlags l + i)))) at r (now (text .entry)) (now (text .exit)) ⌝ }
+    requires { ⌜ at + length (pointLine (ofBits (word (now out) (placeOf l 4 + i))) (ofBits (word (now out) (placeOf l 5 + i))) (flagOf (word (now out) (placeOf l 6 + i)))) ≤ length (now text) ⌝ }
+    ensures { λ r. ⌜ Put (pointLine (ofBits (word (now (out .entry)) (placeOf l 4 + i))) (ofBits (word (now (out .entry)) (placeOf l 5 + i))) (flagOf (word (now (out .entry)) (placeOf l 6 + i)))) at r (now (text .entry)) (now (text .exit)) ⌝ }
 {
-    let x = from_bits(word(out, at_current_x(l), i));
-    let y = from_bits(word(out, at_current_y(l), i));
+    let x = from_bits(word(out, place(l, CURRENT_X), i));
+    let y = from_bits(word(out, place(l, CURRENT_Y), i));
     let flag = flag_at(out, l, i);
     let after_x = put_signed(x, b' ', text, at);
     let after_y = put_signed(y, b' ', text, after_x);

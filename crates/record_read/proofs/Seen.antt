@@ -5,7 +5,7 @@ use mathlib.Core.Bool.{Bool, _&&_}
 use mathlib.Core.List.{List}
 use Prim.Native.Nat.{ℕ, _+_, _-_, _*_}
 use lib.Dec.{eqb, leb}
-use Rattle.record_layout.specs.Order.{atEnds, atFlags, atTrailer, atTwilightFlags, edition, mostEnd, mostFlag, trailerSize}
+use Rattle.record_layout.specs.Order.{atTrailer, countOf, edition, listIn, placeOf, trailerSize}
 use Rattle.record_layout.specs.declared.Layout.{Layout}
 use Rattle.limits.specs.Limits.{mostContours, mostControlValues, mostPoints, mostWords}
 use Rattle.state_words.specs.Words.{isState, stateSize}
@@ -31,12 +31,15 @@ pub trailer-seen :
     u && eqb e edition && b ≡ trailerFits bytes l
 trailer-seen bytes l eu ee eb = rw (eu, ee, eb) refl
 
+pub list-seen :
+    (bytes : List ℕ) (l : Layout) (k most : ℕ) {at n c : ℕ} {f : Bool} → at ≡ placeOf l k → c ≡ countOf l k → n ≡ c → f ≡ allAtMost most (part bytes at n) →
+    f ≡ allAtMost most (listIn bytes l k)
+list-seen bytes l k most ea ec en ef = rw (ef, en, ec, ea) refl
+
 pub words-seen :
-    (bytes : List ℕ) (l : Layout) {s f e t : Bool} {af nf ae ne at nt : ℕ} → s ≡ isState (part bytes 0 stateSize) →
-    af ≡ atFlags l → nf ≡ l .points → f ≡ allAtMost mostFlag (part bytes af nf) →
-    ae ≡ atEnds l → ne ≡ l .contours → e ≡ allAtMost mostEnd (part bytes ae ne) →
-    at ≡ atTwilightFlags l → nt ≡ l .twilight → t ≡ allAtMost mostFlag (part bytes at nt) → s && f && e && t ≡ wordsFit bytes l
-words-seen bytes l es eaf enf ef eae ene ee eat ent et = rw (es, ef, ee, et, eaf, enf, eae, ene, eat, ent) refl
+    (bytes : List ℕ) (l : Layout) {s f e t : Bool} → s ≡ isState (part bytes 0 stateSize) → f ≡ allAtMost 255 (listIn bytes l 6) →
+    e ≡ allAtMost 65535 (listIn bytes l 7) → t ≡ allAtMost 255 (listIn bytes l 12) → s && f && e && t ≡ wordsFit bytes l
+words-seen bytes l es ef ee et = rw (es, ef, ee, et) refl
 
 pub total-seen :
     (bytes : List ℕ) {n a s t : ℕ} → n ≡ wordCount bytes → a ≡ n - 1 → s ≡ wrappingSum (part bytes 0 a) → t ≡ trailerWord bytes 7 → eqb s t ≡ sumFits bytes

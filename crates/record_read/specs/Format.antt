@@ -3,7 +3,7 @@ use Prim.Native.Nat.{ℕ, _*_, _%_, _^_}
 use mathlib.Core.List.{List, [], _∷_, _++_}
 use lib.IntN.{ℤ}
 use lib.ListN.{length}
-use Rattle.state_words.specs.Words.{stateWords}
+use Rattle.state_words.specs.Words.{stateSize, stateWords}
 use Rattle.words.specs.Lists.{wrappingSum, bytesOf, wordsOfNumbers}
 use Rattle.line.specs.World.{Fixed, World}
 use Rattle.record_layout.specs.declared.Layout.{Layout}
@@ -20,28 +20,22 @@ abbrev pub held : Fixed → List ℤ → World → Held
 held f sheet w = record { fixed = f; sheet = sheet; world = w }
 
 -- ---- writing
+-- the layout of this edition with these counts
+abbrev pub layout : ℕ → ℕ → ℕ → ℕ → ℕ → Layout
+layout n c m k w = record { state = stateSize; points = n; contours = c; twilight = m; controls = k; words = w }
+
 -- the counts of what is held, as its current lists give them
 abbrev pub layoutFor : Held → Layout
-layoutFor h =
-    record {
-      points = length (h .world .gx);
-      contours = length (h .fixed .contours);
-      twilight = length (h .world .tx);
-      controls = length (h .fixed .controls);
-      words = length (h .sheet);
-    }
+layoutFor h = layout (length (h .world .gx)) (length (h .fixed .contours)) (length (h .world .tx)) (length (h .fixed .controls)) (length (h .sheet))
 
 abbrev pub glyphWords : Held → List ℕ
 glyphWords h =
-    wordsOfNumbers (h .fixed .gux)
-    ++ (wordsOfNumbers (h .fixed .guy)
-    ++ (wordsOfNumbers (h .fixed .gox)
-    ++ (wordsOfNumbers (h .fixed .goy) ++ (wordsOfNumbers (h .world .gx) ++ (wordsOfNumbers (h .world .gy) ++ (h .world .gflags ++ h .fixed .contours))))))
+    wordsOfNumbers (h .fixed .gux) ++ (wordsOfNumbers (h .fixed .guy) ++ (wordsOfNumbers (h .fixed .gox) ++ (wordsOfNumbers (h .fixed .goy)
+    ++ (wordsOfNumbers (h .world .gx) ++ (wordsOfNumbers (h .world .gy) ++ (h .world .gflags ++ h .fixed .contours))))))
 
 abbrev pub twilightWords : Held → List ℕ
 twilightWords h =
-    wordsOfNumbers (h .world .tox)
-    ++ (wordsOfNumbers (h .world .toy) ++ (wordsOfNumbers (h .world .tx) ++ (wordsOfNumbers (h .world .ty) ++ h .world .tflags)))
+    wordsOfNumbers (h .world .tox) ++ (wordsOfNumbers (h .world .toy) ++ (wordsOfNumbers (h .world .tx) ++ (wordsOfNumbers (h .world .ty) ++ h .world .tflags)))
 
 -- "n, contours, m, control values, sheet words, edition 1, the bytes back from the trailer's first byte to the record's"
 abbrev pub trailerWords : Layout → List ℕ

@@ -10,12 +10,12 @@ use Rattle.state_words.specs.Words.{stateSize, stateOf, isState}
 use Rattle.words.specs.Lists.{word, part, numbersOf, flagsOf, endsOf, allAtMost, wrappingSum}
 use Rattle.line.specs.World.{Fixed, fixed, World, world}
 use Rattle.record_layout.specs.declared.Layout.{Layout}
-use Rattle.record_layout.specs.Order.{edition, mostBytes, trailerSize, mostFlag, mostEnd, atUnscaledX, atUnscaledY, atOriginalX, atOriginalY, atCurrentX, atCurrentY, atFlags, atEnds, atTwilightOriginalX, atTwilightOriginalY, atTwilightX, atTwilightY, atTwilightFlags, atControls, atSheet, atTrailer}
+use Rattle.record_layout.specs.Order.{atTrailer, edition, listIn, mostBytes, trailerSize}
 use Rattle.record_read.specs.declared.Damage.{Damage}
 use Rattle.record_read.specs.declared.Damage.the-variants.{TooLong, Form, Sum}
 use Rattle.record_read.specs.declared.Opened.{Opened}
 use Rattle.record_read.specs.declared.Opened.the-variants.{Whole, Damaged}
-use Rattle.record_read.specs.Format.{Held, held}
+use Rattle.record_read.specs.Format.{Held, held, layout}
 
 -- ---- the trailer, read from the end
 -- whole words of a byte string
@@ -26,14 +26,7 @@ abbrev pub trailerWord : List ℕ → ℕ → ℕ
 trailerWord bytes k = word bytes ((wordCount bytes - trailerSize) + k)
 
 abbrev pub layoutOf : List ℕ → Layout
-layoutOf bytes =
-    record {
-      points = trailerWord bytes 0;
-      contours = trailerWord bytes 1;
-      twilight = trailerWord bytes 2;
-      controls = trailerWord bytes 3;
-      words = trailerWord bytes 4;
-    }
+layoutOf bytes = layout (trailerWord bytes 0) (trailerWord bytes 1) (trailerWord bytes 2) (trailerWord bytes 3) (trailerWord bytes 4)
 
 -- ---- what is refused with 16
 -- a length that is no whole number of words, or too short
@@ -43,11 +36,8 @@ lengthFits bytes = eqb (length bytes % 4) 0 && leb (stateSize + trailerSize) (wo
 -- counts that pass document 01's sizes
 abbrev pub countsFit : Layout → Bool
 countsFit l =
-    leb (l .points) mostPoints
-    && leb (l .contours) mostContours
-    && leb (l .twilight) mostPoints
-    && leb (l .controls) mostControlValues
-    && leb (l .words) mostWords
+    leb (l .points) mostPoints && leb (l .contours) mostContours && leb (l .twilight) mostPoints
+    && leb (l .controls) mostControlValues && leb (l .words) mostWords
 
 -- counts that do not add up, another edition, or a wrong way back
 abbrev pub trailerFits : List ℕ → Layout → Bool
@@ -57,13 +47,11 @@ trailerFits bytes l =
 abbrev pub framed : List ℕ → Bool
 framed bytes = lengthFits bytes && countsFit (layoutOf bytes) && trailerFits bytes (layoutOf bytes)
 
--- words out of their range: the state's, a flag, a contour's end
+-- words out of their range: the state's, a flag that is no byte, a contour's end above 16 bits
 abbrev pub wordsFit : List ℕ → Layout → Bool
 wordsFit bytes l =
-    isState (part bytes 0 stateSize)
-    && allAtMost mostFlag (part bytes (atFlags l) (l .points))
-    && allAtMost mostEnd (part bytes (atEnds l) (l .contours))
-    && allAtMost mostFlag (part bytes (atTwilightFlags l) (l .twilight))
+    isState (part bytes 0 stateSize) && allAtMost 255 (listIn bytes l 6) && allAtMost 65535 (listIn bytes l 7)
+    && allAtMost 255 (listIn bytes l 12)
 
 -- ---- what is refused with 15
 abbrev pub sumFits : List ℕ → Bool
@@ -82,33 +70,21 @@ numberOf TooLong = 17
 numberOf Form = 16
 numberOf Sum = 15
 
--- what the lists of a layout hold
+-- what the lists of a layout hold, each by its number in the record's order
+abbrev pub numbersIn : List ℕ → Layout → ℕ → List ℤ
+numbersIn bytes l k = numbersOf (listIn bytes l k)
+
 abbrev pub fixedIn : List ℕ → Layout → Fixed
 fixedIn bytes l =
-    fixed (numbersOf (part bytes (atControls l) (l .controls)))
-    (numbersOf (part bytes (atUnscaledX l) (l .points)))
-    (numbersOf (part bytes (atUnscaledY l) (l .points)))
-    (numbersOf (part bytes (atOriginalX l) (l .points)))
-    (numbersOf (part bytes (atOriginalY l) (l .points)))
-    (endsOf (part bytes (atEnds l) (l .contours)))
+    fixed (numbersIn bytes l 13) (numbersIn bytes l 0) (numbersIn bytes l 1) (numbersIn bytes l 2) (numbersIn bytes l 3) (endsOf (listIn bytes l 7))
 
 abbrev pub worldIn : List ℕ → Layout → World
 worldIn bytes l =
-    world (stateOf (part bytes 0 stateSize))
-    (numbersOf (part bytes (atCurrentX l) (l .points)))
-    (numbersOf (part bytes (atCurrentY l) (l .points)))
-    (flagsOf (part bytes (atFlags l) (l .points)))
-    (numbersOf (part bytes (atTwilightOriginalX l) (l .twilight)))
-    (numbersOf (part bytes (atTwilightOriginalY l) (l .twilight)))
-    (numbersOf (part bytes (atTwilightX l) (l .twilight)))
-    (numbersOf (part bytes (atTwilightY l) (l .twilight)))
-    (flagsOf (part bytes (atTwilightFlags l) (l .twilight)))
-
-abbrev pub sheetIn : List ℕ → Layout → List ℤ
-sheetIn bytes l = numbersOf (part bytes (atSheet l) (l .words))
+    world (stateOf (part bytes 0 stateSize)) (numbersIn bytes l 4) (numbersIn bytes l 5) (flagsOf (listIn bytes l 6))
+    (numbersIn bytes l 8) (numbersIn bytes l 9) (numbersIn bytes l 10) (numbersIn bytes l 11) (flagsOf (listIn bytes l 12))
 
 abbrev pub heldIn : List ℕ → Layout → Held
-heldIn bytes l = held (fixedIn bytes l) (sheetIn bytes l) (worldIn bytes l)
+heldIn bytes l = held (fixedIn bytes l) (numbersIn bytes l 14) (worldIn bytes l)
 
 -- what a byte string holds, or the number that refuses it
 pub data Read : Type 0 where

@@ -10,17 +10,19 @@ use limits::control_values_fit;
 use limits::points_fit;
 use limits::words_fit;
 use record_layout::EDITION;
+use record_layout::ENDS;
+use record_layout::FLAGS;
 use record_layout::Layout;
 use record_layout::MOST_BYTES;
 use record_layout::MOST_END;
 use record_layout::MOST_FLAG;
-use record_layout::STATE_WORDS;
 use record_layout::TRAILER_WORDS;
-use record_layout::at_ends;
-use record_layout::at_flags;
+use record_layout::TWILIGHT_FLAGS;
 use record_layout::at_trailer;
-use record_layout::at_twilight_flags;
+use record_layout::count;
+use record_layout::place;
 use record_layout::wide;
+use state_words::STATE_WORDS;
 use state_words::is_state;
 use state_words::read_state;
 use words::all_at_most;
@@ -30,8 +32,9 @@ use words::word;
 ghost use Prim.Native.Nat.{_+_, _-_, _*_};
 ghost use lib.Dec.{eqb};
 ghost use Rattle.state_words.specs.Words.{stateSize, stateOf, isState};
-ghost use Rattle.words.specs.Lists.{part};
-ghost use Rattle.record_layout.specs.Order.{trailerSize, atTrailer};
+ghost use Rattle.words.specs.Lists.{allAtMost, part};
+ghost use Rattle.record_layout.specs.Order.{trailerSize, listIn, atTrailer};
+ghost use Rattle.record_read.specs.Format.{layout};
 ghost use Rattle.record_read.specs.Read.{wordCount, trailerWord, layoutOf, lengthFits, countsFit, trailerFits, framed, wordsFit, sumFits, openOf, numberOf};
 ghost use mathlib.Core.Path.{_≡_};
 
@@ -82,6 +85,20 @@ fn trailer_word(bytes: &[u8], k: usize) -> u32
     word(bytes, less(word_count(bytes), TRAILER_WORDS), k)
 }
 
+// The layout of this edition with these counts.
+pub fn lay_out(points: u32, contours: u32, twilight: u32, controls: u32, words: u32) -> Layout
+    ensures { λ r. ⌜ r ≡ layout points contours twilight controls words ⌝ }
+{
+    Layout {
+        state: STATE_WORDS as u32,
+        points,
+        contours,
+        twilight,
+        controls,
+        words,
+    }
+}
+
 fn layout_of(bytes: &[u8]) -> Layout
     ensures { λ r. ⌜ r ≡ layoutOf (now (bytes .entry)) ⌝ }
 {
@@ -90,13 +107,7 @@ fn layout_of(bytes: &[u8]) -> Layout
     let twilight = trailer_word(bytes, 2);
     let controls = trailer_word(bytes, 3);
     let words = trailer_word(bytes, 4);
-    Layout {
-        points,
-        contours,
-        twilight,
-        controls,
-        words,
-    }
+    lay_out(points, contours, twilight, controls, words)
 }
 
 // ---- what is refused with 16
@@ -144,18 +155,24 @@ fn is_framed(bytes: &[u8]) -> bool
 fn state_fits(bytes: &[u8]) -> bool
     ensures { λ r. ⌜ r ≡ isState (part (now (bytes .entry)) 0 stateSize) ⌝ }
 {
-    let mut words = [0u32; 26];
+    let mut words = [0u32; STATE_WORDS];
     load_words(bytes, 0, &mut words);
     is_state(&words)
+}
+
+fn list_at_most(bytes: &[u8], l: Layout, k: usize, most: u32) -> bool
+    ensures { λ r. ⌜ r ≡ allAtMost most (listIn (now (bytes .entry)) l k) ⌝ }
+{
+    all_at_most(bytes, place(l, k), wide(count(l, k)), most)
 }
 
 fn words_fit_layout(bytes: &[u8], l: Layout) -> bool
     ensures { λ r. ⌜ r ≡ wordsFit (now (bytes .entry)) l ⌝ }
 {
     state_fits(bytes)
-        & all_at_most(bytes, at_flags(l), wide(l.points), MOST_FLAG)
-        & all_at_most(bytes, at_ends(l), wide(l.contours), MOST_END)
-        & all_at_most(bytes, at_twilight_flags(l), wide(l.twilight), MOST_FLAG)
+        & list_at_most(bytes, l, FLAGS, MOST_FLAG)
+        & list_at_most(bytes, l, ENDS, MOST_END)
+        & list_at_most(bytes, l, TWILIGHT_FLAGS, MOST_FLAG)
 }
 
 // ---- what is refused with 15
@@ -190,7 +207,7 @@ pub fn open(bytes: &[u8]) -> Opened
 pub fn load_state(bytes: &[u8]) -> GraphicsState
     ensures { λ r. ⌜ r ≡ stateOf (part (now (bytes .entry)) 0 stateSize) ⌝ }
 {
-    let mut words = [0u32; 26];
+    let mut words = [0u32; STATE_WORDS];
     load_words(bytes, 0, &mut words);
     read_state(&words)
 }

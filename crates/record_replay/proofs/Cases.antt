@@ -8,33 +8,33 @@ use lib.ListN.{drop, length, take}
 use lib.Seq.{take-at}
 use Rattle.int.specs.Word.{ofBits}
 use Rattle.words.proofs.Parts.{mapped-length}
-use Rattle.words.specs.Lists.{endOf, endsOf, flagOf, flagsOf, numbersOf, part}
+use Rattle.words.specs.Lists.{endOf, endsOf, flagOf, flagsOf, numbersOf}
 use Rattle.graphics.specs.declared.GraphicsState.{GraphicsState}
 use Rattle.line.specs.World.{Fixed, World, fixed, world}
-use Rattle.record_layout.specs.Order.{listRoom}
+use Rattle.record_layout.specs.Order.{countOf, listIn, placeOf}
 use Rattle.record_layout.specs.declared.Layout.{Layout}
-use Rattle.record_read.proofs.Whole.{layout-is, layout-kept, sound}
+use Rattle.record_read.proofs.Whole.{edition-state, layout-is, layout-kept, sound}
 use Rattle.record_read.specs.Format.{held, layoutFor}
 use Rattle.record_read.specs.Read.{fixedIn, heldIn, layoutOf, numberOf, openOf, readAs}
 use Rattle.record_read.specs.declared.Damage.{Damage}
 use Rattle.record_read.specs.declared.Opened.the-variants.{Damaged, Whole}
 use Rattle.record_run.specs.After.{shelved, shelvedFor}
-use Rattle.record_replay.specs.Room.{pointRoom, twilightRoom}
+use Rattle.record_replay.specs.Steps.{listRoom, pointRoom, twilightRoom}
 use Rattle.record_replay.specs.Shelf.{onRead, refusedAs, shelfOf}
 
 -- ---- the lists that were loaded
--- the front of what a list was loaded to
-front : {A : Type 0} (f rest l : List A) (n : ℕ) → l ≡ f ++ rest → length f ≡ n → take n l ≡ f
-front f rest l n e h = ap (take n) e ∙ take-at f rest n h
+front : {A : Type 0} (f rest l : List A) {n m : ℕ} → n ≡ m → l ≡ f ++ rest → length f ≡ m → take n l ≡ f
+front f rest l {n} {m} h e g = ap₂ take h e ∙ take-at f rest m g
 
-pub numbers-front : (bytes : List ℕ) (at n : ℕ) (l z : List ℤ) → l ≡ numbersOf (part bytes at n) ++ drop n z → take n l ≡ numbersOf (part bytes at n)
-numbers-front bytes at n l z e = front (numbersOf (part bytes at n)) (drop n z) l n e (mapped-length ofBits bytes at n)
+-- the front of what a list was loaded to, by its number
+pub numbers-front : (bytes : List ℕ) (l : Layout) (k : ℕ) {n : ℕ} (list z : List ℤ) → n ≡ countOf l k → list ≡ numbersOf (listIn bytes l k) ++ drop (countOf l k) z → take n list ≡ numbersOf (listIn bytes l k)
+numbers-front bytes l k list z h e = front _ _ list h e (mapped-length ofBits bytes (placeOf l k) (countOf l k))
 
-pub flags-front : (bytes : List ℕ) (at n : ℕ) (l z : List ℕ) → l ≡ flagsOf (part bytes at n) ++ drop n z → take n l ≡ flagsOf (part bytes at n)
-flags-front bytes at n l z e = front (flagsOf (part bytes at n)) (drop n z) l n e (mapped-length flagOf bytes at n)
+pub flags-front : (bytes : List ℕ) (l : Layout) (k : ℕ) {n : ℕ} (list z : List ℕ) → n ≡ countOf l k → list ≡ flagsOf (listIn bytes l k) ++ drop (countOf l k) z → take n list ≡ flagsOf (listIn bytes l k)
+flags-front bytes l k list z h e = front _ _ list h e (mapped-length flagOf bytes (placeOf l k) (countOf l k))
 
-pub ends-front : (bytes : List ℕ) (at n : ℕ) (l z : List ℕ) → l ≡ endsOf (part bytes at n) ++ drop n z → take n l ≡ endsOf (part bytes at n)
-ends-front bytes at n l z e = front (endsOf (part bytes at n)) (drop n z) l n e (mapped-length endOf bytes at n)
+pub ends-front : (bytes : List ℕ) (l : Layout) (k : ℕ) {n : ℕ} (list z : List ℕ) → n ≡ countOf l k → list ≡ endsOf (listIn bytes l k) ++ drop (countOf l k) z → take n list ≡ endsOf (listIn bytes l k)
+ends-front bytes l k list z h e = front _ _ list h e (mapped-length endOf bytes (placeOf l k) (countOf l k))
 
 pub same-world : {s s′ : GraphicsState} {gx gx′ gy gy′ : List ℤ} {gflags gflags′ : List ℕ} {tox tox′ toy toy′ tx tx′ ty ty′ : List ℤ} {tflags tflags′ : List ℕ}
     → s ≡ s′ → gx ≡ gx′ → gy ≡ gy′ → gflags ≡ gflags′ → tox ≡ tox′ → toy ≡ toy′ → tx ≡ tx′ → ty ≡ ty′ → tflags ≡ tflags′
@@ -57,7 +57,7 @@ module _ (bytes out : List ℕ) where
 
   pub opened : (l : Layout) → openOf bytes ≡ Whole l → shelvedFor l (heldIn bytes l) out ≡ shelfOf bytes out
   unfolding shelfOf onRead
-  opened l e = sym (ap (λ o. onRead out (readAs bytes o)) e ∙ ap (λ m. shelvedFor m (heldIn bytes l) out) (layout-kept bytes l))
+  opened l e = sym (ap (λ o. onRead out (readAs bytes o)) e ∙ ap (λ m. shelvedFor m (heldIn bytes l) out) (layout-kept bytes l (edition-state bytes l e)))
 
 -- a record's lists have no more words together than are between its state and its trailer
 pub within : (bytes : List ℕ) (l : Layout) → openOf bytes ≡ Whole l → (l .points ≤ pointRoom) × ((l .contours ≤ listRoom) × ((l .twilight ≤ twilightRoom) × ((l .controls ≤ listRoom) × (l .words ≤ listRoom))))

@@ -1,2 +1,2 @@
-pub mod Room
 pub mod Shelf
+pub mod Steps

@@ -2,27 +2,28 @@
 //
 // `replay` answers for every byte string: what it says, and the record that it leaves at the front of `out`, are one equation with `shelfOf` of
 // specs/Shelf.antt. A byte string that is no record is refused by its number, and `out` stays as it was.
+use record_layout::CONTROLS;
+use record_layout::CURRENT_X;
+use record_layout::CURRENT_Y;
+use record_layout::ENDS;
+use record_layout::FLAGS;
 use record_layout::Layout;
-use record_layout::at_controls;
-use record_layout::at_current_x;
-use record_layout::at_current_y;
-use record_layout::at_ends;
-use record_layout::at_flags;
-use record_layout::at_original_x;
-use record_layout::at_original_y;
-use record_layout::at_sheet;
-use record_layout::at_twilight_flags;
-use record_layout::at_twilight_original_x;
-use record_layout::at_twilight_original_y;
-use record_layout::at_twilight_x;
-use record_layout::at_twilight_y;
-use record_layout::at_unscaled_x;
-use record_layout::at_unscaled_y;
+use record_layout::ORIGINAL_X;
+use record_layout::ORIGINAL_Y;
+use record_layout::SHEET;
+use record_layout::TWILIGHT_FLAGS;
+use record_layout::TWILIGHT_ORIGINAL_X;
+use record_layout::TWILIGHT_ORIGINAL_Y;
+use record_layout::TWILIGHT_X;
+use record_layout::TWILIGHT_Y;
+use record_layout::UNSCALED_X;
+use record_layout::UNSCALED_Y;
 use record_layout::wide;
-use record_load::ends_at;
-use record_load::flags_at;
-use record_load::numbers_at;
+use record_load::ends_in;
+use record_load::flags_in;
+use record_load::numbers_in;
 use record_read::Opened;
+use record_read::lay_out;
 use record_read::load_state;
 use record_read::open;
 use record_run::Replayed;
@@ -30,8 +31,7 @@ use record_run::run_and_write;
 ghost use mathlib.Core.Path.{_≡_};
 ghost use Prim.Native.Nat.{_≤_};
 ghost use Rattle.line.specs.World.{fixed};
-ghost use Rattle.record_layout.specs.Order.{listRoom};
-ghost use Rattle.record_replay.specs.Room.{pointRoom, twilightRoom};
+ghost use Rattle.record_replay.specs.Steps.{listRoom, pointRoom, twilightRoom};
 ghost use Rattle.record_read.specs.Format.{held};
 ghost use Rattle.record_read.specs.Read.{worldIn, heldIn};
 ghost use Rattle.record_run.specs.After.{shelved, shelvedFor};
@@ -64,21 +64,21 @@ fn replay_over(
     let n = wide(l.points);
     let m = wide(l.twilight);
     let mut gx = [0i32; POINT_ROOM];
-    numbers_at(bytes, at_current_x(l), n, &mut gx);
+    numbers_in(bytes, l, CURRENT_X, &mut gx);
     let mut gy = [0i32; POINT_ROOM];
-    numbers_at(bytes, at_current_y(l), n, &mut gy);
+    numbers_in(bytes, l, CURRENT_Y, &mut gy);
     let mut gflags = [0u8; POINT_ROOM];
-    flags_at(bytes, at_flags(l), n, &mut gflags);
+    flags_in(bytes, l, FLAGS, &mut gflags);
     let mut tox = [0i32; TWILIGHT_ROOM];
-    numbers_at(bytes, at_twilight_original_x(l), m, &mut tox);
+    numbers_in(bytes, l, TWILIGHT_ORIGINAL_X, &mut tox);
     let mut toy = [0i32; TWILIGHT_ROOM];
-    numbers_at(bytes, at_twilight_original_y(l), m, &mut toy);
+    numbers_in(bytes, l, TWILIGHT_ORIGINAL_Y, &mut toy);
     let mut tx = [0i32; TWILIGHT_ROOM];
-    numbers_at(bytes, at_twilight_x(l), m, &mut tx);
+    numbers_in(bytes, l, TWILIGHT_X, &mut tx);
     let mut ty = [0i32; TWILIGHT_ROOM];
-    numbers_at(bytes, at_twilight_y(l), m, &mut ty);
+    numbers_in(bytes, l, TWILIGHT_Y, &mut ty);
     let mut tflags = [0u8; TWILIGHT_ROOM];
-    flags_at(bytes, at_twilight_flags(l), m, &mut tflags);
+    flags_in(bytes, l, TWILIGHT_FLAGS, &mut tflags);
     let s = load_state(bytes);
     run_and_write(
         l,
@@ -116,19 +116,19 @@ fn replay_whole(bytes: &[u8], l: Layout, out: &mut [u8]) -> Replayed
     let n = wide(l.points);
     let ends = wide(l.contours);
     let mut sheet = [0i32; LIST_ROOM];
-    numbers_at(bytes, at_sheet(l), words, &mut sheet);
+    numbers_in(bytes, l, SHEET, &mut sheet);
     let mut controls = [0i32; LIST_ROOM];
-    numbers_at(bytes, at_controls(l), values, &mut controls);
+    numbers_in(bytes, l, CONTROLS, &mut controls);
     let mut gux = [0i32; POINT_ROOM];
-    numbers_at(bytes, at_unscaled_x(l), n, &mut gux);
+    numbers_in(bytes, l, UNSCALED_X, &mut gux);
     let mut guy = [0i32; POINT_ROOM];
-    numbers_at(bytes, at_unscaled_y(l), n, &mut guy);
+    numbers_in(bytes, l, UNSCALED_Y, &mut guy);
     let mut gox = [0i32; POINT_ROOM];
-    numbers_at(bytes, at_original_x(l), n, &mut gox);
+    numbers_in(bytes, l, ORIGINAL_X, &mut gox);
     let mut goy = [0i32; POINT_ROOM];
-    numbers_at(bytes, at_original_y(l), n, &mut goy);
+    numbers_in(bytes, l, ORIGINAL_Y, &mut goy);
     let mut contours = [0u16; LIST_ROOM];
-    ends_at(bytes, at_ends(l), ends, &mut contours);
+    ends_in(bytes, l, ENDS, &mut contours);
     replay_over(
         bytes,
         l,
@@ -146,13 +146,7 @@ fn replay_whole(bytes: &[u8], l: Layout, out: &mut [u8]) -> Replayed
 fn refuse(number: u32) -> Replayed
     ensures { λ r. ⌜ r ≡ refusedAs number ⌝ }
 {
-    let layout = Layout {
-        points: 0,
-        contours: 0,
-        twilight: 0,
-        controls: 0,
-        words: 0,
-    };
+    let layout = lay_out(0, 0, 0, 0, 0);
     Replayed {
         number,
         place: 0,

@@ -12,7 +12,7 @@ use Rattle.line.specs.Sizes.{worldFits}
 use Rattle.record_layout.specs.Order.{mostBytes, recordSize}
 use Rattle.record_layout.specs.declared.Layout.{Layout}
 use Rattle.record_read.specs.Format.{Held, layoutFor, recordOf}
-use Rattle.record_write.specs.Stored.{withRecord}
+use Rattle.record_write.specs.Steps.{withRecord}
 use Rattle.record_write.specs.Written.{canWrite, sizeFor, writeOf, wrote}
 use Rattle.record_write.proofs.Joined.{Sized, sized, stored-record}
 

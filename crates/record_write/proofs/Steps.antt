@@ -2,10 +2,10 @@
 use mathlib.Core.Path.{_≡_, refl, ap₂, _∙_}
 use mathlib.Core.List.{List, [], _∷_}
 use Prim.Native.Nat.{ℕ, _*_, _%_, _^_}
-use Rattle.record_layout.specs.Order.{atTrailer, edition, sumPlace}
+use Rattle.record_layout.specs.Order.{atTrailer, edition}
 use Rattle.record_layout.specs.declared.Layout.{Layout}
 use Rattle.words.specs.Lists.{part, placed, wrappingSum}
-use Rattle.record_write.specs.Stored.{withCounts, withSum}
+use Rattle.record_write.specs.Steps.{sumPlace, withCounts, withSum}
 
 -- words at a place, over what was left before
 pub stored : (words : List ℕ) {at at′ : ℕ} {before before′ after : List ℕ} → at′ ≡ at → after ≡ placed at′ words before′ → before′ ≡ before → after ≡ placed at words before

@@ -1,2 +1,2 @@
-pub mod Stored
+pub mod Steps
 pub mod Written

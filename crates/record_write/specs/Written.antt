@@ -11,12 +11,9 @@ use Rattle.record_read.specs.Format.{Held, layoutFor, recordOf}
 abbrev pub sizeFor : Held → ℕ
 sizeFor h = recordSize (layoutFor h)
 
--- the lists make zones within document 01's sizes, and the record is within its own limit
-abbrev pub hasRecord : Held → Bool
-hasRecord h = worldFits (h .fixed) (h .sheet) (h .world) && leb (sizeFor h) mostBytes
-
+-- the lists make zones within document 01's sizes, and the record is within its own limit and has room
 unfoldable pub canWrite : Held → ℕ → Bool
-canWrite h room = hasRecord h && leb (sizeFor h) room
+canWrite h room = worldFits (h .fixed) (h .sheet) (h .world) && leb (sizeFor h) mostBytes && leb (sizeFor h) room
 
 -- how many bytes were written, and what the bytes then are
 pub record Wrote : Type 0 where

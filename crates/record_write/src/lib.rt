@@ -4,27 +4,29 @@
 // specs/Written.antt. The parts are stored in the record's order, each over what the ones before it left.
 use graphics::GraphicsState;
 use line::sizes_fit;
+use record_layout::CONTROLS;
+use record_layout::CURRENT_X;
+use record_layout::CURRENT_Y;
 use record_layout::EDITION;
+use record_layout::ENDS;
+use record_layout::FLAGS;
 use record_layout::Layout;
 use record_layout::MOST_BYTES;
-use record_layout::at_controls;
-use record_layout::at_current_x;
-use record_layout::at_current_y;
-use record_layout::at_ends;
-use record_layout::at_flags;
-use record_layout::at_original_x;
-use record_layout::at_original_y;
-use record_layout::at_sheet;
+use record_layout::ORIGINAL_X;
+use record_layout::ORIGINAL_Y;
+use record_layout::SHEET;
+use record_layout::TWILIGHT_FLAGS;
+use record_layout::TWILIGHT_ORIGINAL_X;
+use record_layout::TWILIGHT_ORIGINAL_Y;
+use record_layout::TWILIGHT_X;
+use record_layout::TWILIGHT_Y;
+use record_layout::UNSCALED_X;
+use record_layout::UNSCALED_Y;
 use record_layout::at_trailer;
-use record_layout::at_twilight_flags;
-use record_layout::at_twilight_original_x;
-use record_layout::at_twilight_original_y;
-use record_layout::at_twilight_x;
-use record_layout::at_twilight_y;
-use record_layout::at_unscaled_x;
-use record_layout::at_unscaled_y;
+use record_layout::place;
 use record_layout::record_size;
-use record_layout::sum_place;
+use record_read::lay_out;
+use state_words::STATE_WORDS;
 use state_words::write_state;
 use words::store_ends;
 use words::store_flags;
@@ -34,16 +36,16 @@ use words::sum;
 ghost use Prim.Native.Nat.{_*_, _%_, _^_, _<_};
 ghost use Rattle.record_layout.specs.Order.{atTrailer};
 ghost use Rattle.line.specs.World.{fixed, world};
-ghost use Rattle.record_read.specs.Format.{held};
+ghost use Rattle.record_read.specs.Format.{held, layout};
 ghost use Rattle.record_write.specs.Written.{wrote, writeOf};
-ghost use Rattle.record_write.specs.Stored.{withRecord, withState, withCounts, withSum, withTrailer, withSources, withTwilight, withOriginals, withCurrents};
+ghost use Rattle.record_write.specs.Steps.{sumPlace, withRecord, withState, withCounts, withSum, withTrailer, withSources, withTwilight, withOriginals, withCurrents};
 ghost use mathlib.Core.Path.{_≡_};
 
 // The state of a record, over its first words.
 fn store_state(s: GraphicsState, out: &mut [u8])
     ensures { λ _. ⌜ now (out .exit) ≡ withState s (now (out .entry)) ⌝ }
 {
-    let mut words = [0u32; 26];
+    let mut words = [0u32; STATE_WORDS];
     write_state(s, &mut words);
     store_words(&words, 0, out);
 }
@@ -51,8 +53,8 @@ fn store_state(s: GraphicsState, out: &mut [u8])
 fn store_sources(l: Layout, controls: &[i32], sheet: &[i32], out: &mut [u8])
     ensures { λ _. ⌜ now (out .exit) ≡ withSources l (now (controls .entry)) (now (sheet .entry)) (now (out .entry)) ⌝ }
 {
-    store_numbers(controls, at_controls(l), out);
-    store_numbers(sheet, at_sheet(l), out);
+    store_numbers(controls, place(l, CONTROLS), out);
+    store_numbers(sheet, place(l, SHEET), out);
 }
 
 fn store_twilight(
@@ -66,29 +68,29 @@ fn store_twilight(
 )
     ensures { λ _. ⌜ now (out .exit) ≡ withTwilight l (now (ox .entry)) (now (oy .entry)) (now (x .entry)) (now (y .entry)) (now (flags .entry)) (now (out .entry)) ⌝ }
 {
-    store_numbers(ox, at_twilight_original_x(l), out);
-    store_numbers(oy, at_twilight_original_y(l), out);
-    store_numbers(x, at_twilight_x(l), out);
-    store_numbers(y, at_twilight_y(l), out);
-    store_flags(flags, at_twilight_flags(l), out);
+    store_numbers(ox, place(l, TWILIGHT_ORIGINAL_X), out);
+    store_numbers(oy, place(l, TWILIGHT_ORIGINAL_Y), out);
+    store_numbers(x, place(l, TWILIGHT_X), out);
+    store_numbers(y, place(l, TWILIGHT_Y), out);
+    store_flags(flags, place(l, TWILIGHT_FLAGS), out);
 }
 
 fn store_originals(l: Layout, ux: &[i32], uy: &[i32], ox: &[i32], oy: &[i32], out: &mut [u8])
     ensures { λ _. ⌜ now (out .exit) ≡ withOriginals l (now (ux .entry)) (now (uy .entry)) (now (ox .entry)) (now (oy .entry)) (now (out .entry)) ⌝ }
 {
-    store_numbers(ux, at_unscaled_x(l), out);
-    store_numbers(uy, at_unscaled_y(l), out);
-    store_numbers(ox, at_original_x(l), out);
-    store_numbers(oy, at_original_y(l), out);
+    store_numbers(ux, place(l, UNSCALED_X), out);
+    store_numbers(uy, place(l, UNSCALED_Y), out);
+    store_numbers(ox, place(l, ORIGINAL_X), out);
+    store_numbers(oy, place(l, ORIGINAL_Y), out);
 }
 
 fn store_currents(l: Layout, x: &[i32], y: &[i32], flags: &[u8], ends: &[u16], out: &mut [u8])
     ensures { λ _. ⌜ now (out .exit) ≡ withCurrents l (now (x .entry)) (now (y .entry)) (now (flags .entry)) (now (ends .entry)) (now (out .entry)) ⌝ }
 {
-    store_numbers(x, at_current_x(l), out);
-    store_numbers(y, at_current_y(l), out);
-    store_flags(flags, at_flags(l), out);
-    store_ends(ends, at_ends(l), out);
+    store_numbers(x, place(l, CURRENT_X), out);
+    store_numbers(y, place(l, CURRENT_Y), out);
+    store_flags(flags, place(l, FLAGS), out);
+    store_ends(ends, place(l, ENDS), out);
 }
 
 // The bytes back from the trailer to the record's first.
@@ -112,6 +114,12 @@ fn store_counts(l: Layout, out: &mut [u8])
         back,
     ];
     store_words(&words, at_trailer(l), out);
+}
+
+fn sum_place(l: Layout) -> usize
+    ensures { λ r. ⌜ r ≡ sumPlace l ⌝ }
+{
+    at_trailer(l) + 7
 }
 
 fn store_sum(l: Layout, out: &mut [u8])
@@ -144,15 +152,15 @@ fn layout_for(
     requires { ⌜ twilight < 2 ^ 32 ⌝ }
     requires { ⌜ controls < 2 ^ 32 ⌝ }
     requires { ⌜ words < 2 ^ 32 ⌝ }
-    ensures { λ r. ⌜ r ≡ record { points = points; contours = contours; twilight = twilight; controls = controls; words = words } ⌝ }
+    ensures { λ r. ⌜ r ≡ layout points contours twilight controls words ⌝ }
 {
-    Layout {
-        points: points as u32,
-        contours: contours as u32,
-        twilight: twilight as u32,
-        controls: controls as u32,
-        words: words as u32,
-    }
+    lay_out(
+        points as u32,
+        contours as u32,
+        twilight as u32,
+        controls as u32,
+        words as u32,
+    )
 }
 
 // The parts in their order, the trailer last.

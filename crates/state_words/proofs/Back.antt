@@ -8,7 +8,7 @@ use mathlib.Core.Path.{_∙_, _≡_, ap, ap₂, refl, sym}
 use native.Mathlib.Omega.{arith}
 use lib.Dec.{eqb, leb}
 use borrow.Author.Tests.{eqb-true, leb-true}
-use lib.ListN.{length}
+use lib.ListN.{drop, length, take}
 use mir.Facts.{ofZ-toZ, toZ-ofZ}
 use mir.Syntax.{w32}
 use lib.IntN.{ℤ}
@@ -22,7 +22,9 @@ use Rattle.graphics.specs.declared.Vectors.{Vectors}
 use Rattle.graphics.specs.declared.ZonePointer.{ZonePointer}
 use Rattle.graphics.proofs.Laws.{and-left, and-right}
 use Rattle.int.specs.Word.{bitsOf, ofBits}
-use Rattle.state_words.specs.Words.{factOf, factWord, factsInRange, factsOf, isState, modeOf, modeWord, pointersInRange, pointersOf, referencesOf, roundOf, stateOf, stateSize, stateWords, vectorsOf, wordAt, zoneOf, zoneWord}
+use Rattle.words.specs.Lists.{allAtMost}
+use Rattle.state_words.specs.Words.{factOf, factWord, isState, modeOf, modeWord, stateOf, stateSize, stateWords, wordAt, zoneOf, zoneWord}
+use Rattle.state_words.proofs.Parts.{at-most-nth, part-nth}
 use Rattle.state_words.proofs.Same.{same-facts, same-pointers, same-references, same-round, same-state, same-vector, same-vectors}
 
 -- ---- one word, written and read
@@ -69,25 +71,25 @@ pub record StateFits (s : GraphicsState) : Type 0 where
 vector-read : (v : Vector) → VectorFits v → record { x = ofBits (bitsOf (v .x)); y = ofBits (bitsOf (v .y)) } ≡ v
 vector-read v f = same-vector (word-read (f .0)) (word-read (f .1))
 
-vectors-read : (s : GraphicsState) → VectorsFit (s .vectors) → vectorsOf (stateWords s) ≡ s .vectors
-unfolding stateWords
+vectors-read : (s : GraphicsState) → VectorsFit (s .vectors) → stateOf (stateWords s) .vectors ≡ s .vectors
+unfolding stateOf stateWords
 vectors-read s f =
     same-vectors (vector-read (s .vectors .projection) (f .0)) (vector-read (s .vectors .dual) (f .1)) (vector-read (s .vectors .freedom) (f .2))
 
-round-read : (s : GraphicsState) → RoundFits (s .round) → roundOf (stateWords s) ≡ s .round
-unfolding stateWords
+round-read : (s : GraphicsState) → RoundFits (s .round) → stateOf (stateWords s) .round ≡ s .round
+unfolding stateOf stateWords
 round-read s f = same-round (mode-read (s .round .mode)) (word-read (f .0)) (word-read (f .1)) (word-read (f .2))
 
-references-read : (s : GraphicsState) → referencesOf (stateWords s) ≡ s .references
-unfolding stateWords
+references-read : (s : GraphicsState) → stateOf (stateWords s) .references ≡ s .references
+unfolding stateOf stateWords
 references-read s = same-references (long-read (s .references .rp0)) (long-read (s .references .rp1)) (long-read (s .references .rp2))
 
-pointers-read : (s : GraphicsState) → pointersOf (stateWords s) ≡ s .pointers
-unfolding stateWords
+pointers-read : (s : GraphicsState) → stateOf (stateWords s) .pointers ≡ s .pointers
+unfolding stateOf stateWords
 pointers-read s = same-pointers (zone-read (s .pointers .zp0)) (zone-read (s .pointers .zp1)) (zone-read (s .pointers .zp2))
 
-facts-read : (s : GraphicsState) → factsOf (stateWords s) ≡ s .facts
-unfolding stateWords
+facts-read : (s : GraphicsState) → stateOf (stateWords s) .facts ≡ s .facts
+unfolding stateOf stateWords
 facts-read s =
     let f = s .facts in
     same-facts (fact-read (f .«backward_compatibility»)) (fact-read (f .pedantic)) (fact-read (f .«native_clear_type_x»)) (fact-read (f .«did_iup_x»)) (fact-read (f .«did_iup_y»))
@@ -148,15 +150,12 @@ cons e es = ap₂ (λ (x : ℕ) (xs : List ℕ). x ∷ xs) e es
 -- ---- words, read and written
 -- what `isState` says of each word
 module _ (ws : List ℕ) (e : isState ws ≡ true) where
-  all-in : (eqb (length ws) stateSize && leb (wordAt ws 6) 7) && pointersInRange ws && factsInRange ws ≡ true
+  all-in : eqb (length ws) stateSize && leb (wordAt ws 6) 7 && allAtMost 1 (take 8 (drop 17 ws)) ≡ true
   unfolding isState
   all-in = e
 
-  first-three : (eqb (length ws) stateSize && leb (wordAt ws 6) 7) && pointersInRange ws ≡ true
-  first-three = and-left _ (factsInRange ws) all-in
-
   first-two : eqb (length ws) stateSize && leb (wordAt ws 6) 7 ≡ true
-  first-two = and-left _ (pointersInRange ws) first-three
+  first-two = and-left _ (allAtMost 1 (take 8 (drop 17 ws))) all-in
 
   pub size-is : length ws ≡ stateSize
   size-is = eqb-true (length ws) stateSize (and-left _ (leb (wordAt ws 6) 7) first-two)
@@ -164,48 +163,17 @@ module _ (ws : List ℕ) (e : isState ws ≡ true) where
   mode-in : wordAt ws 6 ≤ 7
   mode-in = leb-true (wordAt ws 6) 7 (and-right (eqb (length ws) stateSize) _ first-two)
 
-  pointers-in : pointersInRange ws ≡ true
-  pointers-in = and-right (eqb (length ws) stateSize && leb (wordAt ws 6) 7) _ first-three
-
-  facts-in : factsInRange ws ≡ true
-  facts-in = and-right ((eqb (length ws) stateSize && leb (wordAt ws 6) 7) && pointersInRange ws) _ all-in
-
-abbrev small : List ℕ → ℕ → Bool
-small ws k = leb (wordAt ws k) 1
+  small : (j : ℕ) → j < 8 → wordAt ws (17 + j) ≤ 1
+  small j h =
+      let within = at-most-nth 1 (take 8 (drop 17 ws)) j (and-right (eqb (length ws) stateSize && leb (wordAt ws 6) 7) _ all-in) in
+      omega (arith, within, part-nth ws 17 8 j h)
 
 module _ (ws : List ℕ) (in-range : isState ws ≡ true) where
-  abbrev f4 : small ws 20 && small ws 21 && small ws 22 && small ws 23 ≡ true
-  f4 = and-left _ (small ws 24) (facts-in ws in-range)
+  zone-at : (j : ℕ) → j < 8 → zoneWord (zoneOf (wordAt ws (17 + j))) ≡ wordAt ws (17 + j)
+  zone-at j h = zone-written (wordAt ws (17 + j)) (small ws in-range j h)
 
-  abbrev f3 : small ws 20 && small ws 21 && small ws 22 ≡ true
-  f3 = and-left _ (small ws 23) f4
-
-  zone-at : (k : ℕ) → small ws k ≡ true → zoneWord (zoneOf (wordAt ws k)) ≡ wordAt ws k
-  zone-at k e = zone-written (wordAt ws k) (leb-true (wordAt ws k) 1 e)
-
-  fact-at : (k : ℕ) → small ws k ≡ true → factWord (factOf (wordAt ws k)) ≡ wordAt ws k
-  fact-at k e = fact-written (wordAt ws k) (leb-true (wordAt ws k) 1 e)
-
-  zone-words : (zoneWord (zoneOf (wordAt ws 17)) ≡ wordAt ws 17) × (zoneWord (zoneOf (wordAt ws 18)) ≡ wordAt ws 18) × (zoneWord (zoneOf (wordAt ws 19)) ≡ wordAt ws 19)
-  zone-words =
-      let p = pointers-in ws in-range in
-      let two : small ws 17 && small ws 18 ≡ true = and-left _ (small ws 19) p in
-      (zone-at 17 (and-left _ (small ws 18) two), zone-at 18 (and-right (small ws 17) _ two), zone-at 19 (and-right (small ws 17 && small ws 18) _ p))
-
-  fact-words :
-      (factWord (factOf (wordAt ws 20)) ≡ wordAt ws 20)
-      × (factWord (factOf (wordAt ws 21)) ≡ wordAt ws 21)
-      × (factWord (factOf (wordAt ws 22)) ≡ wordAt ws 22)
-      × (factWord (factOf (wordAt ws 23)) ≡ wordAt ws 23)
-      × (factWord (factOf (wordAt ws 24)) ≡ wordAt ws 24)
-  fact-words =
-      let two : small ws 20 && small ws 21 ≡ true = and-left _ (small ws 22) f3 in (
-        fact-at 20 (and-left _ (small ws 21) two),
-        fact-at 21 (and-right (small ws 20) _ two),
-        fact-at 22 (and-right (small ws 20 && small ws 21) _ f3),
-        fact-at 23 (and-right (small ws 20 && small ws 21 && small ws 22) _ f4),
-        fact-at 24 (and-right (small ws 20 && small ws 21 && small ws 22 && small ws 23) _ (facts-in ws in-range)),
-      )
+  fact-at : (j : ℕ) → j < 8 → factWord (factOf (wordAt ws (17 + j))) ≡ wordAt ws (17 + j)
+  fact-at j h = fact-written (wordAt ws (17 + j)) (small ws in-range j h)
 
   module _ (fit : (k : ℕ) → wordAt ws k < 2 ^ 32) where
     num : (k : ℕ) → bitsOf (ofBits (wordAt ws k)) ≡ wordAt ws k
@@ -220,14 +188,12 @@ module _ (ws : List ℕ) (in-range : isState ws ≡ true) where
     each : stateWords (stateOf ws) ≡ listed 0 stateSize ws
     unfolding stateWords stateOf
     each =
-        let z = zone-words in
-        let f = fact-words in
         cons (num 0) (cons (num 1) (cons (num 2) (cons (num 3) (cons (num 4) (cons (num 5)
         (cons (mode-written (wordAt ws 6) (mode-in ws in-range)) (cons (num 7) (cons (num 8) (cons (num 9)
         (cons (low 10 11) (cons (high 10 11) (cons (low 12 13) (cons (high 12 13) (cons (low 14 15) (cons (high 14 15)
         (cons refl
-        (cons (z .0) (cons (z .1) (cons (z .2)
-        (cons (f .0) (cons (f .1) (cons (f .2) (cons (f .3) (cons (f .4)
+        (cons (zone-at 0 (omega arith)) (cons (zone-at 1 (omega arith)) (cons (zone-at 2 (omega arith))
+        (cons (fact-at 3 (omega arith)) (cons (fact-at 4 (omega arith)) (cons (fact-at 5 (omega arith)) (cons (fact-at 6 (omega arith)) (cons (fact-at 7 (omega arith))
         (cons (num 25) refl)))))))))))))))))))))))))
 
     pub written-read : stateWords (stateOf ws) ≡ ws

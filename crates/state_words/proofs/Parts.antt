@@ -6,6 +6,11 @@ use mathlib.Core.Path.{_∙_, _≡_, ap, ap₂, refl, sym}
 use native.Mathlib.Numerals.{add-one}
 use native.Mathlib.Omega.{arith}
 use lib.Seq.{take-all}
+use lib.Dec.{leb}
+use mathlib.Core.Bool.{Bool, _&&_, false, true}
+use borrow.Author.Tests.{le-leb, leb-true, lt-leb}
+use Rattle.graphics.proofs.Laws.{and-left, and-right}
+use Rattle.words.specs.Lists.{allAtMost}
 
 -- ---- a part within a list
 -- what stands after a part is counted from its end
@@ -17,6 +22,39 @@ past (x ∷ a) b (suc k) h = let e : k - length a ≡ suc k - suc (length a) = o
 -- the part b, with a before it and r behind
 pub in-part : (a b r : List ℕ) (k : ℕ) → length a ≤ k → k - length a < length b → getD (a ++ (b ++ r)) k 0 ≡ getD b (k - length a) 0
 in-part a b r k h l = past a (b ++ r) k h ∙ List·getD-append b r 0 (k - length a) l
+
+-- word j of a part that was cut out
+take-nth : (l : List ℕ) (n j : ℕ) → j < n → getD (take n l) j 0 ≡ getD l j 0
+take-nth l zero j h = absurd (omega arith)
+take-nth [] (suc n) j h = refl
+take-nth (x ∷ l) (suc n) zero h = refl
+take-nth (x ∷ l) (suc n) (suc j) h = take-nth l n j (omega arith)
+
+drop-nth : (l : List ℕ) (k j : ℕ) → getD (drop k l) j 0 ≡ getD l (k + j) 0
+drop-nth l zero j = let e : j ≡ 0 + j = omega arith in ap (λ (i : ℕ). getD l i 0) e
+drop-nth [] (suc k) j = refl
+drop-nth (x ∷ l) (suc k) j = let e : suc (k + j) ≡ suc k + j = omega arith in drop-nth l k j ∙ ap (λ (i : ℕ). getD (x ∷ l) i 0) e
+
+pub part-nth : (l : List ℕ) (k n j : ℕ) → j < n → getD (take n (drop k l)) j 0 ≡ getD l (k + j) 0
+part-nth l k n j h = take-nth (drop k l) n j h ∙ drop-nth l k j
+
+-- ---- words that are all at most a number
+pub at-most-nth : (most : ℕ) (l : List ℕ) (j : ℕ) → allAtMost most l ≡ true → getD l j 0 ≤ most
+at-most-nth most [] j e = omega arith
+at-most-nth most (x ∷ l) zero e = leb-true x most (and-left (leb x most) (allAtMost most l) e)
+at-most-nth most (x ∷ l) (suc j) e = at-most-nth most l j (and-right (leb x most) (allAtMost most l) e)
+
+drop-next : (l : List ℕ) (k : ℕ) → k < length l → drop k l ≡ getD l k 0 ∷ drop (k + 1) l
+drop-next [] k h = absurd (omega arith)
+drop-next (x ∷ l) zero h = refl
+drop-next (x ∷ l) (suc k) h = let e : suc (k + 1) ≡ suc k + 1 = omega arith in drop-next l k (omega arith) ∙ ap (λ (i : ℕ). getD l k 0 ∷ drop i (x ∷ l)) e
+
+-- the word at k settles it, or what is left behind it does
+pub above : (most : ℕ) (l : List ℕ) (k : ℕ) → k < length l → most < getD l k 0 → false ≡ allAtMost most (drop k l)
+above most l k h g = sym (ap (allAtMost most) (drop-next l k h) ∙ ap (λ (b : Bool). b && allAtMost most (drop (k + 1) l)) (lt-leb (getD l k 0) most g))
+
+pub not-above : (most : ℕ) (l : List ℕ) (k : ℕ) → k < length l → getD l k 0 ≤ most → allAtMost most (drop k l) ≡ allAtMost most (drop (k + 1) l)
+not-above most l k h g = ap (allAtMost most) (drop-next l k h) ∙ ap (λ (b : Bool). b && allAtMost most (drop (k + 1) l)) (le-leb (getD l k 0) most g)
 
 -- ---- writing from the front
 -- the first k of r, and the others of l

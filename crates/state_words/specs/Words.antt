@@ -6,8 +6,9 @@ use mathlib.Core.Bool.{Bool, true, false, cond, _&&_}
 use mathlib.Core.List.{List, [], _∷_, _++_}
 use lib.Dec.{eqb, leb}
 use lib.IntN.{ℤ}
-use lib.ListN.{length, getD}
+use lib.ListN.{drop, getD, length, take}
 use Rattle.int.specs.Word.{bitsOf, ofBits}
+use Rattle.words.specs.Lists.{allAtMost}
 use Rattle.round.specs.declared.RoundMode.{RoundMode}
 use Rattle.round.specs.declared.RoundMode.the-variants.{Grid, HalfGrid, DoubleGrid, DownToGrid, UpToGrid, Off, Super, Super45}
 use Rattle.round.specs.declared.RoundState.{RoundState}
@@ -61,19 +62,13 @@ pointersWords p = zoneWord (p .zp0) ∷ zoneWord (p .zp1) ∷ zoneWord (p .zp2) 
 
 abbrev pub factsWords : Facts → List ℕ
 factsWords f =
-    factWord (f .«backward_compatibility»)
-    ∷ factWord (f .pedantic)
-    ∷ factWord (f .«native_clear_type_x»)
-    ∷ factWord (f .«did_iup_x»)
-    ∷ factWord (f .«did_iup_y»)
-    ∷ []
+    factWord (f .«backward_compatibility») ∷ factWord (f .pedantic) ∷ factWord (f .«native_clear_type_x»)
+    ∷ factWord (f .«did_iup_x») ∷ factWord (f .«did_iup_y») ∷ []
 
 unfoldable pub stateWords : GraphicsState → List ℕ
 stateWords s =
-    vectorsWords (s .vectors)
-    ++ (roundWords (s .round)
-    ++ (referencesWords (s .references)
-    ++ (s .«loop_counter» ∷ (pointersWords (s .pointers) ++ (factsWords (s .facts) ++ (bitsOf (s .«cut_in») ∷ []))))))
+    vectorsWords (s .vectors) ++ (roundWords (s .round) ++ (referencesWords (s .references) ++ (s .«loop_counter»
+    ∷ (pointersWords (s .pointers) ++ (factsWords (s .facts) ++ (bitsOf (s .«cut_in») ∷ []))))))
 
 abbrev pub wordOf : GraphicsState → ℕ → ℕ
 wordOf s k = getD (stateWords s) k 0
@@ -106,46 +101,21 @@ zoneOf n = getD (Twilight ∷ []) n Glyph
 abbrev pub factOf : ℕ → Bool
 factOf n = getD (false ∷ []) n true
 
-abbrev pub vectorsOf : List ℕ → Vectors
-vectorsOf ws = record { projection = vectorAt ws 0 1; dual = vectorAt ws 2 3; freedom = vectorAt ws 4 5 }
-
-abbrev pub roundOf : List ℕ → RoundState
-roundOf ws = record { mode = modeOf (wordAt ws 6); threshold = numberAt ws 7; phase = numberAt ws 8; period = numberAt ws 9 }
-
-abbrev pub referencesOf : List ℕ → References
-referencesOf ws = record { rp0 = longAt ws 10 11; rp1 = longAt ws 12 13; rp2 = longAt ws 14 15 }
-
-abbrev pub pointersOf : List ℕ → ZonePointers
-pointersOf ws = record { zp0 = zoneOf (wordAt ws 17); zp1 = zoneOf (wordAt ws 18); zp2 = zoneOf (wordAt ws 19) }
-
-abbrev pub factsOf : List ℕ → Facts
-factsOf ws =
-    record {
-      «backward_compatibility» = factOf (wordAt ws 20);
-      pedantic = factOf (wordAt ws 21);
-      «native_clear_type_x» = factOf (wordAt ws 22);
-      «did_iup_x» = factOf (wordAt ws 23);
-      «did_iup_y» = factOf (wordAt ws 24);
-    }
+abbrev pub factAt : List ℕ → ℕ → Bool
+factAt ws k = factOf (wordAt ws k)
 
 unfoldable pub stateOf : List ℕ → GraphicsState
-stateOf ws =
-    record {
-      vectors = vectorsOf ws;
-      round = roundOf ws;
-      references = referencesOf ws;
-      «loop_counter» = wordAt ws 16;
-      pointers = pointersOf ws;
-      «cut_in» = numberAt ws 25;
-      facts = factsOf ws;
-    }
+stateOf ws = record {
+  vectors = record { projection = vectorAt ws 0 1; dual = vectorAt ws 2 3; freedom = vectorAt ws 4 5 };
+  round = record { mode = modeOf (wordAt ws 6); threshold = numberAt ws 7; phase = numberAt ws 8; period = numberAt ws 9 };
+  references = record { rp0 = longAt ws 10 11; rp1 = longAt ws 12 13; rp2 = longAt ws 14 15 };
+  «loop_counter» = wordAt ws 16;
+  pointers = record { zp0 = zoneOf (wordAt ws 17); zp1 = zoneOf (wordAt ws 18); zp2 = zoneOf (wordAt ws 19) };
+  facts = record { «backward_compatibility» = factAt ws 20; pedantic = factAt ws 21; «native_clear_type_x» = factAt ws 22; «did_iup_x» = factAt ws 23; «did_iup_y» = factAt ws 24 };
+  «cut_in» = numberAt ws 25;
+}
 
 -- ---- which words are a state: refused with 16 where not. Vectors and period are left to the run's answer 3
-abbrev pub pointersInRange : List ℕ → Bool
-pointersInRange ws = leb (wordAt ws 17) 1 && leb (wordAt ws 18) 1 && leb (wordAt ws 19) 1
-
-abbrev pub factsInRange : List ℕ → Bool
-factsInRange ws = leb (wordAt ws 20) 1 && leb (wordAt ws 21) 1 && leb (wordAt ws 22) 1 && leb (wordAt ws 23) 1 && leb (wordAt ws 24) 1
-
+-- the mode at most 7, zone pointers and facts at most 1
 unfoldable pub isState : List ℕ → Bool
-isState ws = eqb (length ws) stateSize && leb (wordAt ws 6) 7 && pointersInRange ws && factsInRange ws
+isState ws = eqb (length ws) stateSize && leb (wordAt ws 6) 7 && allAtMost 1 (take 8 (drop 17 ws))

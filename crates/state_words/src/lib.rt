@@ -18,9 +18,10 @@ ghost use mathlib.Core.Path.{_≡_};
 ghost use Prim.Native.Nat.{_%_, _/_, _^_, _+_, _*_};
 ghost use lib.ListN.{getD};
 ghost use lib.Dec.{leb};
-ghost use Rattle.state_words.specs.Words.{wordAt, numberAt, vectorAt, longAt, modeOf, zoneOf, factOf, modeWord, zoneWord, factWord, vectorsWords, roundWords, referencesWords, pointersWords, factsWords, wordOf, vectorsOf, roundOf, referencesOf, pointersOf, factsOf, stateOf, isState, pointersInRange, factsInRange, written};
+ghost use Rattle.words.specs.Lists.{allAtMost};
+ghost use Rattle.state_words.specs.Words.{wordAt, numberAt, vectorAt, longAt, modeOf, zoneOf, factOf, modeWord, zoneWord, factWord, vectorsWords, roundWords, referencesWords, pointersWords, factsWords, wordOf, stateOf, isState, written};
 
-// How many words a state is.
+// How many words a state is: the one place of this number in the code.
 pub const STATE_WORDS: usize = 26;
 
 // The first word of each part; the vectors are first.
@@ -142,7 +143,7 @@ fn vector(words: &[u32], x: usize, y: usize) -> Vector
 }
 
 fn vectors_of(words: &[u32]) -> Vectors
-    ensures { λ r. ⌜ r ≡ vectorsOf (now (words .entry)) ⌝ }
+    ensures { λ r. ⌜ r ≡ stateOf (now (words .entry)) .vectors ⌝ }
 {
     let projection = vector(words, 0, 1);
     let dual = vector(words, 2, 3);
@@ -155,7 +156,7 @@ fn vectors_of(words: &[u32]) -> Vectors
 }
 
 fn round_of(words: &[u32]) -> RoundState
-    ensures { λ r. ⌜ r ≡ roundOf (now (words .entry)) ⌝ }
+    ensures { λ r. ⌜ r ≡ stateOf (now (words .entry)) .round ⌝ }
 {
     let mode = mode_of(word(words, ROUND));
     let threshold = number(words, ROUND + 1);
@@ -177,7 +178,7 @@ fn long(words: &[u32], low: usize, high: usize) -> u64
 }
 
 fn references_of(words: &[u32]) -> References
-    ensures { λ r. ⌜ r ≡ referencesOf (now (words .entry)) ⌝ }
+    ensures { λ r. ⌜ r ≡ stateOf (now (words .entry)) .references ⌝ }
 {
     let rp0 = long(words, REFERENCES, REFERENCES + 1);
     let rp1 = long(words, REFERENCES + 2, REFERENCES + 3);
@@ -186,7 +187,7 @@ fn references_of(words: &[u32]) -> References
 }
 
 fn pointers_of(words: &[u32]) -> ZonePointers
-    ensures { λ r. ⌜ r ≡ pointersOf (now (words .entry)) ⌝ }
+    ensures { λ r. ⌜ r ≡ stateOf (now (words .entry)) .pointers ⌝ }
 {
     let zp0 = zone_of(word(words, POINTERS));
     let zp1 = zone_of(word(words, POINTERS + 1));
@@ -195,7 +196,7 @@ fn pointers_of(words: &[u32]) -> ZonePointers
 }
 
 fn facts_of(words: &[u32]) -> Facts
-    ensures { λ r. ⌜ r ≡ factsOf (now (words .entry)) ⌝ }
+    ensures { λ r. ⌜ r ≡ stateOf (now (words .entry)) .facts ⌝ }
 {
     let backward_compatibility = fact_of(word(words, FACTS));
     let pedantic = fact_of(word(words, FACTS + 1));
@@ -240,30 +241,27 @@ fn at_most(words: &[u32], k: usize, most: u32) -> bool
     word(words, k) <= most
 }
 
-fn pointers_in_range(words: &[u32]) -> bool
-    ensures { λ r. ⌜ r ≡ pointersInRange (now (words .entry)) ⌝ }
+fn all_at_most(words: &[u32], most: u32) -> bool
+    ensures { λ r. ⌜ r ≡ allAtMost most (now (words .entry)) ⌝ }
 {
-    at_most(words, POINTERS, 1) & at_most(words, POINTERS + 1, 1) & at_most(words, POINTERS + 2, 1)
-}
-
-fn facts_in_range(words: &[u32]) -> bool
-    ensures { λ r. ⌜ r ≡ factsInRange (now (words .entry)) ⌝ }
-{
-    at_most(words, FACTS, 1)
-        & at_most(words, FACTS + 1, 1)
-        & at_most(words, FACTS + 2, 1)
-        & at_most(words, FACTS + 3, 1)
-        & at_most(words, FACTS + 4, 1)
+    let mut k = 0;
+    while k < words.len() {
+        if words[k] > most {
+            return false;
+        }
+        k += 1;
+    }
+    true
 }
 
 // Whether words are a state: as many as a state has, and each within its range. Vectors and period are left to the run's answer 3.
 pub fn is_state(words: &[u32]) -> bool
     ensures { λ r. ⌜ r ≡ isState (now (words .entry)) ⌝ }
 {
-    (words.len() == STATE_WORDS)
-        & at_most(words, ROUND, 7)
-        & pointers_in_range(words)
-        & facts_in_range(words)
+    if words.len() != STATE_WORDS {
+        return false;
+    }
+    at_most(words, ROUND, 7) & all_at_most(&words[POINTERS..CUT_IN], 1)
 }
 
 // ---- the words of a state

@@ -28,7 +28,7 @@ pub const LENGTHS: u64 = 24;
 
 pub const STATE: u64 = 39;
 
-pub const STATE_WORDS: u64 = 26;
+pub const STATE_WORDS: u64 = state_words::STATE_WORDS as u64;
 
 pub const LISTS: u64 = 15;
 
@@ -73,7 +73,7 @@ fn fill_state(case: &[u8], out: &mut [u32]) {
 }
 
 pub fn state_of(case: &[u8]) -> GraphicsState {
-    let mut words = [0u32; 26];
+    let mut words = [0u32; state_words::STATE_WORDS];
     fill_state(case, &mut words);
     read_state(&words)
 }

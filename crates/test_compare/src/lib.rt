@@ -128,27 +128,31 @@ impl Compared {
 }
 
 // ---- the lists
+// A list is of words or of flags; the other one is empty.
 fn wide_flag(x: u8) -> u32 {
     x as u32
 }
 
-fn words_differ(case: &[u8], p: Place, list: &[i32]) -> u64 {
-    let mut differ = 0;
-    let mut j = 0;
-    while j < list.len() {
-        if to_bits(list[j]) != element(case, p, j as u64) {
-            differ = after(differ, 1);
-        }
-        j += 1;
-    }
-    differ
+fn longer(a: usize, b: usize) -> usize {
+    if a < b { b } else { a }
 }
 
-fn flags_differ(case: &[u8], p: Place, list: &[u8]) -> u64 {
+fn bits_at(words: &[i32], flags: &[u8], j: usize) -> u32 {
+    if j < words.len() {
+        to_bits(words[j])
+    } else if j < flags.len() {
+        wide_flag(flags[j])
+    } else {
+        0
+    }
+}
+
+fn list_differs(case: &[u8], p: Place, words: &[i32], flags: &[u8]) -> u64 {
+    let n = longer(words.len(), flags.len());
     let mut differ = 0;
     let mut j = 0;
-    while j < list.len() {
-        if wide_flag(list[j]) != element(case, p, j as u64) {
+    while j < n {
+        if bits_at(words, flags, j) != element(case, p, j as u64) {
             differ = after(differ, 1);
         }
         j += 1;
@@ -157,43 +161,31 @@ fn flags_differ(case: &[u8], p: Place, list: &[u8]) -> u64 {
 }
 
 // Whether a change of the list is one, and the list holds it.
-fn word_is(case: &[u8], p: Place, list: &[i32], index: u64, new: u32) -> bool {
+fn change_is(case: &[u8], p: Place, words: &[i32], flags: &[u8], index: u64, new: u32) -> bool {
     if index < p.index {
         return false;
     }
     let k = index - p.index;
     let j = k as usize;
-    if j < list.len() {
-        (to_bits(list[j]) == new) & (element(case, p, k) != new)
+    if j < longer(words.len(), flags.len()) {
+        (bits_at(words, flags, j) == new) & (element(case, p, k) != new)
     } else {
         false
     }
 }
 
-fn flag_is(case: &[u8], p: Place, list: &[u8], index: u64, new: u32) -> bool {
-    if index < p.index {
-        return false;
-    }
-    let k = index - p.index;
-    let j = k as usize;
-    if j < list.len() {
-        (wide_flag(list[j]) == new) & (element(case, p, k) != new)
-    } else {
-        false
-    }
-}
-
-fn words_held(case: &[u8], p: Place, list: &[i32]) -> u64 {
+fn list_held(case: &[u8], p: Place, words: &[i32], flags: &[u8]) -> u64 {
     let changes = wide(word(case, CHANGES));
     let last = place_of(case, LISTS);
     let mut at = last.stored;
     let mut held = 0;
     let mut k = 0;
     while k < changes {
-        if word_is(
+        if change_is(
             case,
             p,
-            list,
+            words,
+            flags,
             wide(word(case, at)),
             word(case, after(at, 1)),
         ) {
@@ -205,40 +197,21 @@ fn words_held(case: &[u8], p: Place, list: &[i32]) -> u64 {
     held
 }
 
-fn flags_held(case: &[u8], p: Place, list: &[u8]) -> u64 {
-    let changes = wide(word(case, CHANGES));
-    let last = place_of(case, LISTS);
-    let mut at = last.stored;
-    let mut held = 0;
-    let mut k = 0;
-    while k < changes {
-        if flag_is(
-            case,
-            p,
-            list,
-            wide(word(case, at)),
-            word(case, after(at, 1)),
-        ) {
-            held = after(held, 1);
-        }
-        at = after(at, 2);
-        k += 1;
-    }
-    held
+fn compare_list(case: &[u8], list: u64, words: &[i32], flags: &[u8]) -> Compared {
+    let p = place_of(case, list);
+    let differ = list_differs(case, p, words, flags);
+    let held = list_held(case, p, words, flags);
+    Compared { differ, held }
 }
 
 pub fn compare_words(case: &[u8], list: u64, after_call: &[i32]) -> Compared {
-    let p = place_of(case, list);
-    let differ = words_differ(case, p, after_call);
-    let held = words_held(case, p, after_call);
-    Compared { differ, held }
+    let none: [u8; 0] = [];
+    compare_list(case, list, after_call, &none)
 }
 
 pub fn compare_flags(case: &[u8], list: u64, after_call: &[u8]) -> Compared {
-    let p = place_of(case, list);
-    let differ = flags_differ(case, p, after_call);
-    let held = flags_held(case, p, after_call);
-    Compared { differ, held }
+    let none: [i32; 0] = [];
+    compare_list(case, list, &none, after_call)
 }
 
 // Two lists that stand side by side.

@@ -49,91 +49,7 @@ fn left_as(
         .and(compare_state(case, state))
 }
 
-fn run_over(
-    case: &[u8],
-    ux: &[i32],
-    uy: &[i32],
-    contours: &[u16],
-    controls: &[i32],
-    sheet: &[i32],
-    ox: &[i32],
-    oy: &[i32],
-    cx: &mut [i32],
-    cy: &mut [i32],
-    flags: &mut [u8],
-    tox: &mut [i32],
-    toy: &mut [i32],
-    tcx: &mut [i32],
-    tcy: &mut [i32],
-    tflags: &mut [u8],
-) -> Outcome {
-    let start = long(case, 10) as usize;
-    let budget = long(case, 12);
-    let s = state_of(case);
-    replay::run(
-        start,
-        budget,
-        s,
-        sheet,
-        controls,
-        ux,
-        uy,
-        ox,
-        oy,
-        cx,
-        cy,
-        flags,
-        contours,
-        tox,
-        toy,
-        tcx,
-        tcy,
-        tflags,
-    )
-}
-
-fn agrees_over(
-    case: &[u8],
-    ux: &[i32],
-    uy: &[i32],
-    contours: &[u16],
-    controls: &[i32],
-    sheet: &[i32],
-    ox: &[i32],
-    oy: &[i32],
-    cx: &mut [i32],
-    cy: &mut [i32],
-    flags: &mut [u8],
-    tox: &mut [i32],
-    toy: &mut [i32],
-    tcx: &mut [i32],
-    tcy: &mut [i32],
-    tflags: &mut [u8],
-) -> bool {
-    let outcome = run_over(
-        case,
-        ux,
-        uy,
-        contours,
-        controls,
-        sheet,
-        ox,
-        oy,
-        cx,
-        cy,
-        flags,
-        tox,
-        toy,
-        tcx,
-        tcy,
-        tflags,
-    );
-    let state = outcome.state;
-    let left = left_as(case, state, cx, cy, flags, tox, toy, tcx, tcy, tflags);
-    of_outcome(outcome).agrees(left, case)
-}
-
-// The twilight zone's lists are read here.
+// The twilight zone's lists are read here, and the run made.
 pub fn agrees_in_glyph(
     case: &[u8],
     ux: &[i32],
@@ -147,6 +63,9 @@ pub fn agrees_in_glyph(
     cy: &mut [i32],
     flags: &mut [u8],
 ) -> bool {
+    let start = long(case, 10) as usize;
+    let budget = long(case, 12);
+    let s = state_of(case);
     let mut tox = words_of(case, 8);
     let mut toy = words_of(case, 9);
     let mut tcx = words_of(case, 10);
@@ -157,22 +76,38 @@ pub fn agrees_in_glyph(
     let n10 = length_of(case, 10, 16385);
     let n11 = length_of(case, 11, 16385);
     let n12 = length_of(case, 12, 16385);
-    agrees_over(
-        case,
+    let outcome = replay::run(
+        start,
+        budget,
+        s,
+        sheet,
+        controls,
         ux,
         uy,
-        contours,
-        controls,
-        sheet,
         ox,
         oy,
         cx,
         cy,
         flags,
+        contours,
         &mut tox[..n8],
         &mut toy[..n9],
         &mut tcx[..n10],
         &mut tcy[..n11],
         &mut tflags[..n12],
-    )
+    );
+    let state = outcome.state;
+    let left = left_as(
+        case,
+        state,
+        cx,
+        cy,
+        flags,
+        &tox[..n8],
+        &toy[..n9],
+        &tcx[..n10],
+        &tcy[..n11],
+        &tflags[..n12],
+    );
+    of_outcome(outcome).agrees(left, case)
 }

@@ -55,7 +55,7 @@ fn original_agrees(case: &[u8]) -> bool {
 }
 
 // ---- move_point and move_zp2_point
-fn moved_point(
+fn moved(
     case: &[u8],
     cx: &mut [i32],
     cy: &mut [i32],
@@ -67,40 +67,13 @@ fn moved_point(
     let s = state_of(case);
     let zone = zone_of(word(case, 2));
     let at = long(case, 3);
-    let distance = number(case, 8);
-    direct_moves::try_move_point(s, zone, at, distance, cx, cy, flags, tcx, tcy, tflags)
-}
-
-fn moved_zp2_point(
-    case: &[u8],
-    cx: &mut [i32],
-    cy: &mut [i32],
-    flags: &mut [u8],
-    tcx: &mut [i32],
-    tcy: &mut [i32],
-    tflags: &mut [u8],
-) -> Call {
-    let s = state_of(case);
-    let at = long(case, 3);
     let touches = word(case, 7) == 1;
     let dx = number(case, 8);
     let dy = number(case, 9);
-    direct_moves::try_move_zp2_point(s, at, dx, dy, touches, cx, cy, flags, tcx, tcy, tflags)
-}
-
-fn moved(
-    case: &[u8],
-    cx: &mut [i32],
-    cy: &mut [i32],
-    flags: &mut [u8],
-    tcx: &mut [i32],
-    tcy: &mut [i32],
-    tflags: &mut [u8],
-) -> Call {
     if word(case, KIND) == 11 {
-        moved_point(case, cx, cy, flags, tcx, tcy, tflags)
+        direct_moves::try_move_point(s, zone, at, dx, cx, cy, flags, tcx, tcy, tflags)
     } else {
-        moved_zp2_point(case, cx, cy, flags, tcx, tcy, tflags)
+        direct_moves::try_move_zp2_point(s, at, dx, dy, touches, cx, cy, flags, tcx, tcy, tflags)
     }
 }
 

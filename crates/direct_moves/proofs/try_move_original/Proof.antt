@@ -10,6 +10,10 @@ use Rattle.moves.specs.declared.Move.{Move}
 use Rattle.direct_moves.proofs.try_move_original.Statement.{statement}
 use Rattle.direct_moves.proofs.try_move_original.Tie as tie
 
+-- ---- a place of the walk
+abbrev started : tie.After-entry → tie.Start
+started e = search
+
 pairs-fit-requires : tie.Need-pairs-fit-requires
 pairs-fit-requires c κs = tt
 
@@ -26,7 +30,8 @@ original-move-of-requires : tie.Need-original-move-of-requires
 original-move-of-requires c κs = tt
 
 apply-coords-in-requires : tie.Need-apply-coords-in-requires
-apply-coords-in-requires c κs = let t = c .before .before .before .before .before in let e = t .before .before in let a = e .before .before .before .before .before .before .before .args in
+apply-coords-in-requires c κs = let t : tie.After-enum-told = search in let e = t .before .before in let s = started e in
+    let a = s .args in
     pairs-lengths (now (a .gx)) (now (a .gy)) (now (a .tx)) (now (a .ty)) (begun-fits (usableState (a .s)) (e .before .pairs-fit .ensures) (e .entry .ensures) (t .enum-told .given .1))
 
 same-length : tie.Need-same-length
@@ -42,23 +47,24 @@ same-length-4 : tie.Need-same-length-4
 same-length-4 c = refl
 
 returns : tie.Need-returns
-returns c = let b = c .before in let e = b .before .before in let a = e .before .before .before .before .before .before .before .args in
+returns c = let b : tie.After-begun = search in let e = b .before .before in let s = started e in let a = s .args in
     original-begun (now (a .gx)) (now (a .gy)) (now (a .tx)) (now (a .ty)) (a .s) (a .zone) (a .at) (a .distance) (e .before .pairs-fit .ensures) (e .entry .ensures) (b .begun .given .1)
 
 same-length-5 : tie.Need-same-length-5
-same-length-5 c = c .before .before .before .before .apply-coords-in .kept .1 .1 .1 .0
+same-length-5 c = let applied : tie.After-apply-coords-in = search in search (applied .apply-coords-in .kept)
 
 same-length-6 : tie.Need-same-length-6
-same-length-6 c = c .before .before .before .before .apply-coords-in .kept .1 .1 .1 .1 .0
+same-length-6 c = let applied : tie.After-apply-coords-in = search in search (applied .apply-coords-in .kept)
 
 same-length-7 : tie.Need-same-length-7
-same-length-7 c = c .before .before .before .before .apply-coords-in .kept .1 .1 .1 .1 .1 .0
+same-length-7 c = let applied : tie.After-apply-coords-in = search in search (applied .apply-coords-in .kept)
 
 same-length-8 : tie.Need-same-length-8
-same-length-8 c = c .before .before .before .before .apply-coords-in .kept .1 .1 .1 .1 .1 .1 .0
+same-length-8 c = let applied : tie.After-apply-coords-in = search in search (applied .apply-coords-in .kept)
 
 returns-2 : tie.Need-returns-2
-returns-2 c = let p = c .before .before .before .before in let m = p .before .before .before .before .before in let t = m .before in let e = t .before .before in let s = e .before .before .before .before .before .before .before in let a = s .args in
+returns-2 c = let p : tie.After-apply-coords-in = search in let m : tie.After-original-move-of = search in
+    let t : tie.After-enum-told = search in let e = t .before .before in let s = started e in let a = s .args in
     p .apply-coords-in .ensures
     ∙ ap (λ (m : Move). shiftIn m (a .at) (now (a .gx)) (now (a .gy)) (now (a .tx)) (now (a .ty)) (a .zone)) (m .original-move-of .ensures ∙ ap (originalMoveOf (a .s .vectors)) (toZ-ofZ (s .fits .distance)))
     ∙ original-begun (now (a .gx)) (now (a .gy)) (now (a .tx)) (now (a .ty)) (a .s) (a .zone) (a .at) (a .distance) (e .before .pairs-fit .ensures) (e .entry .ensures) (t .enum-told .given .1)

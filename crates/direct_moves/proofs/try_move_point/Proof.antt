@@ -10,6 +10,10 @@ use Rattle.moves.specs.declared.Move.{Move}
 use Rattle.direct_moves.proofs.try_move_point.Statement.{statement}
 use Rattle.direct_moves.proofs.try_move_point.Tie as tie
 
+-- ---- a place of the walk
+abbrev started : tie.After-entry → tie.Start
+started e = search
+
 zones-fit-requires : tie.Need-zones-fit-requires
 zones-fit-requires c κs = tt
 
@@ -26,7 +30,7 @@ move-of-requires : tie.Need-move-of-requires
 move-of-requires c κs = tt
 
 apply-in-requires : tie.Need-apply-in-requires
-apply-in-requires c κs = let t = c .before .before .before .before .before .before .before in let e = t .before .before in let a = e .before .before .before .before .before .before .before .before .before .before .before .before .args in
+apply-in-requires c κs = let t : tie.After-enum-told = search in let e = t .before .before in let s = started e in let a = s .args in
     zones-lengths (now (a .gx)) (now (a .gy)) (now (a .gflags)) (now (a .tx)) (now (a .ty)) (now (a .tflags)) (begun-fits (usableState (a .s)) (e .before .zones-fit .ensures) (e .entry .ensures) (t .enum-told .given .1))
 
 same-length : tie.Need-same-length
@@ -48,29 +52,30 @@ same-length-6 : tie.Need-same-length-6
 same-length-6 c = refl
 
 returns : tie.Need-returns
-returns c = let b = c .before in let e = b .before .before in let a = e .before .before .before .before .before .before .before .before .before .before .before .before .args in
+returns c = let b : tie.After-begun = search in let e = b .before .before in let s = started e in let a = s .args in
     point-begun (now (a .gx)) (now (a .gy)) (now (a .gflags)) (now (a .tx)) (now (a .ty)) (now (a .tflags)) (a .s) (a .at) (e .before .zones-fit .ensures) (e .entry .ensures) (b .begun .given .1) (a .zone) (a .distance)
 
 same-length-7 : tie.Need-same-length-7
-same-length-7 c = c .before .before .before .before .before .before .before .before .apply-in .kept .1 .1 .1 .0
+same-length-7 c = let applied : tie.After-apply-in = search in search (applied .apply-in .kept)
 
 same-length-8 : tie.Need-same-length-8
-same-length-8 c = c .before .before .before .before .before .before .before .before .apply-in .kept .1 .1 .1 .1 .0
+same-length-8 c = let applied : tie.After-apply-in = search in search (applied .apply-in .kept)
 
 same-length-9 : tie.Need-same-length-9
-same-length-9 c = c .before .before .before .before .before .before .before .before .apply-in .kept .1 .1 .1 .1 .1 .0
+same-length-9 c = let applied : tie.After-apply-in = search in search (applied .apply-in .kept)
 
 same-length-10 : tie.Need-same-length-10
-same-length-10 c = c .before .before .before .before .before .before .before .before .apply-in .kept .1 .1 .1 .1 .1 .1 .0
+same-length-10 c = let applied : tie.After-apply-in = search in search (applied .apply-in .kept)
 
 same-length-11 : tie.Need-same-length-11
-same-length-11 c = c .before .before .before .before .before .before .before .before .apply-in .kept .1 .1 .1 .1 .1 .1 .1 .0
+same-length-11 c = let applied : tie.After-apply-in = search in search (applied .apply-in .kept)
 
 same-length-12 : tie.Need-same-length-12
-same-length-12 c = c .before .before .before .before .before .before .before .before .apply-in .kept .1 .1 .1 .1 .1 .1 .1 .1 .0
+same-length-12 c = let applied : tie.After-apply-in = search in search (applied .apply-in .kept)
 
 returns-2 : tie.Need-returns-2
-returns-2 c = let p = c .before .before .before .before .before .before .before .before in let m = p .before .before .before .before .before .before .before in let t = m .before in let e = t .before .before in let s = e .before .before .before .before .before .before .before .before .before .before .before .before in let a = s .args in
+returns-2 c = let p : tie.After-apply-in = search in let m : tie.After-move-of = search in let t : tie.After-enum-told = search in
+    let e = t .before .before in let s = started e in let a = s .args in
     p .apply-in .ensures
     ∙ ap (λ (m : Move). applyIn m (a .at) (now (a .gx)) (now (a .gy)) (now (a .gflags)) (now (a .tx)) (now (a .ty)) (now (a .tflags)) (a .zone)) (m .move-of .ensures ∙ ap (moveOf (a .s .vectors) (a .s .facts)) (toZ-ofZ (s .fits .distance)))
     ∙ point-begun (now (a .gx)) (now (a .gy)) (now (a .gflags)) (now (a .tx)) (now (a .ty)) (now (a .tflags)) (a .s) (a .at) (e .before .zones-fit .ensures) (e .entry .ensures) (t .enum-told .given .1) (a .zone) (a .distance)

@@ -10,6 +10,10 @@ use Rattle.moves.specs.Move.{zp2MoveOf}
 use Rattle.direct_moves.proofs.try_move_zp2_point.Statement.{statement}
 use Rattle.direct_moves.proofs.try_move_zp2_point.Tie as tie
 
+-- ---- a place of the walk
+abbrev started : tie.After-entry → tie.Start
+started e = search
+
 zones-fit-requires : tie.Need-zones-fit-requires
 zones-fit-requires c κs = tt
 
@@ -47,12 +51,13 @@ same-length-6 : tie.Need-same-length-6
 same-length-6 c = refl
 
 returns : tie.Need-returns
-returns c = let t = c .before .before in let z = t .before .before in let e = z .before in let s = e .before .before .before .before .before .before .before .before .before .before .before .before .before in let a = s .args in
+returns c = let t : tie.After-enum-told = search in let z : tie.After-zp2-move-of = search in let e = z .before in let s = started e in
+    let a = s .args in
     zp2-idle (now (a .gx)) (now (a .gy)) (now (a .gflags)) (now (a .tx)) (now (a .ty)) (now (a .tflags)) (a .s .pointers .zp2) (z .zp2-move-of .result) (a .at) (sym (c .before .is-idle .ensures) ∙ c .if1 .taken)
     ∙ zp2-begun (now (a .gx)) (now (a .gy)) (now (a .gflags)) (now (a .tx)) (now (a .ty)) (now (a .tflags)) (a .s) (a .at) (e .before .zones-fit .ensures) (e .entry .ensures) (t .enum-told .given .1) (a .dx) (a .dy) (a .touches) (z .zp2-move-of .ensures ∙ ap₂ (λ (dx dy : ℤ). zp2MoveOf (a .s .vectors) (a .s .facts) dx dy (a .touches)) (toZ-ofZ (s .fits .dx)) (toZ-ofZ (s .fits .dy)))
 
 apply-in-requires : tie.Need-apply-in-requires
-apply-in-requires c κs = let t = c .before .before .before .before .before .before .before .before in let e = t .before .before .before in let a = e .before .before .before .before .before .before .before .before .before .before .before .before .before .args in
+apply-in-requires c κs = let t : tie.After-enum-told = search in let e = t .before .before .before in let s = started e in let a = s .args in
     zones-lengths (now (a .gx)) (now (a .gy)) (now (a .gflags)) (now (a .tx)) (now (a .ty)) (now (a .tflags)) (begun-fits (usableState (a .s)) (e .before .zones-fit .ensures) (e .entry .ensures) (t .enum-told .given .1))
 
 same-length-7 : tie.Need-same-length-7
@@ -74,29 +79,31 @@ same-length-12 : tie.Need-same-length-12
 same-length-12 c = refl
 
 returns-2 : tie.Need-returns-2
-returns-2 c = let b = c .before in let z = b .before .before in let e = z .before in let s = e .before .before .before .before .before .before .before .before .before .before .before .before .before in let a = s .args in
+returns-2 c = let b : tie.After-begun = search in let z : tie.After-zp2-move-of = search in let e = z .before in let s = started e in
+    let a = s .args in
     zp2-begun (now (a .gx)) (now (a .gy)) (now (a .gflags)) (now (a .tx)) (now (a .ty)) (now (a .tflags)) (a .s) (a .at) (e .before .zones-fit .ensures) (e .entry .ensures) (b .begun .given .1) (a .dx) (a .dy) (a .touches) (z .zp2-move-of .ensures ∙ ap₂ (λ (dx dy : ℤ). zp2MoveOf (a .s .vectors) (a .s .facts) dx dy (a .touches)) (toZ-ofZ (s .fits .dx)) (toZ-ofZ (s .fits .dy)))
 
 same-length-13 : tie.Need-same-length-13
-same-length-13 c = c .before .before .before .before .before .before .before .before .apply-in .kept .1 .1 .1 .0
+same-length-13 c = let applied : tie.After-apply-in = search in search (applied .apply-in .kept)
 
 same-length-14 : tie.Need-same-length-14
-same-length-14 c = c .before .before .before .before .before .before .before .before .apply-in .kept .1 .1 .1 .1 .0
+same-length-14 c = let applied : tie.After-apply-in = search in search (applied .apply-in .kept)
 
 same-length-15 : tie.Need-same-length-15
-same-length-15 c = c .before .before .before .before .before .before .before .before .apply-in .kept .1 .1 .1 .1 .1 .0
+same-length-15 c = let applied : tie.After-apply-in = search in search (applied .apply-in .kept)
 
 same-length-16 : tie.Need-same-length-16
-same-length-16 c = c .before .before .before .before .before .before .before .before .apply-in .kept .1 .1 .1 .1 .1 .1 .0
+same-length-16 c = let applied : tie.After-apply-in = search in search (applied .apply-in .kept)
 
 same-length-17 : tie.Need-same-length-17
-same-length-17 c = c .before .before .before .before .before .before .before .before .apply-in .kept .1 .1 .1 .1 .1 .1 .1 .0
+same-length-17 c = let applied : tie.After-apply-in = search in search (applied .apply-in .kept)
 
 same-length-18 : tie.Need-same-length-18
-same-length-18 c = c .before .before .before .before .before .before .before .before .apply-in .kept .1 .1 .1 .1 .1 .1 .1 .1 .0
+same-length-18 c = let applied : tie.After-apply-in = search in search (applied .apply-in .kept)
 
 returns-3 : tie.Need-returns-3
-returns-3 c = let p = c .before .before .before .before .before .before .before .before in let i = p .before .before .before .before .before .before .before in let t = i .before .before in let z = t .before .before in let e = z .before in let s = e .before .before .before .before .before .before .before .before .before .before .before .before .before in let a = s .args in
+returns-3 c = let p : tie.After-apply-in = search in let i : tie.Else1 = search in let t : tie.After-enum-told = search in
+    let z : tie.After-zp2-move-of = search in let e = z .before in let s = started e in let a = s .args in
     p .apply-in .ensures
     ∙ zp2-busy (now (a .gx)) (now (a .gy)) (now (a .gflags)) (now (a .tx)) (now (a .ty)) (now (a .tflags)) (a .s .pointers .zp2) (z .zp2-move-of .result) (a .at) (sym (i .before .is-idle .ensures) ∙ i .if1 .left)
     ∙ zp2-begun (now (a .gx)) (now (a .gy)) (now (a .gflags)) (now (a .tx)) (now (a .ty)) (now (a .tflags)) (a .s) (a .at) (e .before .zones-fit .ensures) (e .entry .ensures) (t .enum-told .given .1) (a .dx) (a .dy) (a .touches) (z .zp2-move-of .ensures ∙ ap₂ (λ (dx dy : ℤ). zp2MoveOf (a .s .vectors) (a .s .facts) dx dy (a .touches)) (toZ-ofZ (s .fits .dx)) (toZ-ofZ (s .fits .dy)))

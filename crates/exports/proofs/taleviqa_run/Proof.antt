@@ -7,6 +7,16 @@ use Rattle.exports.proofs.Cases.{refused, taken}
 use Rattle.exports.proofs.taleviqa_run.Tie as tie
 use Rattle.exports.proofs.taleviqa_run.Statement.{statement}
 
+-- ---- places of the walk, found by their types
+abbrev started : tie.After-is-call → tie.Start
+started i = search
+
+abbrev stated : tie.After-run → tie.After-read-state
+stated r = search
+
+abbrev ran : tie.After-write-state → tie.After-run
+ran w = search
+
 is-call-requires : tie.Need-is-call-requires
 is-call-requires c κs = tt
 
@@ -56,12 +66,12 @@ same-length-10 : tie.Need-same-length-10
 same-length-10 c = search needs
 
 returns : tie.Need-returns
-returns c = let h = c .before .before in let w = h .before .before .before .before in let r = w .before .before .before .before .before .before .before .before .before .before .before .before in let q = r .before .before .before .before .before .before .before .before .before in let t = q .before .before in let i = t .before in let a = i .before .before .before .before .before .before .before .before .args in
+returns c = let h = c .before .before in let w = h .before .before .before .before in let r = ran w in let q = stated r in let t = q .before .before in let i = t .before in let a = started i .args in
     taken (fixed (now (a .controls)) (now (a .gux)) (now (a .guy)) (now (a .gox)) (now (a .goy)) (now (a .contours)))
     (now (a .sheet)) (a .budget) (a .start) (now (a .state)) (now (a .answer))
     (now (a .gx)) (now (a .gy)) (now (a .gflags)) (now (a .tox)) (now (a .toy)) (now (a .tx)) (now (a .ty)) (now (a .tflags))
     _ (h .say .last .1 .0) (r .run .result) (q .read-state .result) (w .write-state .last .1 .0)
-    (r .run .last .1 .1 .1 .1 .1 .1 .1 .1 .1 .0) (r .run .last .1 .1 .1 .1 .1 .1 .1 .1 .1 .1 .0) (r .run .last .1 .1 .1 .1 .1 .1 .1 .1 .1 .1 .1 .0) (r .run .last .1 .1 .1 .1 .1 .1 .1 .1 .1 .1 .1 .1 .1 .0) (r .run .last .1 .1 .1 .1 .1 .1 .1 .1 .1 .1 .1 .1 .1 .1 .0) (r .run .last .1 .1 .1 .1 .1 .1 .1 .1 .1 .1 .1 .1 .1 .1 .1 .0) (r .run .last .1 .1 .1 .1 .1 .1 .1 .1 .1 .1 .1 .1 .1 .1 .1 .1 .0) (r .run .last .1 .1 .1 .1 .1 .1 .1 .1 .1 .1 .1 .1 .1 .1 .1 .1 .1 .0)
+    _ _ _ _ _ _ _ _
     (sym (i .is-call .ensures) ∙ t .if1 .taken) (q .read-state .ensures) (r .run .ensures) (h .say .ensures .0) (w .write-state .ensures) (h .say .ensures .1)
 
 same-length-11 : tie.Need-same-length-11
@@ -71,7 +81,7 @@ same-length-12 : tie.Need-same-length-12
 same-length-12 c = search needs
 
 returns-2 : tie.Need-returns-2
-returns-2 c = let r = c .before .before in let t = r .before .before in let i = t .before in let a = i .before .before .before .before .before .before .before .before .args in
+returns-2 c = let r = c .before .before in let t = r .before .before in let i = t .before in let a = started i .args in
     refused (fixed (now (a .controls)) (now (a .gux)) (now (a .guy)) (now (a .gox)) (now (a .goy)) (now (a .contours)))
     (now (a .sheet)) (a .budget) (a .start) (now (a .state)) (now (a .answer))
     (now (a .gx)) (now (a .gy)) (now (a .gflags)) (now (a .tox)) (now (a .toy)) (now (a .tx)) (now (a .ty)) (now (a .tflags)) _ _

@@ -27,13 +27,15 @@ returns c = let a = c .before .before .args in
     rw t
 
 returns-2 : tie.Need-returns-2
-returns-2 c = let p = c .before .before .before .before .before .before .before .before .before .args .low in let q = c .before .before .before .before .before .before .before .before .before .args .high in
-    let t : level p q ≡ false = sym (c .before .before .before .before .before .before .before .before .level .ensures) ∙ c .before .before .before .before .before .before .before .if1 .left in
+returns-2 c = let s : tie.Start = search in let flat : tie.After-level = search in let sloped : tie.Else1 = search in
+    let rise : tie.After-wrapping-sub = search in let told : tie.After-struct-told = search in let told2 : tie.After-struct-told2 = search in
+    let told3 : tie.After-struct-told3 = search in let p = s .args .low in let q = s .args .high in
+    let t : level p q ≡ false = sym (flat .level .ensures) ∙ sloped .if1 .left in
     rw t
     (back32 (c .div .result) (c .div .ok) ∙ c .div .ensures
     ∙ ap₂ divFix
-    (back32 (c .before .before .before .before .wrapping-sub .result) (c .before .before .before .before .wrapping-sub .ok) ∙ c .before .before .before .before .wrapping-sub .ensures ∙ ap₂ sub32 (back32 (q .current) (c .before .before .before .before .before .before .struct-told .given .1 .1 .0 .1)) (back32 (p .current) (c .before .before .before .before .before .struct-told2 .given .1 .1 .0 .1)))
-    (back32 (c .before .wrapping-sub2 .result) (c .before .wrapping-sub2 .ok) ∙ c .before .wrapping-sub2 .ensures ∙ ap₂ sub32 (back32 (q .unscaled) (c .before .before .before .struct-told3 .given .0 .1)) (back32 (p .unscaled) (c .before .before .struct-told4 .given .0 .1))))
+    (back32 (rise .wrapping-sub .result) (rise .wrapping-sub .ok) ∙ rise .wrapping-sub .ensures ∙ ap₂ sub32 (back32 (q .current) (told .struct-told .given .1 .1 .0 .1)) (back32 (p .current) (told2 .struct-told2 .given .1 .1 .0 .1)))
+    (back32 (c .before .wrapping-sub2 .result) (c .before .wrapping-sub2 .ok) ∙ c .before .wrapping-sub2 .ensures ∙ ap₂ sub32 (back32 (q .unscaled) (told3 .struct-told3 .given .0 .1)) (back32 (p .unscaled) (c .before .before .struct-told4 .given .0 .1))))
 
 pub slope-spec : {M : Type 1} → statement M
 slope-spec =

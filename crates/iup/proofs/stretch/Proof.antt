@@ -30,10 +30,11 @@ same-length : tie.Need-same-length
 same-length c = search needs
 
 returns : tie.Need-returns
-returns c = let a = c .before .before .before .before .before .before .before .before .args in
+returns c = let s : tie.Start = search in let low : tie.After-lower = search in let high : tie.After-higher = search in
+    let flat : tie.After-level = search in let a = s .args in
     c .before .interpolate .ensures
     ∙ ap (λ (f : ℤ → ℤ → ℤ). both f (now (a .unscaled)) (now (a .original)))
-    (refer (a .before) (a .after) (c .before .before .before .before .before .before .lower .ensures) (c .before .before .before .before .before .higher .ensures) (c .before .before .before .level .ensures)
+    (refer (a .before) (a .after) (low .lower .ensures) (high .higher .ensures) (flat .level .ensures)
     (back32 (c .before .before .slope .result) (c .before .before .slope .ok) ∙ c .before .before .slope .ensures))
 
 returns-2 : tie.Need-returns-2

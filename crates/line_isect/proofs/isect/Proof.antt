@@ -10,19 +10,19 @@ use borrow.Author.Needs.{needs}
 use Rattle.line_isect.proofs.isect.Statement.{statement}
 use Rattle.line_isect.proofs.isect.Tie as tie
 
--- ---- places of the walk
+-- ---- places of the walk, found by their types
 abbrev entry : tie.Start → List ℤ → List ℤ → World
 entry s tox toy = let a = s .args in
     world (a .s) (now (a .gx)) (now (a .gy)) (now (a .gflags)) tox toy (now (a .tx)) (now (a .ty)) (now (a .tflags))
 
 abbrev putting : tie.After-slice-known4 → tie.After-put-in
-putting c = c .before .before .before .before .before .before .before .before
+putting c = search
 
 abbrev told : tie.After-put-in → tie.After-met2
-told p = p .before .before .before .before .before .before .before .before
+told p = search
 
 abbrev indexed : tie.After-meeting → tie.After-index-at5
-indexed k = k .before .before .before .before .before .before
+indexed k = search
 
 refused-requires : tie.Need-refused-requires
 refused-requires c κs = tt
@@ -81,22 +81,22 @@ returns-2 c = let m = c .before .before in let k = m .before .before in let i4 =
     (ap (into (entry s tox toy)) (c .refused2 .ensures))
 
 same-length-5 : tie.Need-same-length-5
-same-length-5 c = putting c .put-in .kept .1 .1 .1 .0
+same-length-5 c = search (putting c .put-in .kept)
 
 same-length-6 : tie.Need-same-length-6
-same-length-6 c = putting c .put-in .kept .1 .1 .1 .1 .0
+same-length-6 c = search (putting c .put-in .kept)
 
 same-length-7 : tie.Need-same-length-7
-same-length-7 c = putting c .put-in .kept .1 .1 .1 .1 .1 .0
+same-length-7 c = search (putting c .put-in .kept)
 
 same-length-8 : tie.Need-same-length-8
-same-length-8 c = putting c .put-in .kept .1 .1 .1 .1 .1 .1 .0
+same-length-8 c = search (putting c .put-in .kept)
 
 same-length-9 : tie.Need-same-length-9
-same-length-9 c = putting c .put-in .kept .1 .1 .1 .1 .1 .1 .1 .0
+same-length-9 c = search (putting c .put-in .kept)
 
 same-length-10 : tie.Need-same-length-10
-same-length-10 c = putting c .put-in .kept .1 .1 .1 .1 .1 .1 .1 .1 .0
+same-length-10 c = search (putting c .put-in .kept)
 
 returns-3 : tie.Need-returns-3
 returns-3 c = let p = putting c in let m = told p in let k = m .before .before in let i4 = indexed k in let i3 = i4 .before in let i2 = i3 .before in let i1 = i2 .before in let i0 = i1 .before in let t = i0 .before in let s = t .before .before .before in

@@ -9,31 +9,31 @@ use Rattle.line_msirp.proofs.Cases.{msirp-missing, msirp-moved, msirp-p
 use Rattle.line_msirp.proofs.msirp.Statement.{statement}
 use Rattle.line_msirp.proofs.msirp.Tie as tie
 
--- ---- places of the walk
+-- ---- places of the walk, found by their types
 abbrev entry : tie.Start → World
 entry s = let a = s .args in
     world (a .s) (now (a .gx)) (now (a .gy)) (now (a .gflags)) (now (a .tox)) (now (a .toy)) (now (a .tx)) (now (a .ty)) (now (a .tflags))
 
 abbrev indexed : tie.After-reach → tie.After-index-at
-indexed k = k .before .before .before .before
+indexed k = search
 
 abbrev started : tie.After-index-at → tie.Start
-started i = i .before .before .before .before .before
+started i = search
 
 abbrev reached : tie.After-make-in → tie.After-reach
-reached m = m .before .before .before .before .before .before .before
+reached m = search
 
 abbrev making : tie.After-place-in → tie.After-make-in
-making p = p .before .before .before .before .before .before .before .before .before
+making p = search
 
 abbrev placing : tie.After-move-of → tie.After-place-in
-placing n = n .before .before .before .before .before .before .before
+placing n = search
 
 abbrev moving : tie.After-apply-in-arg6 → tie.After-move-of
-moving c = c .before .before .before .before .before .before
+moving c = search
 
 abbrev applying : tie.After-settle-msirp → tie.After-apply-in
-applying c = c .before .before .before .before .before .before .before .before .before
+applying c = search
 
 abbrev made : tie.After-settle-msirp → tie.After-make-in
 made c = making (placing (moving (applying c .before)))
@@ -84,8 +84,9 @@ move-of-requires : tie.Need-move-of-requires
 move-of-requires c κs = tt
 
 apply-in-requires : tie.Need-apply-in-requires
-apply-in-requires c κs = let m = making (placing (moving c)) in let p = started (indexed (reached m)) .pre in let tx = m .make-in .kept .1 .1 .1 .1 .1 .1 .0 in
-    (p .0, p .1, m .make-in .kept .1 .1 .1 .1 .1 .1 .1 .0 ∙ p .2 ∙ sym tx, p .3 ∙ sym tx)
+apply-in-requires c κs = let m = making (placing (moving c)) in let p = started (indexed (reached m)) .pre in
+    let twilight = m .make-in .kept .1 .1 .1 .1 in let tx = twilight .1 .1 .0 in
+    (p .0, p .1, twilight .1 .1 .1 .0 ∙ p .2 ∙ sym tx, p .3 ∙ sym tx)
 
 settle-msirp-requires : tie.Need-settle-msirp-requires
 settle-msirp-requires c κs = tt
@@ -100,28 +101,30 @@ returns-2 c = let t = c .before .before in let k = t .before .before in let i = 
     (c .pass-over .ensures (entry s))
 
 same-length : tie.Need-same-length
-same-length c = applying c .apply-in .kept .1 .1 .1 .0
+same-length c = search (applying c .apply-in .kept)
 
 same-length-2 : tie.Need-same-length-2
-same-length-2 c = applying c .apply-in .kept .1 .1 .1 .1 .0
+same-length-2 c = search (applying c .apply-in .kept)
 
 same-length-3 : tie.Need-same-length-3
-same-length-3 c = applying c .apply-in .kept .1 .1 .1 .1 .1 .0
+same-length-3 c = search (applying c .apply-in .kept)
 
 same-length-4 : tie.Need-same-length-4
-same-length-4 c = made c .make-in .kept .1 .1 .1 .1 .0
+same-length-4 c = search (made c .make-in .kept)
 
 same-length-5 : tie.Need-same-length-5
-same-length-5 c = made c .make-in .kept .1 .1 .1 .1 .1 .0
+same-length-5 c = search (made c .make-in .kept)
 
 same-length-6 : tie.Need-same-length-6
-same-length-6 c = applying c .apply-in .kept .1 .1 .1 .1 .1 .1 .0 ∙ made c .make-in .kept .1 .1 .1 .1 .1 .1 .0
+same-length-6 c = let twilight = applying c .apply-in .kept .1 .1 .1 .1 .1 in
+    let earlier = made c .make-in .kept .1 .1 .1 .1 in twilight .1 .0 ∙ earlier .1 .1 .0
 
 same-length-7 : tie.Need-same-length-7
-same-length-7 c = applying c .apply-in .kept .1 .1 .1 .1 .1 .1 .1 .0 ∙ made c .make-in .kept .1 .1 .1 .1 .1 .1 .1 .0
+same-length-7 c = let twilight = applying c .apply-in .kept .1 .1 .1 .1 .1 in
+    let earlier = made c .make-in .kept .1 .1 .1 .1 in twilight .1 .1 .0 ∙ earlier .1 .1 .1 .0
 
 same-length-8 : tie.Need-same-length-8
-same-length-8 c = applying c .apply-in .kept .1 .1 .1 .1 .1 .1 .1 .1 .0
+same-length-8 c = search (applying c .apply-in .kept)
 
 returns-3 : tie.Need-returns-3
 returns-3 c = let a = applying c in let n = moving (a .before) in let l = n .before in let o = l .before in let p = placing n in let m = making p in let e = m .before .before .before .before .before in let k = reached m in let i = indexed k in let d = i .before in let s = started i in

@@ -24,10 +24,10 @@ or-at-requires : tie.Need-or-at-requires
 or-at-requires c κs = tt
 
 same-length : tie.Need-same-length
-same-length c = c .before .before .before .before .before .before .before .before .before .move-at .kept .0
+same-length c = let m : tie.After-move-at = search in m .move-at .kept .0
 
 same-length-2 : tie.Need-same-length-2
-same-length-2 c = c .before .before .before .before .before .move-at2 .kept .0
+same-length-2 c = let m : tie.After-move-at2 = search in m .move-at2 .kept .0
 
 same-length-3 : tie.Need-same-length-3
 same-length-3 c = c .before .before .or-at .kept .0

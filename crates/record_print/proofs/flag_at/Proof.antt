@@ -7,8 +7,8 @@ use Rattle.words.specs.Lists.{word}
 use Rattle.record_print.proofs.flag_at.Statement.{statement}
 use Rattle.record_print.proofs.flag_at.Tie as tie
 
-at-flags-requires : tie.Need-at-flags-requires
-at-flags-requires c κs = search needs
+place-requires : tie.Need-place-requires
+place-requires c κs = search needs
 
 word-requires : tie.Need-word-requires
 word-requires c κs = search needs
@@ -19,7 +19,7 @@ cast-result c = search needs
 returns : tie.Need-returns
 returns c =
     let a = c .before .before .before .args in
-    ap (λ (w : ℕ). w % 256) (c .word .ensures ∙ ap (λ (k : ℕ). word (now (a .out)) (k + a .i)) (c .before .at-flags .ensures))
+    ap (λ (w : ℕ). w % 256) (c .word .ensures ∙ ap (λ (k : ℕ). word (now (a .out)) (k + a .i)) (c .before .place .ensures))
 
 pub flag-at-spec : {M : Type 1} → statement M
-flag-at-spec = tie.close (tie.spec at-flags-requires word-requires cast-result returns)
+flag-at-spec = tie.close (tie.spec place-requires word-requires cast-result returns)

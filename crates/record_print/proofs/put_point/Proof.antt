@@ -12,7 +12,7 @@ use mir.Val.{ofZ, toZ}
 use Rattle.int.proofs.Words.{back32}
 use Rattle.int.specs.Word.{ofBits}
 use Rattle.words.specs.Lists.{word}
-use Rattle.record_layout.specs.Order.{atCurrentX, atCurrentY}
+use Rattle.record_layout.specs.Order.{placeOf}
 use Rattle.record_print.specs.Print.{pointLine}
 use Rattle.record_print.specs.Steps.{Put, ended}
 use Rattle.record_print.specs.Text.{decimal, signedDecimal}
@@ -39,17 +39,17 @@ same-line c =
     let g = c .before in
     let f = g .before .before .before in
     let a = entry c .args in
-    let of-x = back32 (f .from-bits .result) (f .from-bits .ok) ∙ f .from-bits .ensures ∙ ap ofBits (f .before .word .ensures ∙ ap (λ (k : ℕ). word (now (a .out)) (k + a .i)) (f .before .before .at-current-x .ensures)) in
-    let of-y = back32 (g .from-bits2 .result) (g .from-bits2 .ok) ∙ g .from-bits2 .ensures ∙ ap ofBits (g .before .word2 .ensures ∙ ap (λ (k : ℕ). word (now (a .out)) (k + a .i)) (g .before .before .at-current-y .ensures)) in
+    let of-x = back32 (f .from-bits .result) (f .from-bits .ok) ∙ f .from-bits .ensures ∙ ap ofBits (f .before .word .ensures ∙ ap (λ (k : ℕ). word (now (a .out)) (k + a .i)) (f .before .before .place .ensures)) in
+    let of-y = back32 (g .from-bits2 .result) (g .from-bits2 .ok) ∙ g .from-bits2 .ensures ∙ ap ofBits (g .before .word2 .ensures ∙ ap (λ (k : ℕ). word (now (a .out)) (k + a .i)) (g .before .before .place2 .ensures)) in
     ap₂ (λ (p q : ℤ). pointLine p q (c .flag-at .result)) of-x of-y
-    ∙ ap (pointLine (ofBits (word (now (a .out)) (atCurrentX (a .l) + a .i))) (ofBits (word (now (a .out)) (atCurrentY (a .l) + a .i)))) (c .flag-at .ensures)
+    ∙ ap (pointLine (ofBits (word (now (a .out)) (placeOf (a .l) 4 + a .i))) (ofBits (word (now (a .out)) (placeOf (a .l) 5 + a .i)))) (c .flag-at .ensures)
 
 -- the line's pieces are as long as the line
 long : (c : tie.After-flag-at) → length (wanted c) ≡ length (ended (signedDecimal (x c)) 32) + (length (ended (signedDecimal (y c)) 32) + length (ended (decimal (c .flag-at .result)) 10))
 long c = sym (ap length (same-line c)) ∙ three-long (signedDecimal (x c)) (signedDecimal (y c)) (decimal (c .flag-at .result))
 
-at-current-x-requires : tie.Need-at-current-x-requires
-at-current-x-requires c κs = search needs
+place-requires : tie.Need-place-requires
+place-requires c κs = search needs
 
 word-requires : tie.Need-word-requires
 word-requires c κs = search needs
@@ -57,8 +57,8 @@ word-requires c κs = search needs
 from-bits-requires : tie.Need-from-bits-requires
 from-bits-requires c κs = search needs
 
-at-current-y-requires : tie.Need-at-current-y-requires
-at-current-y-requires c κs = search needs
+place-requires-2 : tie.Need-place-requires-2
+place-requires-2 c κs = search needs
 
 word-requires-2 : tie.Need-word-requires-2
 word-requires-2 c κs = search needs
@@ -103,10 +103,10 @@ pub put-point-spec : {M : Type 1} → statement M
 put-point-spec =
     tie.close
     (tie.spec
-    at-current-x-requires
+    place-requires
     word-requires
     from-bits-requires
-    at-current-y-requires
+    place-requires-2
     word-requires-2
     from-bits-requires-2
     flag-at-requires

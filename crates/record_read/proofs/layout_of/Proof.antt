@@ -3,15 +3,17 @@ use mathlib.Core.Path.{_≡_, refl}
 use mathlib.Core.List.{List}
 use Prim.Native.Nat.{ℕ}
 use denote.Ref.{now}
+use Rattle.record_layout.specs.declared.Layout.{Layout}
+use Rattle.record_read.specs.Format.{layout}
 use Rattle.record_read.specs.Read.{layoutOf, trailerWord}
 use Rattle.record_read.proofs.layout_of.Statement.{statement}
 use Rattle.record_read.proofs.layout_of.Tie as tie
 
 -- the five counts, as they were read
 laid-out :
-    (bytes : List ℕ) {p c t k w : ℕ} → p ≡ trailerWord bytes 0 → c ≡ trailerWord bytes 1 → t ≡ trailerWord bytes 2 → k ≡ trailerWord bytes 3 → w ≡ trailerWord bytes 4 →
-    record { points = p; contours = c; twilight = t; controls = k; words = w } ≡ layoutOf bytes
-laid-out bytes ep ec et ek ew = rw (ep, ec, et, ek, ew) refl
+    (bytes : List ℕ) {p c t k w : ℕ} {l : Layout} → p ≡ trailerWord bytes 0 → c ≡ trailerWord bytes 1 → t ≡ trailerWord bytes 2 → k ≡ trailerWord bytes 3 → w ≡ trailerWord bytes 4 →
+    l ≡ layout p c t k w → l ≡ layoutOf bytes
+laid-out bytes ep ec et ek ew e = rw (e, ep, ec, et, ek, ew) refl
 
 trailer-word-requires : tie.Need-trailer-word-requires
 trailer-word-requires c κs = tt
@@ -28,9 +30,12 @@ trailer-word-requires-4 c κs = tt
 trailer-word-requires-5 : tie.Need-trailer-word-requires-5
 trailer-word-requires-5 c κs = tt
 
+lay-out-requires : tie.Need-lay-out-requires
+lay-out-requires c κs = tt
+
 returns : tie.Need-returns
-returns c = let k = c .before in let t = k .before in let n = t .before in let p = n .before in
-    laid-out (now (p .before .before .args .bytes)) (p .trailer-word .ensures) (n .trailer-word2 .ensures) (t .trailer-word3 .ensures) (k .trailer-word4 .ensures) (c .trailer-word5 .ensures)
+returns c = let w = c .before in let k = w .before in let t = k .before in let n = t .before in let p = n .before in
+    laid-out (now (p .before .before .args .bytes)) (p .trailer-word .ensures) (n .trailer-word2 .ensures) (t .trailer-word3 .ensures) (k .trailer-word4 .ensures) (w .trailer-word5 .ensures) (c .lay-out .ensures)
 
 pub layout-of-spec : {M : Type 1} → statement M
 layout-of-spec =
@@ -41,4 +46,5 @@ layout-of-spec =
     trailer-word-requires-3
     trailer-word-requires-4
     trailer-word-requires-5
+    lay-out-requires
     returns)

@@ -1,14 +1,86 @@
 -- `record_replay::replay_whole` meets its contract: each list that is lent is the part of the record that it was loaded from. Assumes nothing.
-use mathlib.Core.Path.{_∙_, ap₂, refl, sym}
+use mathlib.Core.Path.{_∙_, refl, sym}
 use native.Mathlib.Omega.{arith}
 use denote.Ref.{now}
 use lib.Seq.{length-take-le}
-use Rattle.words.specs.Lists.{endsOf, numbersOf, part}
 use Rattle.record_read.specs.Read.{worldIn}
 use Rattle.record_replay.proofs.Cases.{ends-front, numbers-front, same-fixed, whole-held}
 use Rattle.record_replay.proofs.replay_whole.Statement.{statement}
 use Rattle.record_replay.proofs.replay_whole.Tie as tie
 
+-- ---- the places on the way, each from the next
+abbrev entry-sheet : tie.After-sheet → tie.Start
+entry-sheet c = c .before .before .before .before .before .before .before
+
+abbrev entry-controls : tie.After-controls → tie.Start
+entry-controls c = entry-sheet (c .before .before .before)
+
+abbrev entry-gux : tie.After-gux → tie.Start
+entry-gux c = entry-controls (c .before .before .before)
+
+abbrev entry-guy : tie.After-guy → tie.Start
+entry-guy c = entry-gux (c .before .before .before)
+
+abbrev entry-gox : tie.After-gox → tie.Start
+entry-gox c = entry-guy (c .before .before .before)
+
+abbrev entry-goy : tie.After-goy → tie.Start
+entry-goy c = entry-gox (c .before .before .before)
+
+abbrev entry-contours : tie.After-contours → tie.Start
+entry-contours c = entry-goy (c .before .before .before)
+
+-- what each list was loaded by
+abbrev got-contours : tie.After-contours2 → tie.After-ends-in
+got-contours s = s .before
+
+abbrev got-goy : tie.After-contours2 → tie.After-numbers-in6
+got-goy s = got-contours s .before .before .before
+
+abbrev got-gox : tie.After-contours2 → tie.After-numbers-in5
+got-gox s = got-goy s .before .before .before
+
+abbrev got-guy : tie.After-contours2 → tie.After-numbers-in4
+got-guy s = got-gox s .before .before .before
+
+abbrev got-gux : tie.After-contours2 → tie.After-numbers-in3
+got-gux s = got-guy s .before .before .before
+
+abbrev got-controls : tie.After-contours2 → tie.After-numbers-in2
+got-controls s = got-gux s .before .before .before
+
+abbrev got-sheet : tie.After-contours2 → tie.After-numbers-in
+got-sheet s = got-controls s .before .before .before
+
+abbrev sizes : tie.After-contours2 → tie.After-wide4
+sizes s = got-sheet s .before .before
+
+abbrev entry : tie.After-contours2 → tie.Start
+entry s = entry-sheet (got-sheet s .before)
+
+-- all loaded, from the places where they are lent
+abbrev from-sheet : tie.After-sheet3 → tie.After-contours2
+from-sheet c = c .before
+
+abbrev from-controls : tie.After-controls3 → tie.After-contours2
+from-controls c = from-sheet (c .before)
+
+abbrev from-gux : tie.After-gux3 → tie.After-contours2
+from-gux c = from-controls (c .before)
+
+abbrev from-guy : tie.After-guy3 → tie.After-contours2
+from-guy c = from-gux (c .before)
+
+abbrev from-gox : tie.After-gox3 → tie.After-contours2
+from-gox c = from-guy (c .before)
+
+abbrev from-goy : tie.After-goy3 → tie.After-contours2
+from-goy c = from-gox (c .before)
+
+abbrev from-contours : tie.After-contours3 → tie.After-contours2
+from-contours c = from-goy (c .before)
+
+-- ---- the needs
 wide-requires : tie.Need-wide-requires
 wide-requires c κs = tt
 
@@ -21,131 +93,149 @@ wide-requires-3 c κs = tt
 wide-requires-4 : tie.Need-wide-requires-4
 wide-requires-4 c κs = tt
 
-at-sheet-requires : tie.Need-at-sheet-requires
-at-sheet-requires c κs = tt
+slice-aggregate-numbers-in : tie.Need-slice-aggregate-numbers-in
+slice-aggregate-numbers-in c = refl
 
-slice-aggregate-numbers-at : tie.Need-slice-aggregate-numbers-at
-slice-aggregate-numbers-at c = refl
+numbers-in-requires : tie.Need-numbers-in-requires
+numbers-in-requires c κs = omega (arith, entry-sheet c .pre .1 .1 .1 .1)
 
-numbers-at-requires : tie.Need-numbers-at-requires
-numbers-at-requires c κs = omega (arith, c .before .before .before .before .before .wide .ensures, c .before .before .before .before .before .before .before .before .pre .1 .1 .1 .1)
+slice-aggregate-numbers-in-2 : tie.Need-slice-aggregate-numbers-in-2
+slice-aggregate-numbers-in-2 c = refl
 
-at-controls-requires : tie.Need-at-controls-requires
-at-controls-requires c κs = tt
+numbers-in-requires-2 : tie.Need-numbers-in-requires-2
+numbers-in-requires-2 c κs = omega (arith, entry-controls c .pre .1 .1 .1 .0)
 
-slice-aggregate-numbers-at-2 : tie.Need-slice-aggregate-numbers-at-2
-slice-aggregate-numbers-at-2 c = refl
+slice-aggregate-numbers-in-3 : tie.Need-slice-aggregate-numbers-in-3
+slice-aggregate-numbers-in-3 c = refl
 
-numbers-at-requires-2 : tie.Need-numbers-at-requires-2
-numbers-at-requires-2 c κs = omega (arith, c .before .before .before .before .before .before .before .before .wide2 .ensures, c .before .before .before .before .before .before .before .before .before .before .before .before .pre .1 .1 .1 .0)
+numbers-in-requires-3 : tie.Need-numbers-in-requires-3
+numbers-in-requires-3 c κs = omega (arith, entry-gux c .pre .0)
 
-at-unscaled-x-requires : tie.Need-at-unscaled-x-requires
-at-unscaled-x-requires c κs = tt
+slice-aggregate-numbers-in-4 : tie.Need-slice-aggregate-numbers-in-4
+slice-aggregate-numbers-in-4 c = refl
 
-slice-aggregate-numbers-at-3 : tie.Need-slice-aggregate-numbers-at-3
-slice-aggregate-numbers-at-3 c = refl
+numbers-in-requires-4 : tie.Need-numbers-in-requires-4
+numbers-in-requires-4 c κs = omega (arith, entry-guy c .pre .0)
 
-numbers-at-requires-3 : tie.Need-numbers-at-requires-3
-numbers-at-requires-3 c κs = omega (arith, c .before .before .before .before .before .before .before .before .before .before .before .wide3 .ensures, c .before .before .before .before .before .before .before .before .before .before .before .before .before .before .before .before .pre .0)
+slice-aggregate-numbers-in-5 : tie.Need-slice-aggregate-numbers-in-5
+slice-aggregate-numbers-in-5 c = refl
 
-at-unscaled-y-requires : tie.Need-at-unscaled-y-requires
-at-unscaled-y-requires c κs = tt
+numbers-in-requires-5 : tie.Need-numbers-in-requires-5
+numbers-in-requires-5 c κs = omega (arith, entry-gox c .pre .0)
 
-slice-aggregate-numbers-at-4 : tie.Need-slice-aggregate-numbers-at-4
-slice-aggregate-numbers-at-4 c = refl
+slice-aggregate-numbers-in-6 : tie.Need-slice-aggregate-numbers-in-6
+slice-aggregate-numbers-in-6 c = refl
 
-numbers-at-requires-4 : tie.Need-numbers-at-requires-4
-numbers-at-requires-4 c κs = omega (arith, c .before .before .before .before .before .before .before .before .before .before .before .before .before .before .before .wide3 .ensures, c .before .before .before .before .before .before .before .before .before .before .before .before .before .before .before .before .before .before .before .before .pre .0)
+numbers-in-requires-6 : tie.Need-numbers-in-requires-6
+numbers-in-requires-6 c κs = omega (arith, entry-goy c .pre .0)
 
-at-original-x-requires : tie.Need-at-original-x-requires
-at-original-x-requires c κs = tt
+slice-aggregate-ends-in : tie.Need-slice-aggregate-ends-in
+slice-aggregate-ends-in c = refl
 
-slice-aggregate-numbers-at-5 : tie.Need-slice-aggregate-numbers-at-5
-slice-aggregate-numbers-at-5 c = refl
-
-numbers-at-requires-5 : tie.Need-numbers-at-requires-5
-numbers-at-requires-5 c κs = omega (arith, c .before .before .before .before .before .before .before .before .before .before .before .before .before .before .before .before .before .before .before .wide3 .ensures, c .before .before .before .before .before .before .before .before .before .before .before .before .before .before .before .before .before .before .before .before .before .before .before .before .pre .0)
-
-at-original-y-requires : tie.Need-at-original-y-requires
-at-original-y-requires c κs = tt
-
-slice-aggregate-numbers-at-6 : tie.Need-slice-aggregate-numbers-at-6
-slice-aggregate-numbers-at-6 c = refl
-
-numbers-at-requires-6 : tie.Need-numbers-at-requires-6
-numbers-at-requires-6 c κs = omega (arith, c .before .before .before .before .before .before .before .before .before .before .before .before .before .before .before .before .before .before .before .before .before .before .before .wide3 .ensures, c .before .before .before .before .before .before .before .before .before .before .before .before .before .before .before .before .before .before .before .before .before .before .before .before .before .before .before .before .pre .0)
-
-at-ends-requires : tie.Need-at-ends-requires
-at-ends-requires c κs = tt
-
-slice-aggregate-ends-at : tie.Need-slice-aggregate-ends-at
-slice-aggregate-ends-at c = refl
-
-ends-at-requires : tie.Need-ends-at-requires
-ends-at-requires c κs = omega (arith, c .before .before .before .before .before .before .before .before .before .before .before .before .before .before .before .before .before .before .before .before .before .before .before .before .before .before .wide4 .ensures, c .before .before .before .before .before .before .before .before .before .before .before .before .before .before .before .before .before .before .before .before .before .before .before .before .before .before .before .before .before .before .before .before .pre .1 .0)
+ends-in-requires : tie.Need-ends-in-requires
+ends-in-requires c κs = omega (arith, entry-contours c .pre .1 .0)
 
 array-share-prefix-sheet : tie.Need-array-share-prefix-sheet
-array-share-prefix-sheet c = omega (arith, c .before .before .before .before .before .before .before .before .before .before .before .before .before .before .before .before .before .before .before .before .before .before .before .before .before .numbers-at .kept .1 .1 .1 .0, c .before .before .before .before .before .before .before .before .before .before .before .before .before .before .before .before .before .before .before .before .before .before .before .before .before .before .before .before .before .before .before .wide .ensures, c .before .before .before .before .before .before .before .before .before .before .before .before .before .before .before .before .before .before .before .before .before .before .before .before .before .before .before .before .before .before .before .before .before .before .pre .1 .1 .1 .1)
+array-share-prefix-sheet c = let s = c in omega (arith, got-sheet s .numbers-in .kept .1 .1 .1 .0, sizes s .before .before .before .wide .ensures, entry s .pre .1 .1 .1 .1)
 
 slice-aggregate-replay-over : tie.Need-slice-aggregate-replay-over
-slice-aggregate-replay-over c = sym (length-take-le _ _ (omega (arith, c .before .before .before .before .before .before .before .before .before .before .before .before .before .before .before .before .before .before .before .before .before .before .before .before .before .before .numbers-at .kept .1 .1 .1 .0, c .before .before .before .before .before .before .before .before .before .before .before .before .before .before .before .before .before .before .before .before .before .before .before .before .before .before .before .before .before .before .before .before .wide .ensures, c .before .before .before .before .before .before .before .before .before .before .before .before .before .before .before .before .before .before .before .before .before .before .before .before .before .before .before .before .before .before .before .before .before .before .before .pre .1 .1 .1 .1)))
+slice-aggregate-replay-over c = sym (length-take-le _ _ (array-share-prefix-sheet (c .before)))
 
 array-share-prefix-controls : tie.Need-array-share-prefix-controls
-array-share-prefix-controls c = omega (arith, c .before .before .before .before .before .before .before .before .before .before .before .before .before .before .before .before .before .before .before .before .before .before .numbers-at2 .kept .1 .1 .1 .0, c .before .before .before .before .before .before .before .before .before .before .before .before .before .before .before .before .before .before .before .before .before .before .before .before .before .before .before .before .before .before .before .wide2 .ensures, c .before .before .before .before .before .before .before .before .before .before .before .before .before .before .before .before .before .before .before .before .before .before .before .before .before .before .before .before .before .before .before .before .before .before .before .pre .1 .1 .1 .0)
+array-share-prefix-controls c = let s = from-sheet c in omega (arith, got-controls s .numbers-in2 .kept .1 .1 .1 .0, sizes s .before .before .wide2 .ensures, entry s .pre .1 .1 .1 .0)
 
 slice-aggregate-replay-over-2 : tie.Need-slice-aggregate-replay-over-2
-slice-aggregate-replay-over-2 c = sym (length-take-le _ _ (omega (arith, c .before .before .before .before .before .before .before .before .before .before .before .before .before .before .before .before .before .before .before .before .before .before .before .numbers-at2 .kept .1 .1 .1 .0, c .before .before .before .before .before .before .before .before .before .before .before .before .before .before .before .before .before .before .before .before .before .before .before .before .before .before .before .before .before .before .before .before .wide2 .ensures, c .before .before .before .before .before .before .before .before .before .before .before .before .before .before .before .before .before .before .before .before .before .before .before .before .before .before .before .before .before .before .before .before .before .before .before .before .pre .1 .1 .1 .0)))
+slice-aggregate-replay-over-2 c = sym (length-take-le _ _ (array-share-prefix-controls (c .before)))
 
 array-share-prefix-gux : tie.Need-array-share-prefix-gux
-array-share-prefix-gux c = omega (arith, c .before .before .before .before .before .before .before .before .before .before .before .before .before .before .before .before .before .before .before .numbers-at3 .kept .1 .1 .1 .0, c .before .before .before .before .before .before .before .before .before .before .before .before .before .before .before .before .before .before .before .before .before .before .before .before .before .before .before .before .before .before .before .wide3 .ensures, c .before .before .before .before .before .before .before .before .before .before .before .before .before .before .before .before .before .before .before .before .before .before .before .before .before .before .before .before .before .before .before .before .before .before .before .before .pre .0)
+array-share-prefix-gux c = let s = from-controls c in omega (arith, got-gux s .numbers-in3 .kept .1 .1 .1 .0, sizes s .before .wide3 .ensures, entry s .pre .0)
 
 slice-aggregate-replay-over-3 : tie.Need-slice-aggregate-replay-over-3
-slice-aggregate-replay-over-3 c = sym (length-take-le _ _ (omega (arith, c .before .before .before .before .before .before .before .before .before .before .before .before .before .before .before .before .before .before .before .before .numbers-at3 .kept .1 .1 .1 .0, c .before .before .before .before .before .before .before .before .before .before .before .before .before .before .before .before .before .before .before .before .before .before .before .before .before .before .before .before .before .before .before .before .wide3 .ensures, c .before .before .before .before .before .before .before .before .before .before .before .before .before .before .before .before .before .before .before .before .before .before .before .before .before .before .before .before .before .before .before .before .before .before .before .before .before .pre .0)))
+slice-aggregate-replay-over-3 c = sym (length-take-le _ _ (array-share-prefix-gux (c .before)))
 
 array-share-prefix-guy : tie.Need-array-share-prefix-guy
-array-share-prefix-guy c = omega (arith, c .before .before .before .before .before .before .before .before .before .before .before .before .before .before .before .before .numbers-at4 .kept .1 .1 .1 .0, c .before .before .before .before .before .before .before .before .before .before .before .before .before .before .before .before .before .before .before .before .before .before .before .before .before .before .before .before .before .before .before .before .wide3 .ensures, c .before .before .before .before .before .before .before .before .before .before .before .before .before .before .before .before .before .before .before .before .before .before .before .before .before .before .before .before .before .before .before .before .before .before .before .before .before .pre .0)
+array-share-prefix-guy c = let s = from-gux c in omega (arith, got-guy s .numbers-in4 .kept .1 .1 .1 .0, sizes s .before .wide3 .ensures, entry s .pre .0)
 
 slice-aggregate-replay-over-4 : tie.Need-slice-aggregate-replay-over-4
-slice-aggregate-replay-over-4 c = sym (length-take-le _ _ (omega (arith, c .before .before .before .before .before .before .before .before .before .before .before .before .before .before .before .before .before .numbers-at4 .kept .1 .1 .1 .0, c .before .before .before .before .before .before .before .before .before .before .before .before .before .before .before .before .before .before .before .before .before .before .before .before .before .before .before .before .before .before .before .before .before .wide3 .ensures, c .before .before .before .before .before .before .before .before .before .before .before .before .before .before .before .before .before .before .before .before .before .before .before .before .before .before .before .before .before .before .before .before .before .before .before .before .before .before .pre .0)))
+slice-aggregate-replay-over-4 c = sym (length-take-le _ _ (array-share-prefix-guy (c .before)))
 
 array-share-prefix-gox : tie.Need-array-share-prefix-gox
-array-share-prefix-gox c = omega (arith, c .before .before .before .before .before .before .before .before .before .before .before .before .before .numbers-at5 .kept .1 .1 .1 .0, c .before .before .before .before .before .before .before .before .before .before .before .before .before .before .before .before .before .before .before .before .before .before .before .before .before .before .before .before .before .before .before .before .before .wide3 .ensures, c .before .before .before .before .before .before .before .before .before .before .before .before .before .before .before .before .before .before .before .before .before .before .before .before .before .before .before .before .before .before .before .before .before .before .before .before .before .before .pre .0)
+array-share-prefix-gox c = let s = from-guy c in omega (arith, got-gox s .numbers-in5 .kept .1 .1 .1 .0, sizes s .before .wide3 .ensures, entry s .pre .0)
 
 slice-aggregate-replay-over-5 : tie.Need-slice-aggregate-replay-over-5
-slice-aggregate-replay-over-5 c = sym (length-take-le _ _ (omega (arith, c .before .before .before .before .before .before .before .before .before .before .before .before .before .before .numbers-at5 .kept .1 .1 .1 .0, c .before .before .before .before .before .before .before .before .before .before .before .before .before .before .before .before .before .before .before .before .before .before .before .before .before .before .before .before .before .before .before .before .before .before .wide3 .ensures, c .before .before .before .before .before .before .before .before .before .before .before .before .before .before .before .before .before .before .before .before .before .before .before .before .before .before .before .before .before .before .before .before .before .before .before .before .before .before .before .pre .0)))
+slice-aggregate-replay-over-5 c = sym (length-take-le _ _ (array-share-prefix-gox (c .before)))
 
 array-share-prefix-goy : tie.Need-array-share-prefix-goy
-array-share-prefix-goy c = omega (arith, c .before .before .before .before .before .before .before .before .before .before .numbers-at6 .kept .1 .1 .1 .0, c .before .before .before .before .before .before .before .before .before .before .before .before .before .before .before .before .before .before .before .before .before .before .before .before .before .before .before .before .before .before .before .before .before .before .wide3 .ensures, c .before .before .before .before .before .before .before .before .before .before .before .before .before .before .before .before .before .before .before .before .before .before .before .before .before .before .before .before .before .before .before .before .before .before .before .before .before .before .before .pre .0)
+array-share-prefix-goy c = let s = from-gox c in omega (arith, got-goy s .numbers-in6 .kept .1 .1 .1 .0, sizes s .before .wide3 .ensures, entry s .pre .0)
 
 slice-aggregate-replay-over-6 : tie.Need-slice-aggregate-replay-over-6
-slice-aggregate-replay-over-6 c = sym (length-take-le _ _ (omega (arith, c .before .before .before .before .before .before .before .before .before .before .before .numbers-at6 .kept .1 .1 .1 .0, c .before .before .before .before .before .before .before .before .before .before .before .before .before .before .before .before .before .before .before .before .before .before .before .before .before .before .before .before .before .before .before .before .before .before .before .wide3 .ensures, c .before .before .before .before .before .before .before .before .before .before .before .before .before .before .before .before .before .before .before .before .before .before .before .before .before .before .before .before .before .before .before .before .before .before .before .before .before .before .before .before .pre .0)))
+slice-aggregate-replay-over-6 c = sym (length-take-le _ _ (array-share-prefix-goy (c .before)))
 
 array-share-prefix-contours : tie.Need-array-share-prefix-contours
-array-share-prefix-contours c = omega (arith, c .before .before .before .before .before .before .before .ends-at .kept .1 .1 .1 .0, c .before .before .before .before .before .before .before .before .before .before .before .before .before .before .before .before .before .before .before .before .before .before .before .before .before .before .before .before .before .before .before .before .before .before .wide4 .ensures, c .before .before .before .before .before .before .before .before .before .before .before .before .before .before .before .before .before .before .before .before .before .before .before .before .before .before .before .before .before .before .before .before .before .before .before .before .before .before .before .before .pre .1 .0)
+array-share-prefix-contours c = let s = from-goy c in omega (arith, got-contours s .ends-in .kept .1 .1 .1 .0, sizes s .wide4 .ensures, entry s .pre .1 .0)
 
 slice-aggregate-replay-over-7 : tie.Need-slice-aggregate-replay-over-7
-slice-aggregate-replay-over-7 c = sym (length-take-le _ _ (omega (arith, c .before .before .before .before .before .before .before .before .ends-at .kept .1 .1 .1 .0, c .before .before .before .before .before .before .before .before .before .before .before .before .before .before .before .before .before .before .before .before .before .before .before .before .before .before .before .before .before .before .before .before .before .before .before .wide4 .ensures, c .before .before .before .before .before .before .before .before .before .before .before .before .before .before .before .before .before .before .before .before .before .before .before .before .before .before .before .before .before .before .before .before .before .before .before .before .before .before .before .before .before .pre .1 .0)))
+slice-aggregate-replay-over-7 c = sym (length-take-le _ _ (array-share-prefix-contours (c .before)))
 
 replay-over-requires : tie.Need-replay-over-requires
-replay-over-requires c κs = (c .before .before .before .before .before .before .before .before .before .before .before .before .before .before .before .before .before .before .before .before .before .before .before .before .before .before .before .before .before .before .before .before .before .before .before .before .before .before .before .before .before .before .pre .0, c .before .before .before .before .before .before .before .before .before .before .before .before .before .before .before .before .before .before .before .before .before .before .before .before .before .before .before .before .before .before .before .before .before .before .before .before .before .before .before .before .before .before .pre .1 .1 .0)
+replay-over-requires c κs = let s = from-contours (c .before) in (entry s .pre .0, entry s .pre .1 .1 .0)
 
 same-length : tie.Need-same-length
 same-length c = c .before .before .replay-over .kept .1 .1 .1 .1 .1 .1 .1 .1 .1 .0
 
 returns : tie.Need-returns
 returns c =
-    let a = c .before .before .before .before .before .before .before .before .before .before .before .before .before .before .before .before .before .before .before .before .before .before .before .before .before .before .before .before .before .before .before .before .before .before .before .before .before .before .before .before .before .before .before .before .before .args in
-    c .before .before .replay-over .ensures
+    let ran = c .before .before in
+    let s = from-contours (ran .before .before) in
+    let a = entry s .args in
+    ran .replay-over .ensures
     ∙ whole-held (a .l) (now (a .bytes)) (worldIn (now (a .bytes)) (a .l)) (now (a .out))
     (same-fixed
-    (numbers-front (now (a .bytes)) (c .before .before .before .before .before .before .before .before .before .before .before .before .before .before .before .before .before .before .before .before .before .before .before .before .before .before .before .before .before .before .before .before .before .before .at-controls .result) (c .before .before .before .before .before .before .before .before .before .before .before .before .before .before .before .before .before .before .before .before .before .before .before .before .before .before .before .before .before .before .before .before .before .before .before .before .before .before .before .before .before .wide2 .result) _ _ (c .before .before .before .before .before .before .before .before .before .before .before .before .before .before .before .before .before .before .before .before .before .before .before .before .before .before .before .before .before .before .before .before .numbers-at2 .ensures) ∙ ap₂ (λ at n. numbersOf (part (now (a .bytes)) at n)) (c .before .before .before .before .before .before .before .before .before .before .before .before .before .before .before .before .before .before .before .before .before .before .before .before .before .before .before .before .before .before .before .before .before .before .at-controls .ensures) (c .before .before .before .before .before .before .before .before .before .before .before .before .before .before .before .before .before .before .before .before .before .before .before .before .before .before .before .before .before .before .before .before .before .before .before .before .before .before .before .before .before .wide2 .ensures))
-    (numbers-front (now (a .bytes)) (c .before .before .before .before .before .before .before .before .before .before .before .before .before .before .before .before .before .before .before .before .before .before .before .before .before .before .before .before .before .before .at-unscaled-x .result) (c .before .before .before .before .before .before .before .before .before .before .before .before .before .before .before .before .before .before .before .before .before .before .before .before .before .before .before .before .before .before .before .before .before .before .before .before .before .before .before .before .wide3 .result) _ _ (c .before .before .before .before .before .before .before .before .before .before .before .before .before .before .before .before .before .before .before .before .before .before .before .before .before .before .before .before .numbers-at3 .ensures) ∙ ap₂ (λ at n. numbersOf (part (now (a .bytes)) at n)) (c .before .before .before .before .before .before .before .before .before .before .before .before .before .before .before .before .before .before .before .before .before .before .before .before .before .before .before .before .before .before .at-unscaled-x .ensures) (c .before .before .before .before .before .before .before .before .before .before .before .before .before .before .before .before .before .before .before .before .before .before .before .before .before .before .before .before .before .before .before .before .before .before .before .before .before .before .before .before .wide3 .ensures))
-    (numbers-front (now (a .bytes)) (c .before .before .before .before .before .before .before .before .before .before .before .before .before .before .before .before .before .before .before .before .before .before .before .before .before .before .at-unscaled-y .result) (c .before .before .before .before .before .before .before .before .before .before .before .before .before .before .before .before .before .before .before .before .before .before .before .before .before .before .before .before .before .before .before .before .before .before .before .before .before .before .before .before .wide3 .result) _ _ (c .before .before .before .before .before .before .before .before .before .before .before .before .before .before .before .before .before .before .before .before .before .before .before .before .numbers-at4 .ensures) ∙ ap₂ (λ at n. numbersOf (part (now (a .bytes)) at n)) (c .before .before .before .before .before .before .before .before .before .before .before .before .before .before .before .before .before .before .before .before .before .before .before .before .before .before .at-unscaled-y .ensures) (c .before .before .before .before .before .before .before .before .before .before .before .before .before .before .before .before .before .before .before .before .before .before .before .before .before .before .before .before .before .before .before .before .before .before .before .before .before .before .before .before .wide3 .ensures))
-    (numbers-front (now (a .bytes)) (c .before .before .before .before .before .before .before .before .before .before .before .before .before .before .before .before .before .before .before .before .before .before .at-original-x .result) (c .before .before .before .before .before .before .before .before .before .before .before .before .before .before .before .before .before .before .before .before .before .before .before .before .before .before .before .before .before .before .before .before .before .before .before .before .before .before .before .before .wide3 .result) _ _ (c .before .before .before .before .before .before .before .before .before .before .before .before .before .before .before .before .before .before .before .before .numbers-at5 .ensures) ∙ ap₂ (λ at n. numbersOf (part (now (a .bytes)) at n)) (c .before .before .before .before .before .before .before .before .before .before .before .before .before .before .before .before .before .before .before .before .before .before .at-original-x .ensures) (c .before .before .before .before .before .before .before .before .before .before .before .before .before .before .before .before .before .before .before .before .before .before .before .before .before .before .before .before .before .before .before .before .before .before .before .before .before .before .before .before .wide3 .ensures))
-    (numbers-front (now (a .bytes)) (c .before .before .before .before .before .before .before .before .before .before .before .before .before .before .before .before .before .before .at-original-y .result) (c .before .before .before .before .before .before .before .before .before .before .before .before .before .before .before .before .before .before .before .before .before .before .before .before .before .before .before .before .before .before .before .before .before .before .before .before .before .before .before .before .wide3 .result) _ _ (c .before .before .before .before .before .before .before .before .before .before .before .before .before .before .before .before .numbers-at6 .ensures) ∙ ap₂ (λ at n. numbersOf (part (now (a .bytes)) at n)) (c .before .before .before .before .before .before .before .before .before .before .before .before .before .before .before .before .before .before .at-original-y .ensures) (c .before .before .before .before .before .before .before .before .before .before .before .before .before .before .before .before .before .before .before .before .before .before .before .before .before .before .before .before .before .before .before .before .before .before .before .before .before .before .before .before .wide3 .ensures))
-    (ends-front (now (a .bytes)) (c .before .before .before .before .before .before .before .before .before .before .before .before .before .before .at-ends .result) (c .before .before .before .before .before .before .before .before .before .before .before .before .before .before .before .before .before .before .before .before .before .before .before .before .before .before .before .before .before .before .before .before .before .before .before .before .before .before .before .wide4 .result) _ _ (c .before .before .before .before .before .before .before .before .before .before .before .before .ends-at .ensures) ∙ ap₂ (λ at n. endsOf (part (now (a .bytes)) at n)) (c .before .before .before .before .before .before .before .before .before .before .before .before .before .before .at-ends .ensures) (c .before .before .before .before .before .before .before .before .before .before .before .before .before .before .before .before .before .before .before .before .before .before .before .before .before .before .before .before .before .before .before .before .before .before .before .before .before .before .before .wide4 .ensures)))
-    (numbers-front (now (a .bytes)) (c .before .before .before .before .before .before .before .before .before .before .before .before .before .before .before .before .before .before .before .before .before .before .before .before .before .before .before .before .before .before .before .before .before .before .before .before .before .before .at-sheet .result) (c .before .before .before .before .before .before .before .before .before .before .before .before .before .before .before .before .before .before .before .before .before .before .before .before .before .before .before .before .before .before .before .before .before .before .before .before .before .before .before .before .before .before .wide .result) _ _ (c .before .before .before .before .before .before .before .before .before .before .before .before .before .before .before .before .before .before .before .before .before .before .before .before .before .before .before .before .before .before .before .before .before .before .before .before .numbers-at .ensures) ∙ ap₂ (λ at n. numbersOf (part (now (a .bytes)) at n)) (c .before .before .before .before .before .before .before .before .before .before .before .before .before .before .before .before .before .before .before .before .before .before .before .before .before .before .before .before .before .before .before .before .before .before .before .before .before .before .at-sheet .ensures) (c .before .before .before .before .before .before .before .before .before .before .before .before .before .before .before .before .before .before .before .before .before .before .before .before .before .before .before .before .before .before .before .before .before .before .before .before .before .before .before .before .before .before .wide .ensures))
+    (numbers-front (now (a .bytes)) (a .l) 13 _ _ (sizes s .before .before .wide2 .ensures) (got-controls s .numbers-in2 .ensures))
+    (numbers-front (now (a .bytes)) (a .l) 0 _ _ (sizes s .before .wide3 .ensures) (got-gux s .numbers-in3 .ensures))
+    (numbers-front (now (a .bytes)) (a .l) 1 _ _ (sizes s .before .wide3 .ensures) (got-guy s .numbers-in4 .ensures))
+    (numbers-front (now (a .bytes)) (a .l) 2 _ _ (sizes s .before .wide3 .ensures) (got-gox s .numbers-in5 .ensures))
+    (numbers-front (now (a .bytes)) (a .l) 3 _ _ (sizes s .before .wide3 .ensures) (got-goy s .numbers-in6 .ensures))
+    (ends-front (now (a .bytes)) (a .l) 7 _ _ (sizes s .wide4 .ensures) (got-contours s .ends-in .ensures)))
+    (numbers-front (now (a .bytes)) (a .l) 14 _ _ (sizes s .before .before .before .wide .ensures) (got-sheet s .numbers-in .ensures))
     refl
 
 pub replay-whole-spec : {M : Type 1} → statement M
-replay-whole-spec = tie.close (tie.spec wide-requires wide-requires-2 wide-requires-3 wide-requires-4 at-sheet-requires slice-aggregate-numbers-at numbers-at-requires at-controls-requires slice-aggregate-numbers-at-2 numbers-at-requires-2 at-unscaled-x-requires slice-aggregate-numbers-at-3 numbers-at-requires-3 at-unscaled-y-requires slice-aggregate-numbers-at-4 numbers-at-requires-4 at-original-x-requires slice-aggregate-numbers-at-5 numbers-at-requires-5 at-original-y-requires slice-aggregate-numbers-at-6 numbers-at-requires-6 at-ends-requires slice-aggregate-ends-at ends-at-requires array-share-prefix-sheet slice-aggregate-replay-over array-share-prefix-controls slice-aggregate-replay-over-2 array-share-prefix-gux slice-aggregate-replay-over-3 array-share-prefix-guy slice-aggregate-replay-over-4 array-share-prefix-gox slice-aggregate-replay-over-5 array-share-prefix-goy slice-aggregate-replay-over-6 array-share-prefix-contours slice-aggregate-replay-over-7 replay-over-requires same-length returns)
+replay-whole-spec =
+    tie.close
+    (tie.spec
+    wide-requires
+    wide-requires-2
+    wide-requires-3
+    wide-requires-4
+    slice-aggregate-numbers-in
+    numbers-in-requires
+    slice-aggregate-numbers-in-2
+    numbers-in-requires-2
+    slice-aggregate-numbers-in-3
+    numbers-in-requires-3
+    slice-aggregate-numbers-in-4
+    numbers-in-requires-4
+    slice-aggregate-numbers-in-5
+    numbers-in-requires-5
+    slice-aggregate-numbers-in-6
+    numbers-in-requires-6
+    slice-aggregate-ends-in
+    ends-in-requires
+    array-share-prefix-sheet
+    slice-aggregate-replay-over
+    array-share-prefix-controls
+    slice-aggregate-replay-over-2
+    array-share-prefix-gux
+    slice-aggregate-replay-over-3
+    array-share-prefix-guy
+    slice-aggregate-replay-over-4
+    array-share-prefix-gox
+    slice-aggregate-replay-over-5
+    array-share-prefix-goy
+    slice-aggregate-replay-over-6
+    array-share-prefix-contours
+    slice-aggregate-replay-over-7
+    replay-over-requires
+    same-length
+    returns)

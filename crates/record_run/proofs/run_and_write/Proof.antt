@@ -5,6 +5,25 @@ use Rattle.record_run.proofs.Cases.{lists-left, ran-and-written}
 use Rattle.record_run.proofs.run_and_write.Statement.{statement}
 use Rattle.record_run.proofs.run_and_write.Tie as tie
 
+-- ---- the places on the way, the last first
+abbrev written : tie.After-say → tie.After-write
+written c = c .before .before .before
+
+abbrev lent : tie.After-write → tie.After-write-arg3
+lent c = c .before .before .before .before .before .before .before
+
+abbrev kept : tie.After-write-arg3 → tie.After-tx
+kept c = c .before .before .before .before .before .before
+
+abbrev ran : tie.After-say → tie.After-run
+ran c = kept (lent (written c)) .before .before .before .before .before .before .before
+
+abbrev called : tie.After-run → tie.After-run-arg2
+called c = c .before .before .before .before .before .before .before
+
+abbrev entry : tie.After-say → tie.Start
+entry c = called (ran c) .before .before .before .before .before .before
+
 run-requires : tie.Need-run-requires
 run-requires c κs = tt
 
@@ -15,44 +34,42 @@ say-requires : tie.Need-say-requires
 say-requires c κs = tt
 
 same-length : tie.Need-same-length
-same-length c = c .before .before .before .before .before .before .before .before .before .before .before .before .before .before .before .before .before .before .before .before .before .before .before .run .kept .1 .1 .1 .1 .1 .1 .1 .1 .1 .0
+same-length c = ran c .run .kept .1 .1 .1 .1 .1 .1 .1 .1 .1 .0
 
 same-length-2 : tie.Need-same-length-2
-same-length-2 c = c .before .before .before .before .before .before .before .before .before .before .before .before .before .before .before .before .before .before .before .before .before .before .before .run .kept .1 .1 .1 .1 .1 .1 .1 .1 .1 .1 .0
+same-length-2 c = ran c .run .kept .1 .1 .1 .1 .1 .1 .1 .1 .1 .1 .0
 
 same-length-3 : tie.Need-same-length-3
-same-length-3 c = c .before .before .before .before .before .before .before .before .before .before .before .before .before .before .before .before .before .before .before .before .before .before .before .run .kept .1 .1 .1 .1 .1 .1 .1 .1 .1 .1 .1 .0
+same-length-3 c = ran c .run .kept .1 .1 .1 .1 .1 .1 .1 .1 .1 .1 .1 .0
 
 same-length-4 : tie.Need-same-length-4
-same-length-4 c = c .before .before .before .before .before .before .before .before .before .before .before .before .before .before .before .before .before .before .before .before .before .before .before .run .kept .1 .1 .1 .1 .1 .1 .1 .1 .1 .1 .1 .1 .1 .0
+same-length-4 c = ran c .run .kept .1 .1 .1 .1 .1 .1 .1 .1 .1 .1 .1 .1 .1 .0
 
 same-length-5 : tie.Need-same-length-5
-same-length-5 c = c .before .before .before .before .before .before .before .before .before .before .before .before .before .before .before .before .before .before .before .before .before .before .before .run .kept .1 .1 .1 .1 .1 .1 .1 .1 .1 .1 .1 .1 .1 .1 .0
+same-length-5 c = ran c .run .kept .1 .1 .1 .1 .1 .1 .1 .1 .1 .1 .1 .1 .1 .1 .0
 
 same-length-6 : tie.Need-same-length-6
-same-length-6 c = c .before .before .before .before .before .before .before .before .before .before .before .before .before .before .before .before .before .before .before .before .before .before .before .run .kept .1 .1 .1 .1 .1 .1 .1 .1 .1 .1 .1 .1 .1 .1 .1 .0
+same-length-6 c = ran c .run .kept .1 .1 .1 .1 .1 .1 .1 .1 .1 .1 .1 .1 .1 .1 .1 .0
 
 same-length-7 : tie.Need-same-length-7
-same-length-7 c = c .before .before .before .before .before .before .before .before .before .before .before .before .before .before .before .before .before .before .before .before .before .before .before .run .kept .1 .1 .1 .1 .1 .1 .1 .1 .1 .1 .1 .1 .1 .1 .1 .1 .0
+same-length-7 c = ran c .run .kept .1 .1 .1 .1 .1 .1 .1 .1 .1 .1 .1 .1 .1 .1 .1 .1 .0
 
 same-length-8 : tie.Need-same-length-8
-same-length-8 c = c .before .before .before .before .before .before .before .before .before .before .before .before .before .before .before .before .before .before .before .before .before .before .before .run .kept .1 .1 .1 .1 .1 .1 .1 .1 .1 .1 .1 .1 .1 .1 .1 .1 .1 .0
+same-length-8 c = ran c .run .kept .1 .1 .1 .1 .1 .1 .1 .1 .1 .1 .1 .1 .1 .1 .1 .1 .1 .0
 
 same-length-9 : tie.Need-same-length-9
-same-length-9 c = c .before .before .before .write .kept .1 .1 .1 .1 .1 .1 .1 .1 .1 .1 .1 .1 .1 .1 .1 .1 .0
+same-length-9 c = written c .write .kept .1 .1 .1 .1 .1 .1 .1 .1 .1 .1 .1 .1 .1 .1 .1 .1 .0
 
 returns : tie.Need-returns
 returns c =
-    let say = c in
-    let write = say .before .before .before in
-    let run = write .before .before .before .before .before .before .before .before .before .before .before .before .before .before .before .before .before .before .before .before in
-    let args = run .before .before .before .before .before .before .before .before .before .before .before .before .before in
-    let a = args .args in
+    let write = written c in
+    let run = ran c in
+    let a = entry c .args in
     let f = fixed (now (a .controls)) (now (a .gux)) (now (a .guy)) (now (a .gox)) (now (a .goy)) (now (a .contours)) in
     let w = world (a .s) (now (a .gx)) (now (a .gy)) (now (a .gflags)) (now (a .tox)) (now (a .toy)) (now (a .tx)) (now (a .ty)) (now (a .tflags)) in (
       ran-and-written (a .l) f (now (a .sheet)) w (now (a .out)) (run .run .result)
           (run .run .last .1 .1 .1 .1 .1 .1 .1 .1 .1 .0) (run .run .last .1 .1 .1 .1 .1 .1 .1 .1 .1 .1 .0) (run .run .last .1 .1 .1 .1 .1 .1 .1 .1 .1 .1 .1 .0) (run .run .last .1 .1 .1 .1 .1 .1 .1 .1 .1 .1 .1 .1 .1 .0) (run .run .last .1 .1 .1 .1 .1 .1 .1 .1 .1 .1 .1 .1 .1 .1 .0) (run .run .last .1 .1 .1 .1 .1 .1 .1 .1 .1 .1 .1 .1 .1 .1 .1 .0) (run .run .last .1 .1 .1 .1 .1 .1 .1 .1 .1 .1 .1 .1 .1 .1 .1 .1 .0) (run .run .last .1 .1 .1 .1 .1 .1 .1 .1 .1 .1 .1 .1 .1 .1 .1 .1 .1 .0)
-          (run .run .ensures) (write .write .ensures) (say .say .ensures),
+          (run .run .ensures) (write .write .ensures) (c .say .ensures),
       lists-left f (now (a .sheet)) w (run .run .result)
           (run .run .last .1 .1 .1 .1 .1 .1 .1 .1 .1 .0) (run .run .last .1 .1 .1 .1 .1 .1 .1 .1 .1 .1 .0) (run .run .last .1 .1 .1 .1 .1 .1 .1 .1 .1 .1 .1 .0) (run .run .last .1 .1 .1 .1 .1 .1 .1 .1 .1 .1 .1 .1 .1 .0) (run .run .last .1 .1 .1 .1 .1 .1 .1 .1 .1 .1 .1 .1 .1 .1 .0) (run .run .last .1 .1 .1 .1 .1 .1 .1 .1 .1 .1 .1 .1 .1 .1 .1 .0) (run .run .last .1 .1 .1 .1 .1 .1 .1 .1 .1 .1 .1 .1 .1 .1 .1 .1 .0) (run .run .last .1 .1 .1 .1 .1 .1 .1 .1 .1 .1 .1 .1 .1 .1 .1 .1 .1 .0)
           (run .run .ensures),

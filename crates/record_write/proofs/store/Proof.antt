@@ -2,7 +2,7 @@
 use borrow.Author.Needs.{needs}
 use mathlib.Core.Path.{_∙_, ap}
 use denote.Ref.{now}
-use Rattle.record_write.specs.Stored.{withCurrents, withOriginals, withRecord, withSources, withTrailer, withTwilight}
+use Rattle.record_write.specs.Steps.{withCurrents, withOriginals, withRecord, withSources, withTrailer, withTwilight}
 use Rattle.record_write.proofs.store.Statement.{statement}
 use Rattle.record_write.proofs.store.Tie as tie
 

@@ -1,6 +1,6 @@
 -- `record_write::store_trailer` meets its contract. Assumes nothing.
 use mathlib.Core.Path.{ap, _∙_}
-use Rattle.record_write.specs.Stored.{withSum}
+use Rattle.record_write.specs.Steps.{withSum}
 use Rattle.record_write.proofs.store_trailer.Statement.{statement}
 use Rattle.record_write.proofs.store_trailer.Tie as tie
 

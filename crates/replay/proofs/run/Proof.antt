@@ -13,6 +13,19 @@ use Rattle.replay.proofs.Entry.{entered, entered-alike, entry-is, not-e
 use Rattle.replay.proofs.run.Tie as tie
 use Rattle.replay.proofs.run.Statement.{statement}
 
+-- ---- places of the walk, found by their types
+abbrev started : tie.After-sizes-fit → tie.Start
+started z = search
+
+abbrev told : tie.After-needs-table → tie.After-enum-told
+told n = search
+
+abbrev tabled : tie.After-onward-arg8 → tie.After-needs-table
+tabled c = search
+
+abbrev going : tie.After-slice-known4 → tie.After-onward
+going c = search
+
 abbrev entry : tie.Start → World
 entry s =
     world (s .args .s) (now (s .args .gx)) (now (s .args .gy)) (now (s .args .gflags)) (now (s .args .tox)) (now (s .args .toy)) (now (s .args .tx)) (now (s .args .ty)) (now (s .args .tflags))
@@ -45,7 +58,8 @@ slice-aggregate-onward : tie.Need-slice-aggregate-onward
 slice-aggregate-onward c = search needs
 
 onward-requires : tie.Need-onward-requires
-onward-requires c κs = let n = c .before .before .before .before .before .before .before .before .before in let e = c .before .before .before .before .before .before .before .before .before .before in let k = e .before .before in let u = k .before in let z = u .before in let s = z .before .before .before .before .before .before .before .before .before .before .before .before in
+onward-requires c κs = let n = tabled c in let e = told n in let k = e .before .before in let u = k .before in let z = u .before in
+    let s = started z in
     (n .needs-table .ensures, entered-alike (held s) (now (s .args .sheet)) (entry s) (usableState (s .args .s)) (leb (s .args .start) (length (now (s .args .sheet)))) (entry-is (leb (s .args .start) (length (now (s .args .sheet)))) (k .enter .ensures) (z .sizes-fit .ensures) (u .is-usable .ensures)) (e .enum-told .given .1))
 
 same-length : tie.Need-same-length
@@ -73,36 +87,37 @@ same-length-8 : tie.Need-same-length-8
 same-length-8 c = refl
 
 returns : tie.Need-returns
-returns c = let e = c .before .before in let k = e .before .before in let u = k .before in let z = u .before in let s = z .before .before .before .before .before .before .before .before .before .before .before .before in
+returns c = let e = c .before .before in let k = e .before .before in let u = k .before in let z = u .before in let s = started z in
     ap (λ (o : Outcome). ran o (now (s .args .gx)) (now (s .args .gy)) (now (s .args .gflags)) (now (s .args .tox)) (now (s .args .toy)) (now (s .args .tx)) (now (s .args .ty)) (now (s .args .tflags))) (c .at-entry .ensures)
     ∙ not-entered (held s) (now (s .args .sheet)) (s .args .budget) (s .args .start) (entry s) (entry-is (leb (s .args .start) (length (now (s .args .sheet)))) (k .enter .ensures) (z .sizes-fit .ensures) (u .is-usable .ensures)) (e .begun .given .1)
 
 same-length-9 : tie.Need-same-length-9
-same-length-9 c = let k = c .before .before .before .before .before .before .before .before .before .before in k .onward .kept .1 .1 .1 .1 .1 .1 .1 .1 .1 .1 .0
+same-length-9 c = search (going c .onward .kept)
 
 same-length-10 : tie.Need-same-length-10
-same-length-10 c = let k = c .before .before .before .before .before .before .before .before .before .before in k .onward .kept .1 .1 .1 .1 .1 .1 .1 .1 .1 .1 .1 .0
+same-length-10 c = search (going c .onward .kept)
 
 same-length-11 : tie.Need-same-length-11
-same-length-11 c = let k = c .before .before .before .before .before .before .before .before .before .before in k .onward .kept .1 .1 .1 .1 .1 .1 .1 .1 .1 .1 .1 .1 .0
+same-length-11 c = search (going c .onward .kept)
 
 same-length-12 : tie.Need-same-length-12
-same-length-12 c = let k = c .before .before .before .before .before .before .before .before .before .before in k .onward .kept .1 .1 .1 .1 .1 .1 .1 .1 .1 .1 .1 .1 .1 .1 .0
+same-length-12 c = search (going c .onward .kept)
 
 same-length-13 : tie.Need-same-length-13
-same-length-13 c = let k = c .before .before .before .before .before .before .before .before .before .before in k .onward .kept .1 .1 .1 .1 .1 .1 .1 .1 .1 .1 .1 .1 .1 .1 .1 .0
+same-length-13 c = search (going c .onward .kept)
 
 same-length-14 : tie.Need-same-length-14
-same-length-14 c = let k = c .before .before .before .before .before .before .before .before .before .before in k .onward .kept .1 .1 .1 .1 .1 .1 .1 .1 .1 .1 .1 .1 .1 .1 .1 .1 .0
+same-length-14 c = search (going c .onward .kept)
 
 same-length-15 : tie.Need-same-length-15
-same-length-15 c = let k = c .before .before .before .before .before .before .before .before .before .before in k .onward .kept .1 .1 .1 .1 .1 .1 .1 .1 .1 .1 .1 .1 .1 .1 .1 .1 .1 .0
+same-length-15 c = search (going c .onward .kept)
 
 same-length-16 : tie.Need-same-length-16
-same-length-16 c = let k = c .before .before .before .before .before .before .before .before .before .before in k .onward .kept .1 .1 .1 .1 .1 .1 .1 .1 .1 .1 .1 .1 .1 .1 .1 .1 .1 .1 .0
+same-length-16 c = search (going c .onward .kept)
 
 returns-2 : tie.Need-returns-2
-returns-2 c = let r = c .before .before .before .before .before .before .before .before .before .before in let e = r .before .before .before .before .before .before .before .before .before .before .before in let k = e .before .before in let u = k .before in let z = u .before in let s = z .before .before .before .before .before .before .before .before .before .before .before .before in
+returns-2 c = let r = going c in let e = told (tabled (r .before)) in let k = e .before .before in let u = k .before in let z = u .before in
+    let s = started z in
     r .onward .ensures
     ∙ entered (held s) (now (s .args .sheet)) (s .args .budget) (s .args .start) (entry s) (entry-is (leb (s .args .start) (length (now (s .args .sheet)))) (k .enter .ensures) (z .sizes-fit .ensures) (u .is-usable .ensures)) (e .enum-told .given .1)
 

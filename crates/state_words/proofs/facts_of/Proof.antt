@@ -1,7 +1,7 @@
 -- `state_words::facts_of` meets its contract. Assumes nothing.
 use mathlib.Core.Path.{_∙_, ap}
 use borrow.Author.Needs.{needs}
-use Rattle.state_words.specs.Words.{factOf}
+use Rattle.state_words.specs.Words.{factOf, stateOf}
 use Rattle.state_words.proofs.Same.{same-facts}
 use Rattle.state_words.proofs.facts_of.Tie as tie
 use Rattle.state_words.proofs.facts_of.Statement.{statement}
@@ -49,6 +49,7 @@ fact-of-requires-5 : tie.Need-fact-of-requires-5
 fact-of-requires-5 c κs = tt
 
 returns : tie.Need-returns
+unfolding stateOf
 returns c =
     same-facts (c .before .before .before .before .before .before .before .before .fact-of .ensures ∙ ap factOf (c .before .before .before .before .before .before .before .before .before .word .ensures)) (c .before .before .before .before .before .before .fact-of2 .ensures ∙ ap factOf (c .before .before .before .before .before .before .before .word2 .ensures)) (c .before .before .before .before .fact-of3 .ensures ∙ ap factOf (c .before .before .before .before .before .word3 .ensures)) (c .before .before .fact-of4 .ensures ∙ ap factOf (c .before .before .before .word4 .ensures)) (c .fact-of5 .ensures ∙ ap factOf (c .before .word5 .ensures))
 

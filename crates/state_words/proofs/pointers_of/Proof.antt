@@ -1,7 +1,7 @@
 -- `state_words::pointers_of` meets its contract. Assumes nothing.
 use mathlib.Core.Path.{_∙_, ap}
 use borrow.Author.Needs.{needs}
-use Rattle.state_words.specs.Words.{zoneOf}
+use Rattle.state_words.specs.Words.{stateOf, zoneOf}
 use Rattle.state_words.proofs.Same.{same-pointers}
 use Rattle.state_words.proofs.pointers_of.Tie as tie
 use Rattle.state_words.proofs.pointers_of.Statement.{statement}
@@ -31,6 +31,7 @@ zone-of-requires-3 : tie.Need-zone-of-requires-3
 zone-of-requires-3 c κs = tt
 
 returns : tie.Need-returns
+unfolding stateOf
 returns c =
     same-pointers (c .before .before .before .before .zone-of .ensures ∙ ap zoneOf (c .before .before .before .before .before .word .ensures)) (c .before .before .zone-of2 .ensures ∙ ap zoneOf (c .before .before .before .word2 .ensures)) (c .zone-of3 .ensures ∙ ap zoneOf (c .before .word3 .ensures))
 

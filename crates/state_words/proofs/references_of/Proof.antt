@@ -1,5 +1,6 @@
 -- `state_words::references_of` meets its contract. Assumes nothing.
 use borrow.Author.Needs.{needs}
+use Rattle.state_words.specs.Words.{stateOf}
 use Rattle.state_words.proofs.Same.{same-references}
 use Rattle.state_words.proofs.references_of.Tie as tie
 use Rattle.state_words.proofs.references_of.Statement.{statement}
@@ -29,6 +30,7 @@ long-requires-3 : tie.Need-long-requires-3
 long-requires-3 c κs = tt
 
 returns : tie.Need-returns
+unfolding stateOf
 returns c = same-references (c .before .before .long .ensures) (c .before .long2 .ensures) (c .long3 .ensures)
 
 pub references-of-spec : {M : Type 1} → statement M

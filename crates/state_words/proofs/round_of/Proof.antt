@@ -2,7 +2,7 @@
 use mathlib.Core.Path.{_∙_, ap}
 use borrow.Author.Needs.{needs}
 use Rattle.int.proofs.Words.{back32}
-use Rattle.state_words.specs.Words.{modeOf}
+use Rattle.state_words.specs.Words.{modeOf, stateOf}
 use Rattle.state_words.proofs.Same.{same-round}
 use Rattle.state_words.proofs.round_of.Tie as tie
 use Rattle.state_words.proofs.round_of.Statement.{statement}
@@ -32,6 +32,7 @@ number-requires-3 : tie.Need-number-requires-3
 number-requires-3 c κs = tt
 
 returns : tie.Need-returns
+unfolding stateOf
 returns c =
     same-round (c .before .before .before .mode-of .ensures ∙ ap modeOf (c .before .before .before .before .word .ensures)) (back32 (c .before .before .number .result) (c .before .before .number .ok) ∙ c .before .before .number .ensures) (back32 (c .before .number2 .result) (c .before .number2 .ok) ∙ c .before .number2 .ensures) (back32 (c .number3 .result) (c .number3 .ok) ∙ c .number3 .ensures)
 

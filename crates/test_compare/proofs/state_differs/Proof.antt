@@ -2,6 +2,7 @@
 use Prim.Native.Nat.{_-_}
 use native.Mathlib.Omega.{arith}
 use borrow.Author.Needs.{needs}
+use Rattle.state_words.specs.Words.{stateSize}
 use Rattle.test_compare.proofs.state_differs.Statement.{statement}
 use Rattle.test_compare.proofs.state_differs.Tie as tie
 
@@ -9,7 +10,7 @@ abbrev Inv-loop : tie.InvT-loop
 Inv-loop case s differ₀ k₀ differ k = Unit {0}
 
 abbrev μ-loop : tie.MeasureT-loop
-μ-loop case s differ₀ k₀ differ k = 26 - k
+μ-loop case s differ₀ k₀ differ k = stateSize - k
 
 loop-holds : tie.Need-loop-holds Inv-loop μ-loop
 loop-holds c = tt

@@ -1,10 +1,24 @@
--- `test_one_run::agrees_in_glyph` is safe: each list is the part of its array that its length says. Assumes nothing.
-use mathlib.Core.Path.{sym}
-use native.Mathlib.Omega.{arith}
+-- `test_one_run::agrees_in_glyph` is safe: each list is the part of its array that its length says, and a run keeps its length. Assumes nothing.
+use mathlib.Core.Path.{_≡_, subst, sym, _∙_}
+use Prim.Native.Nat.{ℕ, _≤_}
 use lib.Seq.{length-take-le}
+use borrow.Table.Elements.{same-len}
 use borrow.Author.Needs.{needs}
 use Rattle.test_one_run.proofs.agrees_in_glyph.Statement.{statement}
 use Rattle.test_one_run.proofs.agrees_in_glyph.Tie as tie
+
+-- a length within the room is within the list
+within : {n room size : ℕ} → n ≤ room → room ≡ size → n ≤ size
+within {n} h e = subst (λ (k : ℕ). n ≤ k) e h
+
+long-requires : tie.Need-long-requires
+long-requires c κs = search needs
+
+long-requires-2 : tie.Need-long-requires-2
+long-requires-2 c κs = search needs
+
+state-of-requires : tie.Need-state-of-requires
+state-of-requires c κs = search needs
 
 words-of-requires : tie.Need-words-of-requires
 words-of-requires c κs = search needs
@@ -37,37 +51,76 @@ length-of-requires-5 : tie.Need-length-of-requires-5
 length-of-requires-5 c κs = search needs
 
 array-borrow-prefix-tox : tie.Need-array-borrow-prefix-tox
-array-borrow-prefix-tox c = search needs
+array-borrow-prefix-tox c = let n : tie.After-length-of = search in let l : tie.After-words-of = search in within (n .length-of .ensures) (l .words-of .ensures)
 
-slice-aggregate-agrees-over : tie.Need-slice-aggregate-agrees-over
-slice-aggregate-agrees-over c = sym (length-take-le _ _ (omega arith))
+slice-aggregate-run : tie.Need-slice-aggregate-run
+slice-aggregate-run c = let n : tie.After-length-of = search in let l : tie.After-words-of = search in sym (length-take-le _ _ (within (n .length-of .ensures) (l .words-of .ensures)))
 
 array-borrow-prefix-toy : tie.Need-array-borrow-prefix-toy
-array-borrow-prefix-toy c = search needs
+array-borrow-prefix-toy c = let n : tie.After-length-of2 = search in let l : tie.After-words-of2 = search in within (n .length-of2 .ensures) (l .words-of2 .ensures)
 
-slice-aggregate-agrees-over-2 : tie.Need-slice-aggregate-agrees-over-2
-slice-aggregate-agrees-over-2 c = sym (length-take-le _ _ (omega arith))
+slice-aggregate-run-2 : tie.Need-slice-aggregate-run-2
+slice-aggregate-run-2 c = let n : tie.After-length-of2 = search in let l : tie.After-words-of2 = search in sym (length-take-le _ _ (within (n .length-of2 .ensures) (l .words-of2 .ensures)))
 
 array-borrow-prefix-tcx : tie.Need-array-borrow-prefix-tcx
-array-borrow-prefix-tcx c = search needs
+array-borrow-prefix-tcx c = let n : tie.After-length-of3 = search in let l : tie.After-words-of3 = search in within (n .length-of3 .ensures) (l .words-of3 .ensures)
 
-slice-aggregate-agrees-over-3 : tie.Need-slice-aggregate-agrees-over-3
-slice-aggregate-agrees-over-3 c = sym (length-take-le _ _ (omega arith))
+slice-aggregate-run-3 : tie.Need-slice-aggregate-run-3
+slice-aggregate-run-3 c = let n : tie.After-length-of3 = search in let l : tie.After-words-of3 = search in sym (length-take-le _ _ (within (n .length-of3 .ensures) (l .words-of3 .ensures)))
 
 array-borrow-prefix-tcy : tie.Need-array-borrow-prefix-tcy
-array-borrow-prefix-tcy c = search needs
+array-borrow-prefix-tcy c = let n : tie.After-length-of4 = search in let l : tie.After-words-of4 = search in within (n .length-of4 .ensures) (l .words-of4 .ensures)
 
-slice-aggregate-agrees-over-4 : tie.Need-slice-aggregate-agrees-over-4
-slice-aggregate-agrees-over-4 c = sym (length-take-le _ _ (omega arith))
+slice-aggregate-run-4 : tie.Need-slice-aggregate-run-4
+slice-aggregate-run-4 c = let n : tie.After-length-of4 = search in let l : tie.After-words-of4 = search in sym (length-take-le _ _ (within (n .length-of4 .ensures) (l .words-of4 .ensures)))
 
 array-borrow-prefix-tflags : tie.Need-array-borrow-prefix-tflags
-array-borrow-prefix-tflags c = search needs
+array-borrow-prefix-tflags c = let n : tie.After-length-of5 = search in let l : tie.After-flags-of = search in within (n .length-of5 .ensures) (l .flags-of .ensures)
 
-slice-aggregate-agrees-over-5 : tie.Need-slice-aggregate-agrees-over-5
-slice-aggregate-agrees-over-5 c = sym (length-take-le _ _ (omega arith))
+slice-aggregate-run-5 : tie.Need-slice-aggregate-run-5
+slice-aggregate-run-5 c = let n : tie.After-length-of5 = search in let l : tie.After-flags-of = search in sym (length-take-le _ _ (within (n .length-of5 .ensures) (l .flags-of .ensures)))
 
-agrees-over-requires : tie.Need-agrees-over-requires
-agrees-over-requires c κs = search needs
+run-requires : tie.Need-run-requires
+run-requires c κs = search needs
+
+array-share-prefix-tox : tie.Need-array-share-prefix-tox
+array-share-prefix-tox c = let r : tie.After-run = search in let n : tie.After-length-of = search in let l : tie.After-words-of = search in within (n .length-of .ensures) (l .words-of .ensures ∙ sym (same-len (n .length-of .result) (l .words-of .result) (r .run .last .1 .1 .1 .1 .1 .1 .1 .1 .1 .1 .1 .1 .1 .0) (r .run .kept .1 .1 .1 .1 .1 .1 .1 .1 .1 .1 .1 .1 .1 .0)))
+
+slice-aggregate-left-as : tie.Need-slice-aggregate-left-as
+slice-aggregate-left-as c = let r : tie.After-run = search in let n : tie.After-length-of = search in let l : tie.After-words-of = search in sym (length-take-le _ _ (within (n .length-of .ensures) (l .words-of .ensures ∙ sym (same-len (n .length-of .result) (l .words-of .result) (r .run .last .1 .1 .1 .1 .1 .1 .1 .1 .1 .1 .1 .1 .1 .0) (r .run .kept .1 .1 .1 .1 .1 .1 .1 .1 .1 .1 .1 .1 .1 .0)))))
+
+array-share-prefix-toy : tie.Need-array-share-prefix-toy
+array-share-prefix-toy c = let r : tie.After-run = search in let n : tie.After-length-of2 = search in let l : tie.After-words-of2 = search in within (n .length-of2 .ensures) (l .words-of2 .ensures ∙ sym (same-len (n .length-of2 .result) (l .words-of2 .result) (r .run .last .1 .1 .1 .1 .1 .1 .1 .1 .1 .1 .1 .1 .1 .1 .0) (r .run .kept .1 .1 .1 .1 .1 .1 .1 .1 .1 .1 .1 .1 .1 .1 .0)))
+
+slice-aggregate-left-as-2 : tie.Need-slice-aggregate-left-as-2
+slice-aggregate-left-as-2 c = let r : tie.After-run = search in let n : tie.After-length-of2 = search in let l : tie.After-words-of2 = search in sym (length-take-le _ _ (within (n .length-of2 .ensures) (l .words-of2 .ensures ∙ sym (same-len (n .length-of2 .result) (l .words-of2 .result) (r .run .last .1 .1 .1 .1 .1 .1 .1 .1 .1 .1 .1 .1 .1 .1 .0) (r .run .kept .1 .1 .1 .1 .1 .1 .1 .1 .1 .1 .1 .1 .1 .1 .0)))))
+
+array-share-prefix-tcx : tie.Need-array-share-prefix-tcx
+array-share-prefix-tcx c = let r : tie.After-run = search in let n : tie.After-length-of3 = search in let l : tie.After-words-of3 = search in within (n .length-of3 .ensures) (l .words-of3 .ensures ∙ sym (same-len (n .length-of3 .result) (l .words-of3 .result) (r .run .last .1 .1 .1 .1 .1 .1 .1 .1 .1 .1 .1 .1 .1 .1 .1 .0) (r .run .kept .1 .1 .1 .1 .1 .1 .1 .1 .1 .1 .1 .1 .1 .1 .1 .0)))
+
+slice-aggregate-left-as-3 : tie.Need-slice-aggregate-left-as-3
+slice-aggregate-left-as-3 c = let r : tie.After-run = search in let n : tie.After-length-of3 = search in let l : tie.After-words-of3 = search in sym (length-take-le _ _ (within (n .length-of3 .ensures) (l .words-of3 .ensures ∙ sym (same-len (n .length-of3 .result) (l .words-of3 .result) (r .run .last .1 .1 .1 .1 .1 .1 .1 .1 .1 .1 .1 .1 .1 .1 .1 .0) (r .run .kept .1 .1 .1 .1 .1 .1 .1 .1 .1 .1 .1 .1 .1 .1 .1 .0)))))
+
+array-share-prefix-tcy : tie.Need-array-share-prefix-tcy
+array-share-prefix-tcy c = let r : tie.After-run = search in let n : tie.After-length-of4 = search in let l : tie.After-words-of4 = search in within (n .length-of4 .ensures) (l .words-of4 .ensures ∙ sym (same-len (n .length-of4 .result) (l .words-of4 .result) (r .run .last .1 .1 .1 .1 .1 .1 .1 .1 .1 .1 .1 .1 .1 .1 .1 .1 .0) (r .run .kept .1 .1 .1 .1 .1 .1 .1 .1 .1 .1 .1 .1 .1 .1 .1 .1 .0)))
+
+slice-aggregate-left-as-4 : tie.Need-slice-aggregate-left-as-4
+slice-aggregate-left-as-4 c = let r : tie.After-run = search in let n : tie.After-length-of4 = search in let l : tie.After-words-of4 = search in sym (length-take-le _ _ (within (n .length-of4 .ensures) (l .words-of4 .ensures ∙ sym (same-len (n .length-of4 .result) (l .words-of4 .result) (r .run .last .1 .1 .1 .1 .1 .1 .1 .1 .1 .1 .1 .1 .1 .1 .1 .1 .0) (r .run .kept .1 .1 .1 .1 .1 .1 .1 .1 .1 .1 .1 .1 .1 .1 .1 .1 .0)))))
+
+array-share-prefix-tflags : tie.Need-array-share-prefix-tflags
+array-share-prefix-tflags c = let r : tie.After-run = search in let n : tie.After-length-of5 = search in let l : tie.After-flags-of = search in within (n .length-of5 .ensures) (l .flags-of .ensures ∙ sym (same-len (n .length-of5 .result) (l .flags-of .result) (r .run .last .1 .1 .1 .1 .1 .1 .1 .1 .1 .1 .1 .1 .1 .1 .1 .1 .1 .0) (r .run .kept .1 .1 .1 .1 .1 .1 .1 .1 .1 .1 .1 .1 .1 .1 .1 .1 .1 .0)))
+
+slice-aggregate-left-as-5 : tie.Need-slice-aggregate-left-as-5
+slice-aggregate-left-as-5 c = let r : tie.After-run = search in let n : tie.After-length-of5 = search in let l : tie.After-flags-of = search in sym (length-take-le _ _ (within (n .length-of5 .ensures) (l .flags-of .ensures ∙ sym (same-len (n .length-of5 .result) (l .flags-of .result) (r .run .last .1 .1 .1 .1 .1 .1 .1 .1 .1 .1 .1 .1 .1 .1 .1 .1 .1 .0) (r .run .kept .1 .1 .1 .1 .1 .1 .1 .1 .1 .1 .1 .1 .1 .1 .1 .1 .1 .0)))))
+
+left-as-requires : tie.Need-left-as-requires
+left-as-requires c κs = search needs
+
+of-outcome-requires : tie.Need-of-outcome-requires
+of-outcome-requires c κs = search needs
+
+agrees-requires : tie.Need-agrees-requires
+agrees-requires c κs = search needs
 
 same-length : tie.Need-same-length
 same-length c = search needs
@@ -85,6 +138,9 @@ pub agrees-in-glyph-spec : {M : Type 1} → statement M
 agrees-in-glyph-spec =
     tie.close
     (tie.spec
+    long-requires
+    long-requires-2
+    state-of-requires
     words-of-requires
     words-of-requires-2
     words-of-requires-3
@@ -96,16 +152,29 @@ agrees-in-glyph-spec =
     length-of-requires-4
     length-of-requires-5
     array-borrow-prefix-tox
-    slice-aggregate-agrees-over
+    slice-aggregate-run
     array-borrow-prefix-toy
-    slice-aggregate-agrees-over-2
+    slice-aggregate-run-2
     array-borrow-prefix-tcx
-    slice-aggregate-agrees-over-3
+    slice-aggregate-run-3
     array-borrow-prefix-tcy
-    slice-aggregate-agrees-over-4
+    slice-aggregate-run-4
     array-borrow-prefix-tflags
-    slice-aggregate-agrees-over-5
-    agrees-over-requires
+    slice-aggregate-run-5
+    run-requires
+    array-share-prefix-tox
+    slice-aggregate-left-as
+    array-share-prefix-toy
+    slice-aggregate-left-as-2
+    array-share-prefix-tcx
+    slice-aggregate-left-as-3
+    array-share-prefix-tcy
+    slice-aggregate-left-as-4
+    array-share-prefix-tflags
+    slice-aggregate-left-as-5
+    left-as-requires
+    of-outcome-requires
+    agrees-requires
     same-length
     same-length-2
     same-length-3

@@ -1,28 +1,24 @@
--- `test_compare::words_differ` is safe and ends: each turn passes one element. Assumes nothing.
+-- `test_compare::list_differs` is safe and ends: each turn passes one element. Assumes nothing.
 use Prim.Native.Nat.{_-_}
 use native.Mathlib.Omega.{arith}
 use borrow.Author.Needs.{needs}
-use lib.ListN.{length}
-use Rattle.test_compare.proofs.words_differ.Statement.{statement}
-use Rattle.test_compare.proofs.words_differ.Tie as tie
+use Rattle.test_compare.proofs.list_differs.Statement.{statement}
+use Rattle.test_compare.proofs.list_differs.Tie as tie
 
 abbrev Inv-loop : tie.InvT-loop
-Inv-loop case p list differ₀ j₀ differ j = Unit {0}
+Inv-loop case p words flags n differ₀ j₀ differ j = Unit {0}
 
 abbrev μ-loop : tie.MeasureT-loop
-μ-loop case p list differ₀ j₀ differ j = length list - j
+μ-loop case p words flags n differ₀ j₀ differ j = n - j
+
+longer-requires : tie.Need-longer-requires Inv-loop μ-loop
+longer-requires c κs = tt
 
 loop-holds : tie.Need-loop-holds Inv-loop μ-loop
 loop-holds c = tt
 
-mul-to-bits : tie.Need-mul-to-bits Inv-loop μ-loop
-mul-to-bits c = search needs
-
-shared-slice-copy-out-to-bits : tie.Need-shared-slice-copy-out-to-bits Inv-loop μ-loop
-shared-slice-copy-out-to-bits c = search needs
-
-to-bits-requires : tie.Need-to-bits-requires Inv-loop μ-loop
-to-bits-requires c κs = tt
+bits-at-requires : tie.Need-bits-at-requires Inv-loop μ-loop
+bits-at-requires c κs = tt
 
 element-requires : tie.Need-element-requires Inv-loop μ-loop
 element-requires c κs = tt
@@ -42,16 +38,15 @@ loop-again c = tt
 returns : tie.Need-returns Inv-loop μ-loop
 returns c = tt
 
-pub words-differ-spec : {M : Type 1} → statement M
-words-differ-spec =
+pub list-differs-spec : {M : Type 1} → statement M
+list-differs-spec =
     tie.close
     (tie.spec
     Inv-loop
     μ-loop
+    longer-requires
     loop-holds
-    mul-to-bits
-    shared-slice-copy-out-to-bits
-    to-bits-requires
+    bits-at-requires
     element-requires
     after-requires
     add-j

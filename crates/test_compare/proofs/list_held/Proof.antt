@@ -1,15 +1,15 @@
--- `test_compare::words_held` is safe and ends: each turn passes one element. Assumes nothing.
+-- `test_compare::list_held` is safe and ends: each turn passes one element. Assumes nothing.
 use Prim.Native.Nat.{_-_}
 use native.Mathlib.Omega.{arith}
 use borrow.Author.Needs.{needs}
-use Rattle.test_compare.proofs.words_held.Statement.{statement}
-use Rattle.test_compare.proofs.words_held.Tie as tie
+use Rattle.test_compare.proofs.list_held.Statement.{statement}
+use Rattle.test_compare.proofs.list_held.Tie as tie
 
 abbrev Inv-loop : tie.InvT-loop
-Inv-loop case p list changes at₀ held₀ k₀ at held k = Unit {0}
+Inv-loop case p words flags changes at₀ held₀ k₀ at held k = Unit {0}
 
 abbrev μ-loop : tie.MeasureT-loop
-μ-loop case p list changes at₀ held₀ k₀ at held k = changes - k
+μ-loop case p words flags changes at₀ held₀ k₀ at held k = changes - k
 
 word-requires : tie.Need-word-requires Inv-loop μ-loop
 word-requires c κs = tt
@@ -35,8 +35,8 @@ after-requires c κs = tt
 word-requires-3 : tie.Need-word-requires-3 Inv-loop μ-loop
 word-requires-3 c κs = tt
 
-word-is-requires : tie.Need-word-is-requires Inv-loop μ-loop
-word-is-requires c κs = tt
+change-is-requires : tie.Need-change-is-requires Inv-loop μ-loop
+change-is-requires c κs = tt
 
 after-requires-2 : tie.Need-after-requires-2 Inv-loop μ-loop
 after-requires-2 c κs = tt
@@ -56,8 +56,8 @@ loop-again c = tt
 returns : tie.Need-returns Inv-loop μ-loop
 returns c = tt
 
-pub words-held-spec : {M : Type 1} → statement M
-words-held-spec =
+pub list-held-spec : {M : Type 1} → statement M
+list-held-spec =
     tie.close
     (tie.spec
     Inv-loop
@@ -70,7 +70,7 @@ words-held-spec =
     wide-requires-2
     after-requires
     word-requires-3
-    word-is-requires
+    change-is-requires
     after-requires-2
     after-requires-3
     add-k

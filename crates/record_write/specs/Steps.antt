@@ -1,13 +1,13 @@
--- A record stored part by part over bytes, each part at its place of the layout: document 02, K4. These are the writer's steps; what a
--- reader must believe is `recordOf` of the crate record_read, and proofs/Joined.antt proves that they come to it. Assumes nothing.
-use Prim.Native.Nat.{ℕ}
+-- A record stored part by part over bytes, each part at its place of the layout: the writer's steps, that only private functions are held to. Nobody
+-- need believe them: proofs/Joined.antt proves that they come to `recordOf` of the crate record_read. Assumes nothing.
+use Prim.Native.Nat.{ℕ, _+_}
 use mathlib.Core.List.{List, [], _∷_}
 use lib.IntN.{ℤ}
 use Rattle.graphics.specs.declared.GraphicsState.{GraphicsState}
 use Rattle.state_words.specs.Words.{stateWords}
 use Rattle.words.specs.Lists.{part, wrappingSum, placed, wordsOfNumbers}
 use Rattle.record_layout.specs.declared.Layout.{Layout}
-use Rattle.record_layout.specs.Order.{sumPlace, atUnscaledX, atUnscaledY, atOriginalX, atOriginalY, atCurrentX, atCurrentY, atFlags, atEnds, atTwilightOriginalX, atTwilightOriginalY, atTwilightX, atTwilightY, atTwilightFlags, atControls, atSheet, atTrailer}
+use Rattle.record_layout.specs.Order.{atTrailer, placeOf}
 use Rattle.record_read.specs.Format.{Held, trailerWords}
 
 -- the state's words over the first words of a byte string
@@ -18,6 +18,10 @@ withState s bytes = placed 0 (stateWords s) bytes
 abbrev pub withCounts : Layout → List ℕ → List ℕ
 withCounts l bytes = placed (atTrailer l) (trailerWords l) bytes
 
+-- the trailer's last word
+abbrev pub sumPlace : Layout → ℕ
+sumPlace l = atTrailer l + 7
+
 abbrev pub withSum : Layout → List ℕ → List ℕ
 withSum l bytes = placed (sumPlace l) (wrappingSum (part bytes 0 (sumPlace l)) ∷ []) bytes
 
@@ -26,26 +30,26 @@ withTrailer l bytes = withSum l (withCounts l bytes)
 
 -- control values, then the sheet
 unfoldable pub withSources : Layout → List ℤ → List ℤ → List ℕ → List ℕ
-withSources l controls sheet bytes = placed (atSheet l) (wordsOfNumbers sheet) (placed (atControls l) (wordsOfNumbers controls) bytes)
+withSources l controls sheet bytes = placed (placeOf l 14) (wordsOfNumbers sheet) (placed (placeOf l 13) (wordsOfNumbers controls) bytes)
 
 -- twilight original x and y, current x and y, flags
 unfoldable pub withTwilight : Layout → List ℤ → List ℤ → List ℤ → List ℤ → List ℕ → List ℕ → List ℕ
 withTwilight l ox oy x y flags bytes =
-    placed (atTwilightFlags l) flags
-    (placed (atTwilightY l) (wordsOfNumbers y)
-    (placed (atTwilightX l) (wordsOfNumbers x)
-    (placed (atTwilightOriginalY l) (wordsOfNumbers oy) (placed (atTwilightOriginalX l) (wordsOfNumbers ox) bytes))))
+    placed (placeOf l 12) flags
+    (placed (placeOf l 11) (wordsOfNumbers y)
+    (placed (placeOf l 10) (wordsOfNumbers x)
+    (placed (placeOf l 9) (wordsOfNumbers oy) (placed (placeOf l 8) (wordsOfNumbers ox) bytes))))
 
 -- glyph unscaled and original x and y
 unfoldable pub withOriginals : Layout → List ℤ → List ℤ → List ℤ → List ℤ → List ℕ → List ℕ
 withOriginals l ux uy ox oy bytes =
-    placed (atOriginalY l) (wordsOfNumbers oy)
-    (placed (atOriginalX l) (wordsOfNumbers ox) (placed (atUnscaledY l) (wordsOfNumbers uy) (placed (atUnscaledX l) (wordsOfNumbers ux) bytes)))
+    placed (placeOf l 3) (wordsOfNumbers oy)
+    (placed (placeOf l 2) (wordsOfNumbers ox) (placed (placeOf l 1) (wordsOfNumbers uy) (placed (placeOf l 0) (wordsOfNumbers ux) bytes)))
 
 -- glyph current x and y, flags, contours
 unfoldable pub withCurrents : Layout → List ℤ → List ℤ → List ℕ → List ℕ → List ℕ → List ℕ
 withCurrents l x y flags ends bytes =
-    placed (atEnds l) ends (placed (atFlags l) flags (placed (atCurrentY l) (wordsOfNumbers y) (placed (atCurrentX l) (wordsOfNumbers x) bytes)))
+    placed (placeOf l 7) ends (placed (placeOf l 6) flags (placed (placeOf l 5) (wordsOfNumbers y) (placed (placeOf l 4) (wordsOfNumbers x) bytes)))
 
 -- the whole record, its trailer last
 unfoldable pub withRecord : Layout → Held → List ℕ → List ℕ
