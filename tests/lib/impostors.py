@@ -85,8 +85,10 @@ def refusals(log):
 
 PAGE_HEAD = """# Impostors
 
-Wrong replayers that the prover must refuse, each with the rule that it breaks and the declaration that refuses it: the gate applies the edits of `crates/CRATE/must-fail/` to a copy of the crate,
-and `tests/after-proofs/impostors` holds the prover's log to this list. [PROMISES.md](PROMISES.md) says which promise each belongs to. Written by `tests/by-hand/impostors-page`.
+Wrong replayers that the prover must refuse, each with the rule that it breaks and the declaration that
+refuses it: the gate applies the edits of `crates/CRATE/must-fail/` to a copy of the crate, and
+`tests/after-proofs/impostors` holds the prover's log to this list. [PROMISES.md](PROMISES.md) says which
+promise each belongs to. Written by `tests/by-hand/impostors-page`.
 
 | crate | impostor | the rule | refused at |
 |---|---|---|---|

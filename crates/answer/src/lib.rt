@@ -29,7 +29,7 @@ pub enum Refusal {
     Range(u64),
     // A contour that its zone hasn't, where the state is pedantic.
     Contour(u64),
-    // SHPIX under backward compatibility.
+    // A line that backward compatibility shuts out.
     Compatibility,
 }
 

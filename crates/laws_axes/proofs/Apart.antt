@@ -26,7 +26,7 @@ use Rattle.graphics.specs.State.{allAlong, usableState, xAxis, yAxis}
 use Rattle.graphics.proofs.Laws.{and-left, and-right}
 use Rattle.zone.specs.Sizes.{glyphFits, pairFits, placedFits, twilightFits}
 use Rattle.laws_axes.proofs.Seen.{x-length, y-length}
-use Rattle.laws_axes.proofs.RunSteps.{step-straight, steps-alike}
+use Rattle.laws_axes.proofs.RunSteps.{free-here, step-straight, steps-alike}
 
 module _ (a : Axis) (f g : Fixed) (sheet : List ℤ) (ef : fixedSeen a f ≡ fixedSeen a g) where
   same-ends : (answer : Answer) (n place place' : ℕ) (w v : World) → place ≡ place' → worldSeen a w ≡ worldSeen a v
@@ -66,10 +66,6 @@ module _ (a : Axis) (f g : Fixed) (sheet : List ℤ) (ef : fixedSeen a f ≡ fix
       (step-straight a f sheet at w e m)
       (and-right (not (mixes a (opcodeAt sheet at))) _ free))
 
-  pub free-here : (t : Bool) (op : ℕ) (ops : List ℕ) → t ≡ true → none (mixes a) (cond t (op ∷ ops) []) ≡ true → not (mixes a op) && none (mixes a) ops ≡ true
-  free-here true op ops e free = free
-  free-here false op ops e free = cc e
-
   pub replays-apart : (b n at : ℕ) (w v : World) → worldSeen a w ≡ worldSeen a v → Straight a (w .state) → none (mixes a) (reachedFrom f sheet b at w) ≡ true
       → SameAlong a (replayOf f sheet b n at w) (replayOf g sheet b n at v)
   unfolding replayOf reachedFrom
@@ -77,7 +73,7 @@ module _ (a : Axis) (f g : Fixed) (sheet : List ℤ) (ef : fixedSeen a f ≡ fix
       same-by-test (ltb at (length sheet)) _ _ _ _ (λ _. same-ends OutOfBudget n at at w v refl ew) (same-ends Finished n at at w v refl ew)
   replays-apart (suc b) n at w v ew e free =
       same-by-test (ltb at (length sheet)) _ _ _ _
-      (λ here. turn b n at w v (λ p x y. replays-apart b (suc n) p x y) ew e (free-here (ltb at (length sheet)) _ _ here free))
+      (λ here. turn b n at w v (λ p x y. replays-apart b (suc n) p x y) ew e (free-here (mixes a) (ltb at (length sheet)) _ _ here free))
       (same-ends Finished n at at w v refl ew)
 
 -- ---- the entry

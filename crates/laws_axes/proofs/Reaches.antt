@@ -16,8 +16,8 @@ use Rattle.graphics.proofs.Laws.{and-left, and-right}
 use Rattle.run_step.specs.Step.{Went, stepOf}
 use Rattle.line.specs.World.{Fixed, World}
 use Rattle.laws_axes.specs.Reached.{afterCall, afterLine, entered, linesReached, none, onEntry, opcodeAt, reachedFrom}
-use Rattle.laws_axes.proofs.Apart.{entry-alike, free-here}
-use Rattle.laws_axes.proofs.RunSteps.{step-straight, steps-alike}
+use Rattle.laws_axes.proofs.Apart.{entry-alike}
+use Rattle.laws_axes.proofs.RunSteps.{free-here, step-straight, steps-alike}
 
 module _ (a : Axis) (f g : Fixed) (sheet : List ℤ) (ef : fixedSeen a f ≡ fixedSeen a g) where
   -- the lines from any place on, with this budget, are the same
@@ -55,7 +55,7 @@ module _ (a : Axis) (f g : Fixed) (sheet : List ℤ) (ef : fixedSeen a f ≡ fix
   same-from zero at w v ew e free = refl
   same-from (suc b) at w v ew e free =
       by-test (ltb at (length sheet)) (opcodeAt sheet at) _ _
-      (λ here. turn b at w v (same-from b) ew e (free-here a f g sheet ef (ltb at (length sheet)) _ _ here free))
+      (λ here. turn b at w v (same-from b) ew e (free-here (mixes a) (ltb at (length sheet)) _ _ here free))
 
   on-entry : (b start : ℕ) (w v : World) → worldSeen a w ≡ worldSeen a v → Straight a (w .state) → (call : Call)
       → none (mixes a) (onEntry (reachedFrom f sheet b start w) call) ≡ true

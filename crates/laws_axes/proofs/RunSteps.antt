@@ -1,7 +1,7 @@
 -- One line of a sheet seen along an axis: what is read off the sheet hangs on the sheet and the loop counter, and the line that is read is the one whose
 -- opcode stands there. Assumes nothing.
-use mathlib.Core.Bool.{false}
-use mathlib.Core.List.{List}
+use mathlib.Core.Bool.{Bool, _&&_, cond, false, not, true}
+use mathlib.Core.List.{List, [], _∷_}
 use Prim.Native.Nat.{_+_, _-_, ℕ}
 use mathlib.Core.Path.{_∙_, _≡_, ap, ap₂, refl, sym}
 use lib.ListN.{drop, getD, length, take}
@@ -9,19 +9,19 @@ use lib.Dec.{eqb, ltb}
 use lib.IntN.{pos, ℤ}
 use Rattle.flags.specs.declared.Axis.{Axis}
 use Rattle.opcodes.specs.declared.Decoded.{Decoded}
-use Rattle.line.specs.World.{Fixed, World, world}
+use Rattle.line.specs.World.{Fixed, World}
 use Rattle.opcodes.specs.declared.Decoded.the-variants.{Operands, Refused as RefusedLine}
 use Rattle.answer.specs.declared.Refusal.{Refusal}
 use Rattle.answer.specs.declared.Refusal.the-variants.{Line, Surplus}
 use Rattle.answer.specs.declared.Call.the-variants.{Refused as RefusedCall}
-use Rattle.laws_axes.specs.Axes.{Straight, fixedSeen, mixes, worldSeen, xSeen, ySeen}
+use Rattle.laws_axes.specs.Axes.{Straight, fixedSeen, mixes, worldSeen}
 use Rattle.run_step.specs.Step.{Went, landedIn, onDecoded, stepOf}
 use Rattle.opcodes.specs.Decode.{decodeBy, decodeOf}
 use Rattle.opcodes.specs.Table.{needOf, operandsOf, rowOf, unknown}
 use Rattle.int.specs.Word.{indexOf}
 use Rattle.laws_axes.proofs.Table.{line-seen, line-straight}
-use Rattle.laws_axes.specs.Reached.{opcodeAt}
-use Rattle.laws_axes.proofs.Seen.{x-again, y-again}
+use Rattle.laws_axes.specs.Reached.{none, opcodeAt}
+use Rattle.laws_axes.proofs.Steps.{world-again}
 use Rattle.int.proofs.Tests.{either}
 
 -- ---- the opcode that is read
@@ -57,24 +57,12 @@ all-named sheet counter at =
 abbrev pub wentSeen : Axis → Went → Went
 wentSeen a g = record { call = g .call; place = g .place; world = worldSeen a (g .world) }
 
-world-again : (a : Axis) (w : World) → worldSeen a (worldSeen a w) ≡ worldSeen a w
-world-again a w =
-    ap₂ (λ (u v : List ℤ). world (w .state) u v (w .gflags) (xSeen a (xSeen a (w .tox))) (ySeen a (ySeen a (w .toy))) (xSeen a (xSeen a (w .tx))) (ySeen a (ySeen a (w .ty))) (w .tflags))
-    (x-again a (w .gx))
-    (y-again a (w .gy))
-    ∙ ap₂ (λ (u v : List ℤ). world (w .state) (xSeen a (w .gx)) (ySeen a (w .gy)) (w .gflags) u v (xSeen a (xSeen a (w .tx))) (ySeen a (ySeen a (w .ty))) (w .tflags))
-    (x-again a (w .tox))
-    (y-again a (w .toy))
-    ∙ ap₂ (λ (u v : List ℤ). world (w .state) (xSeen a (w .gx)) (ySeen a (w .gy)) (w .gflags) (xSeen a (w .tox)) (ySeen a (w .toy)) u v (w .tflags))
-    (x-again a (w .tx))
-    (y-again a (w .ty))
-
 on-seen : (a : Axis) (f : Fixed) (sheet : List ℤ) (at : ℕ) (w : World) → Straight a (w .state) → (op : ℕ) → mixes a op ≡ false → (d : Decoded) → Named op d
     → wentSeen a (onDecoded (fixedSeen a f) sheet at (worldSeen a w) d) ≡ wentSeen a (onDecoded f sheet at w d)
 unfolding onDecoded Named
 on-seen a f sheet at w e op m (Operands read first end) n =
     ap (landedIn at end) (line-seen a f read (take (end - first) (drop first sheet)) w e (ap (mixes a) n ∙ m))
-on-seen a f sheet at w e op m (RefusedLine why) n = ap (λ (v : World). record { call = RefusedCall why; place = at; world = v }) (world-again a w)
+on-seen a f sheet at w e op m (RefusedLine why) n = ap (λ (v : World). record { call = RefusedCall why; place = at; world = v }) (world-again a w .seen)
 
 pub step-seen : (a : Axis) (f : Fixed) (sheet : List ℤ) (at : ℕ) (w : World) → Straight a (w .state) → mixes a (opcodeAt sheet at) ≡ false
     → wentSeen a (stepOf (fixedSeen a f) sheet at (worldSeen a w)) ≡ wentSeen a (stepOf f sheet at w)
@@ -102,3 +90,8 @@ steps-alike a f g sheet at w v ef ew e m =
     sym (step-seen a f sheet at w e m)
     ∙ ap₂ (λ (x : Fixed) (y : World). wentSeen a (stepOf x sheet at y)) ef ew
     ∙ step-seen a g sheet at v (sym (ap (λ (y : World). y .state .vectors) ew) ∙ e) m
+
+-- what a run reaches where it has a line to do: none of a kind is reached, so the line is none of it, and nor are those behind it
+pub free-here : (P : ℕ → Bool) (t : Bool) (op : ℕ) (ops : List ℕ) → t ≡ true → none P (cond t (op ∷ ops) []) ≡ true → not (P op) && none P ops ≡ true
+free-here P true op ops e free = free
+free-here P false op ops e free = cc e

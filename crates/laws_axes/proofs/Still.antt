@@ -27,7 +27,7 @@ use Rattle.graphics.proofs.Laws.{and-left, and-right}
 use Rattle.flags.specs.Flag.{bit}
 use Rattle.opcodes.specs.Decode.{decodeOf}
 use Rattle.laws_axes.proofs.Table.{line-still, or-left, or-right}
-use Rattle.laws_axes.proofs.RunSteps.{Named, all-named, step-straight}
+use Rattle.laws_axes.proofs.RunSteps.{Named, all-named, free-here, step-straight}
 
 -- a line that looks or works across the axis
 abbrev pub worksAcross : Axis → ℕ → Bool
@@ -73,10 +73,6 @@ module _ (a : Axis) (f : Fixed) (sheet : List ℤ) where
       (step-straight a f sheet at w e (or-left (mixes a (opcodeAt sheet at)) (interpolatesAcross a (opcodeAt sheet at)) m))
       (and-right (not (worksAcross a (opcodeAt sheet at))) _ free)
 
-  free-here : (t : Bool) (op : ℕ) (ops : List ℕ) → t ≡ true → none (worksAcross a) (cond t (op ∷ ops) []) ≡ true → not (worksAcross a op) && none (worksAcross a) ops ≡ true
-  free-here true op ops e free = free
-  free-here false op ops e free = cc e
-
   replay-still : (b n at : ℕ) (w : World) → Straight a (w .state) → none (worksAcross a) (reachedFrom f sheet b at w) ≡ true
       → StillSince a w (replayOf f sheet b n at w .world)
   unfolding replayOf reachedFrom
@@ -84,7 +80,7 @@ module _ (a : Axis) (f : Fixed) (sheet : List ℤ) where
       by-test w (ltb at (length sheet)) _ _ (λ _. stays a (w .gx) (w .gy) (w .gflags)) (stays a (w .gx) (w .gy) (w .gflags))
   replay-still (suc b) n at w e free =
       by-test w (ltb at (length sheet)) _ _
-      (λ here. turn b n at w (λ p x. replay-still b (suc n) p x) e (free-here (ltb at (length sheet)) _ _ here free))
+      (λ here. turn b n at w (λ p x. replay-still b (suc n) p x) e (free-here (worksAcross a) (ltb at (length sheet)) _ _ here free))
       (stays a (w .gx) (w .gy) (w .gflags))
 
 entry-still : (a : Axis) (f : Fixed) (sheet : List ℤ) (budget start : ℕ) (w : World) → Straight a (w .state) → (call : Call)

@@ -6,7 +6,7 @@ use native.Mathlib.Omega.{arith}
 use lib.ListN.{getD, length}
 use Rattle.int.specs.Word.{ofBits}
 use Rattle.state_words.specs.Words.{stateOf, stateSize, stateWords}
-use Rattle.state_words.proofs.Back.{written-read}
+use Rattle.state_words.proofs.Back.{cons, written-read}
 use Rattle.words.specs.Lists.{bytesOf, endOf, numbersOf, part, word, wordsOfNumbers, wrappingSum}
 use Rattle.words.proofs.Back.{Bytes, bytes-back, part-fits, part-join, word-fits}
 use Rattle.words.proofs.Parts.{mapped-length}
@@ -16,7 +16,7 @@ use Rattle.record_layout.specs.Order.{atTrailer, placeOf}
 use Rattle.record_layout.specs.declared.Layout.{Layout}
 use Rattle.record_read.specs.declared.Opened.{Opened}
 use Rattle.record_read.specs.declared.Opened.the-variants.{Whole, Damaged}
-use Rattle.laws_record.proofs.Values.{cons, ends-back, flags-back, numbers-back, words-at}
+use Rattle.laws_record.proofs.Values.{ends-back, flags-back, numbers-back, words-at}
 use Rattle.record_read.proofs.Whole.{Sound, layout-is, sound}
 
 zero-on : (k : ℕ) → k ≡ 0 + k

@@ -6,11 +6,11 @@ use native.Mathlib.Omega.{arith}
 use lib.ListN.{drop, getD, length, length-map}
 use lib.IntN.{ℤ}
 use mir.Facts.{fits-ofZ, toZ-ofZ}
+use Rattle.state_words.proofs.Back.{cons}
 use Rattle.int.specs.Word.{bitsOf}
 use Rattle.words.specs.Lists.{bytesOf, endsOf, flagsOf, numbersOf, part, wordsOfNumbers}
 use Rattle.words.proofs.Back.{Words, front-back}
 use Rattle.words.proofs.Back.Words.{more, none}
-use Rattle.laws_record.proofs.Values.{cons}
 use Rattle.words.proofs.Widths.{Below, Numbers, no-word, one-word}
 
 abbrev pub Lies : List ℕ → ℕ → List ℕ → Type 0

@@ -9,14 +9,12 @@ use mir.Facts.{ofZ-toZ}
 use mir.Syntax.{w32}
 use lib.Dec.{leb}
 use lib.ListN.{getD}
+use Rattle.state_words.proofs.Back.{cons}
 use Rattle.graphics.proofs.Laws.{and-left, and-right}
 use Rattle.int.specs.Word.{bitsOf, ofBits}
 use Rattle.words.specs.Lists.{allAtMost, endsOf, flagsOf, numbersOf, wordsOfNumbers}
 use Rattle.words.proofs.Back.{Words}
 use Rattle.words.proofs.Back.Words.{more}
-
-pub cons : {a b : ℕ} {l m : List ℕ} → a ≡ b → l ≡ m → a ∷ l ≡ b ∷ m
-cons e es = ap₂ (λ (x : ℕ) (xs : List ℕ). x ∷ xs) e es
 
 pub words-at : (ws : List ℕ) (k : ℕ) → Words ws → getD ws k 0 < 2 ^ 32
 words-at [] k f = omega arith

@@ -1,5 +1,5 @@
 -- A loop over points of zp2: what it leaves of one zone is what the same loop leaves of any world that holds both. One law over the step, and that of a point
--- shifted by a move, of which SHP, SHPIX, SHC and SHZ are made. Assumes nothing.
+-- shifted by a move, of which the lines that shift points are made. Assumes nothing.
 use Prim.Native.Nat.{ℕ, suc, zero}
 use mathlib.Core.Bool.{Bool, cond, false, true}
 use mathlib.Core.List.{List, [], _∷_}

@@ -144,7 +144,7 @@ listed-all : (ws : List ℕ) → listed 0 (length ws) ws ≡ ws
 listed-all [] = refl
 listed-all (x ∷ ws) = ap (λ (t : List ℕ). x ∷ t) (listed-tail 0 (length ws) x ws ∙ listed-all ws)
 
-cons : {a b : ℕ} {l m : List ℕ} → a ≡ b → l ≡ m → a ∷ l ≡ b ∷ m
+pub cons : {a b : ℕ} {l m : List ℕ} → a ≡ b → l ≡ m → a ∷ l ≡ b ∷ m
 cons e es = ap₂ (λ (x : ℕ) (xs : List ℕ). x ∷ xs) e es
 
 -- ---- words, read and written

@@ -16,7 +16,7 @@ abbrev entry : tie.Start → World
 entry s = let a = s .args in world (a .s) (now (a .gx)) (now (a .gy)) (now (a .gflags)) (now (a .tox)) (now (a .toy)) (now (a .tx)) (now (a .ty)) (now (a .tflags))
 
 abbrev start : tie.After-kind-of → tie.Start
-start k = k .before .before .before .before
+start k = search
 
 -- what the kind says of the opcode
 named : (k : tie.After-kind-of) {kind : Kind} → k .kind-of .result ≡ kind → Named (start k .args .opcode) kind
@@ -24,37 +24,37 @@ named k e = subst (Named (start k .args .opcode)) e (k .kind-of .ensures)
 
 -- ---- the places on each way, the last first
 abbrev after-isect : tie.After-slice-known4 → tie.After-isect
-after-isect c = c .before .before .before .before .before .before .before .before
+after-isect c = search
 
 abbrev to-isect : tie.After-isect-arg6 → tie.After-enum-told
-to-isect c = c .before .before .before .before .before .before
+to-isect c = search
 
 abbrev after-iup : tie.After-gy2 → tie.After-iup
-after-iup c = c .before .before
+after-iup c = search
 
 abbrev to-iup : tie.After-iup-arg3 → tie.After-enum-told2
-to-iup c = c .before .before .before
+to-iup c = search
 
 abbrev after-shift : tie.After-slice-known6 → tie.After-perform-shift
-after-shift c = c .before .before .before .before .before .before .before .before
+after-shift c = search
 
 abbrev to-shift : tie.After-perform-shift-arg8 → tie.After-enum-told3
-to-shift c = c .before .before .before .before .before .before .before .before
+to-shift c = search
 
 abbrev after-distance : tie.After-slice-known8 → tie.After-perform-distance
-after-distance c = c .before .before .before .before .before .before .before .before .before .before
+after-distance c = search
 
 abbrev to-distance : tie.After-perform-distance-arg8 → tie.After-enum-told4
-to-distance c = c .before .before .before .before .before .before .before .before
+to-distance c = search
 
 abbrev after-flippt : tie.After-slice-known9 → tie.After-flippt
-after-flippt c = c .before .before
+after-flippt c = search
 
 abbrev to-flippt : tie.After-flippt-arg → tie.After-enum-told5
 to-flippt c = c .before
 
 abbrev after-fliprg : tie.After-slice-known10 → tie.After-fliprg
-after-fliprg c = c .before .before
+after-fliprg c = search
 
 abbrev to-fliprg : tie.After-fliprg-arg → tie.After-enum-told6
 to-fliprg c = c .before
@@ -108,22 +108,22 @@ set-state-requires : tie.Need-set-state-requires
 set-state-requires c κs = tt
 
 same-length : tie.Need-same-length
-same-length c = after-isect c .isect .kept .1 .1 .0
+same-length c = search (after-isect c .isect .kept)
 
 same-length-2 : tie.Need-same-length-2
-same-length-2 c = after-isect c .isect .kept .1 .1 .1 .0
+same-length-2 c = search (after-isect c .isect .kept)
 
 same-length-3 : tie.Need-same-length-3
-same-length-3 c = after-isect c .isect .kept .1 .1 .1 .1 .0
+same-length-3 c = search (after-isect c .isect .kept)
 
 same-length-4 : tie.Need-same-length-4
-same-length-4 c = after-isect c .isect .kept .1 .1 .1 .1 .1 .0
+same-length-4 c = search (after-isect c .isect .kept)
 
 same-length-5 : tie.Need-same-length-5
-same-length-5 c = after-isect c .isect .kept .1 .1 .1 .1 .1 .1 .0
+same-length-5 c = search (after-isect c .isect .kept)
 
 same-length-6 : tie.Need-same-length-6
-same-length-6 c = after-isect c .isect .kept .1 .1 .1 .1 .1 .1 .1 .0
+same-length-6 c = search (after-isect c .isect .kept)
 
 returns : tie.Need-returns
 unfolding Named
@@ -131,10 +131,10 @@ returns c = let a = after-isect c in let e = to-isect (a .before) in let k = e .
     a .isect .ensures (read s) (s .args .opcode) (now (s .args .tox)) (now (s .args .toy)) ∙ named k (e .enum-told .given .1) (read s) (now (s .args .operands)) (entry s)
 
 same-length-7 : tie.Need-same-length-7
-same-length-7 c = after-iup c .iup .kept .1 .1 .1 .1 .1 .1 .0
+same-length-7 c = search (after-iup c .iup .kept)
 
 same-length-8 : tie.Need-same-length-8
-same-length-8 c = after-iup c .iup .kept .1 .1 .1 .1 .1 .1 .1 .0
+same-length-8 c = search (after-iup c .iup .kept)
 
 same-length-9 : tie.Need-same-length-9
 same-length-9 c = refl
@@ -145,13 +145,13 @@ returns-2 c = let a = after-iup c in let e = to-iup (a .before) in let k = e .be
     a .iup .ensures (now (s .args .controls)) (now (s .args .operands)) (w .tox) (w .toy) (w .tx) (w .ty) (w .tflags) ∙ named k (e .enum-told2 .given .1) (read s) (now (s .args .operands)) (entry s)
 
 same-length-10 : tie.Need-same-length-10
-same-length-10 c = after-shift c .perform-shift .kept .1 .1 .1 .1 .1 .0
+same-length-10 c = search (after-shift c .perform-shift .kept)
 
 same-length-11 : tie.Need-same-length-11
-same-length-11 c = after-shift c .perform-shift .kept .1 .1 .1 .1 .1 .1 .0
+same-length-11 c = search (after-shift c .perform-shift .kept)
 
 same-length-12 : tie.Need-same-length-12
-same-length-12 c = after-shift c .perform-shift .kept .1 .1 .1 .1 .1 .1 .1 .0
+same-length-12 c = search (after-shift c .perform-shift .kept)
 
 same-length-13 : tie.Need-same-length-13
 same-length-13 c = refl
@@ -160,46 +160,46 @@ same-length-14 : tie.Need-same-length-14
 same-length-14 c = refl
 
 same-length-15 : tie.Need-same-length-15
-same-length-15 c = after-shift c .perform-shift .kept .1 .1 .1 .1 .1 .1 .1 .1 .1 .1 .1 .0
+same-length-15 c = search (after-shift c .perform-shift .kept)
 
 same-length-16 : tie.Need-same-length-16
-same-length-16 c = after-shift c .perform-shift .kept .1 .1 .1 .1 .1 .1 .1 .1 .1 .1 .1 .1 .0
+same-length-16 c = search (after-shift c .perform-shift .kept)
 
 same-length-17 : tie.Need-same-length-17
-same-length-17 c = after-shift c .perform-shift .kept .1 .1 .1 .1 .1 .1 .1 .1 .1 .1 .1 .1 .1 .0
+same-length-17 c = search (after-shift c .perform-shift .kept)
 
 returns-3 : tie.Need-returns-3
 returns-3 c = let a = after-shift c in let s = start (to-shift (a .before) .before .before) .args in a .perform-shift .ensures (now (s .controls)) (now (s .gux)) (now (s .guy))
 
 same-length-18 : tie.Need-same-length-18
-same-length-18 c = after-distance c .perform-distance .kept .1 .1 .1 .1 .0
+same-length-18 c = search (after-distance c .perform-distance .kept)
 
 same-length-19 : tie.Need-same-length-19
-same-length-19 c = after-distance c .perform-distance .kept .1 .1 .1 .1 .1 .0
+same-length-19 c = search (after-distance c .perform-distance .kept)
 
 same-length-20 : tie.Need-same-length-20
-same-length-20 c = after-distance c .perform-distance .kept .1 .1 .1 .1 .1 .1 .0
+same-length-20 c = search (after-distance c .perform-distance .kept)
 
 same-length-21 : tie.Need-same-length-21
-same-length-21 c = after-distance c .perform-distance .kept .1 .1 .1 .1 .1 .1 .1 .0
+same-length-21 c = search (after-distance c .perform-distance .kept)
 
 same-length-22 : tie.Need-same-length-22
-same-length-22 c = after-distance c .perform-distance .kept .1 .1 .1 .1 .1 .1 .1 .1 .0
+same-length-22 c = search (after-distance c .perform-distance .kept)
 
 same-length-23 : tie.Need-same-length-23
-same-length-23 c = after-distance c .perform-distance .kept .1 .1 .1 .1 .1 .1 .1 .1 .1 .0
+same-length-23 c = search (after-distance c .perform-distance .kept)
 
 same-length-24 : tie.Need-same-length-24
-same-length-24 c = after-distance c .perform-distance .kept .1 .1 .1 .1 .1 .1 .1 .1 .1 .1 .0
+same-length-24 c = search (after-distance c .perform-distance .kept)
 
 same-length-25 : tie.Need-same-length-25
-same-length-25 c = after-distance c .perform-distance .kept .1 .1 .1 .1 .1 .1 .1 .1 .1 .1 .1 .0
+same-length-25 c = search (after-distance c .perform-distance .kept)
 
 returns-4 : tie.Need-returns-4
 returns-4 c = let a = after-distance c in let s = start (to-distance (a .before) .before .before) .args in a .perform-distance .ensures (now (s .gux)) (now (s .guy)) (now (s .gox)) (now (s .goy)) (now (s .contours))
 
 same-length-26 : tie.Need-same-length-26
-same-length-26 c = after-flippt c .flippt .kept .1 .1 .0
+same-length-26 c = search (after-flippt c .flippt .kept)
 
 returns-5 : tie.Need-returns-5
 unfolding Named
@@ -207,7 +207,7 @@ returns-5 c = let a = after-flippt c in let e = to-flippt (a .before) in let k =
     a .flippt .ensures (read s) (s .args .opcode) (w .gx) (w .gy) (w .tox) (w .toy) (w .tx) (w .ty) (w .tflags) ∙ named k (e .enum-told5 .given .1) (read s) (now (s .args .operands)) (entry s)
 
 same-length-27 : tie.Need-same-length-27
-same-length-27 c = after-fliprg c .fliprg .kept .1 .1 .1 .0
+same-length-27 c = search (after-fliprg c .fliprg .kept)
 
 returns-6 : tie.Need-returns-6
 unfolding Named

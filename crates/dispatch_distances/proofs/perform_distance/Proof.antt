@@ -19,34 +19,34 @@ entry s = let a = s .args in world (a .s) (now (a .gx)) (now (a .gy)) (now (a .g
 
 -- ---- the places on each way, the last first
 abbrev start : tie.At-match-keys1 → tie.Start
-start m = m .before .before .before
+start m = search
 
 abbrev start-rest : tie.At-match-rest → tie.Start
-start-rest m = m .before .before .before
+start-rest m = search
 
 abbrev after-alignrp : tie.After-slice-known4 → tie.After-alignrp
-after-alignrp c = c .before .before .before .before .before .before .before .before
+after-alignrp c = search
 
 abbrev to-alignrp : tie.After-alignrp-arg6 → tie.At-match-keys1
-to-alignrp c = c .before .before .before .before .before .before
+to-alignrp c = search
 
 abbrev after-mdap : tie.After-slice-known6 → tie.After-mdap
-after-mdap c = c .before .before .before .before .before .before .before .before
+after-mdap c = search
 
 abbrev to-mdap : tie.After-mdap-arg6 → tie.Then2
-to-mdap c = c .before .before .before .before .before .before
+to-mdap c = search
 
 abbrev after-msirp : tie.After-slice-known8 → tie.After-msirp
-after-msirp c = c .before .before .before .before .before .before .before .before .before .before
+after-msirp c = search
 
 abbrev to-msirp : tie.After-msirp-arg8 → tie.Then4
-to-msirp c = c .before .before .before .before .before .before .before .before
+to-msirp c = search
 
 abbrev after-miap : tie.After-slice-known10 → tie.After-miap
-after-miap c = c .before .before .before .before .before .before .before .before .before .before
+after-miap c = search
 
 abbrev to-miap : tie.After-miap-arg8 → tie.Joined1
-to-miap c = c .before .before .before .before .before .before .before .before
+to-miap c = search
 
 -- the opcodes that are left
 is-miap : (opcode : ℕ) → ((0x2E ≤ opcode) × (opcode < 0x30)) ⊎ (((0x3A ≤ opcode) × (opcode < 0x3D)) ⊎ ((0x3E ≤ opcode) × (opcode < 0x40))) → (opcode ≡ 0x3C → ⊥)
@@ -72,22 +72,22 @@ miap-requires : tie.Need-miap-requires
 miap-requires c κs = let p = start-rest (to-miap c .before) .pre in (p .1, p .2, p .3, p .4)
 
 same-length : tie.Need-same-length
-same-length c = after-alignrp c .alignrp .kept .1 .1 .0
+same-length c = search (after-alignrp c .alignrp .kept)
 
 same-length-2 : tie.Need-same-length-2
-same-length-2 c = after-alignrp c .alignrp .kept .1 .1 .1 .0
+same-length-2 c = search (after-alignrp c .alignrp .kept)
 
 same-length-3 : tie.Need-same-length-3
-same-length-3 c = after-alignrp c .alignrp .kept .1 .1 .1 .1 .0
+same-length-3 c = search (after-alignrp c .alignrp .kept)
 
 same-length-4 : tie.Need-same-length-4
-same-length-4 c = after-alignrp c .alignrp .kept .1 .1 .1 .1 .1 .0
+same-length-4 c = search (after-alignrp c .alignrp .kept)
 
 same-length-5 : tie.Need-same-length-5
-same-length-5 c = after-alignrp c .alignrp .kept .1 .1 .1 .1 .1 .1 .0
+same-length-5 c = search (after-alignrp c .alignrp .kept)
 
 same-length-6 : tie.Need-same-length-6
-same-length-6 c = after-alignrp c .alignrp .kept .1 .1 .1 .1 .1 .1 .1 .0
+same-length-6 c = search (after-alignrp c .alignrp .kept)
 
 returns : tie.Need-returns
 returns c = let k = after-alignrp c in let m = to-alignrp (k .before) in let s = start m in
@@ -95,78 +95,78 @@ returns c = let k = after-alignrp c in let m = to-alignrp (k .before) in let s =
     (k .alignrp .ensures (read s gux guy gox goy contours) (s .args .opcode) (now (s .args .tox)) (now (s .args .toy)))
 
 same-length-7 : tie.Need-same-length-7
-same-length-7 c = after-mdap c .mdap .kept .1 .1 .1 .0
+same-length-7 c = search (after-mdap c .mdap .kept)
 
 same-length-8 : tie.Need-same-length-8
-same-length-8 c = after-mdap c .mdap .kept .1 .1 .1 .1 .0
+same-length-8 c = search (after-mdap c .mdap .kept)
 
 same-length-9 : tie.Need-same-length-9
-same-length-9 c = after-mdap c .mdap .kept .1 .1 .1 .1 .1 .0
+same-length-9 c = search (after-mdap c .mdap .kept)
 
 same-length-10 : tie.Need-same-length-10
-same-length-10 c = after-mdap c .mdap .kept .1 .1 .1 .1 .1 .1 .0
+same-length-10 c = search (after-mdap c .mdap .kept)
 
 same-length-11 : tie.Need-same-length-11
-same-length-11 c = after-mdap c .mdap .kept .1 .1 .1 .1 .1 .1 .1 .0
+same-length-11 c = search (after-mdap c .mdap .kept)
 
 same-length-12 : tie.Need-same-length-12
-same-length-12 c = after-mdap c .mdap .kept .1 .1 .1 .1 .1 .1 .1 .1 .0
+same-length-12 c = search (after-mdap c .mdap .kept)
 
 returns-2 : tie.Need-returns-2
 returns-2 c = let k = after-mdap c in let i = to-mdap (k .before) in let s = start-rest (i .before .before) in
     λ gux guy gox goy contours. at-two (read s gux guy gox goy contours) (s .args .opcode) (now (s .args .operands)) (entry s) 0x2E (i .before .if1 .left) (i .if2 .taken) refl (k .mdap .ensures (read s gux guy gox goy contours) (now (s .args .tox)) (now (s .args .toy)))
 
 same-length-13 : tie.Need-same-length-13
-same-length-13 c = after-msirp c .msirp .kept .1 .1 .1 .0
+same-length-13 c = search (after-msirp c .msirp .kept)
 
 same-length-14 : tie.Need-same-length-14
-same-length-14 c = after-msirp c .msirp .kept .1 .1 .1 .1 .0
+same-length-14 c = search (after-msirp c .msirp .kept)
 
 same-length-15 : tie.Need-same-length-15
-same-length-15 c = after-msirp c .msirp .kept .1 .1 .1 .1 .1 .0
+same-length-15 c = search (after-msirp c .msirp .kept)
 
 same-length-16 : tie.Need-same-length-16
-same-length-16 c = after-msirp c .msirp .kept .1 .1 .1 .1 .1 .1 .0
+same-length-16 c = search (after-msirp c .msirp .kept)
 
 same-length-17 : tie.Need-same-length-17
-same-length-17 c = after-msirp c .msirp .kept .1 .1 .1 .1 .1 .1 .1 .0
+same-length-17 c = search (after-msirp c .msirp .kept)
 
 same-length-18 : tie.Need-same-length-18
-same-length-18 c = after-msirp c .msirp .kept .1 .1 .1 .1 .1 .1 .1 .1 .0
+same-length-18 c = search (after-msirp c .msirp .kept)
 
 same-length-19 : tie.Need-same-length-19
-same-length-19 c = after-msirp c .msirp .kept .1 .1 .1 .1 .1 .1 .1 .1 .1 .0
+same-length-19 c = search (after-msirp c .msirp .kept)
 
 same-length-20 : tie.Need-same-length-20
-same-length-20 c = after-msirp c .msirp .kept .1 .1 .1 .1 .1 .1 .1 .1 .1 .1 .0
+same-length-20 c = search (after-msirp c .msirp .kept)
 
 returns-3 : tie.Need-returns-3
 returns-3 c = let k = after-msirp c in let i = to-msirp (k .before) in let s = start-rest (i .before .before .before .before) in
     λ gux guy gox goy contours. at-two (read s gux guy gox goy contours) (s .args .opcode) (now (s .args .operands)) (entry s) 0x3A (i .before .if3 .left) (i .if4 .taken) refl (k .msirp .ensures (read s gux guy gox goy contours))
 
 same-length-21 : tie.Need-same-length-21
-same-length-21 c = after-miap c .miap .kept .1 .1 .1 .1 .0
+same-length-21 c = search (after-miap c .miap .kept)
 
 same-length-22 : tie.Need-same-length-22
-same-length-22 c = after-miap c .miap .kept .1 .1 .1 .1 .1 .0
+same-length-22 c = search (after-miap c .miap .kept)
 
 same-length-23 : tie.Need-same-length-23
-same-length-23 c = after-miap c .miap .kept .1 .1 .1 .1 .1 .1 .0
+same-length-23 c = search (after-miap c .miap .kept)
 
 same-length-24 : tie.Need-same-length-24
-same-length-24 c = after-miap c .miap .kept .1 .1 .1 .1 .1 .1 .1 .0
+same-length-24 c = search (after-miap c .miap .kept)
 
 same-length-25 : tie.Need-same-length-25
-same-length-25 c = after-miap c .miap .kept .1 .1 .1 .1 .1 .1 .1 .1 .0
+same-length-25 c = search (after-miap c .miap .kept)
 
 same-length-26 : tie.Need-same-length-26
-same-length-26 c = after-miap c .miap .kept .1 .1 .1 .1 .1 .1 .1 .1 .1 .0
+same-length-26 c = search (after-miap c .miap .kept)
 
 same-length-27 : tie.Need-same-length-27
-same-length-27 c = after-miap c .miap .kept .1 .1 .1 .1 .1 .1 .1 .1 .1 .1 .0
+same-length-27 c = search (after-miap c .miap .kept)
 
 same-length-28 : tie.Need-same-length-28
-same-length-28 c = after-miap c .miap .kept .1 .1 .1 .1 .1 .1 .1 .1 .1 .1 .1 .0
+same-length-28 c = search (after-miap c .miap .kept)
 
 returns-4 : tie.Need-returns-4
 returns-4 c = let k = after-miap c in let j = to-miap (k .before) in let m = j .before in let s = start-rest m in

@@ -19,34 +19,34 @@ entry s = let a = s .args in world (a .s) (now (a .gx)) (now (a .gy)) (now (a .g
 
 -- ---- the places on each way, the last first
 abbrev start : tie.Else1 → tie.Start
-start e = e .before .before .before .before
+start e = search
 
 abbrev start2 : tie.Joined1 → tie.Start
-start2 j = j .before .before .before .before
+start2 j = search
 
 abbrev after-shp : tie.After-slice-known4 → tie.After-shp
-after-shp c = c .before .before .before .before .before .before .before .before
+after-shp c = search
 
 abbrev to-shp : tie.After-shp-arg6 → tie.Then2
-to-shp c = c .before .before .before .before .before .before
+to-shp c = search
 
 abbrev after-shc : tie.After-slice-known6 → tie.After-shc
-after-shc c = c .before .before .before .before .before .before .before .before
+after-shc c = search
 
 abbrev to-shc : tie.After-shc-arg6 → tie.Then3
-to-shc c = c .before .before .before .before .before .before
+to-shc c = search
 
 abbrev after-shz : tie.After-slice-known8 → tie.After-shz
-after-shz c = c .before .before .before .before .before .before .before .before
+after-shz c = search
 
 abbrev to-shz : tie.After-shz-arg6 → tie.Then4
-to-shz c = c .before .before .before .before .before .before
+to-shz c = search
 
 abbrev after-shpix : tie.After-slice-known10 → tie.After-shpix
-after-shpix c = c .before .before .before .before .before .before .before .before
+after-shpix c = search
 
 abbrev to-shpix : tie.After-shpix-arg6 → tie.Joined1
-to-shpix c = c .before .before .before .before .before .before
+to-shpix c = search
 
 -- the one opcode that is left
 is-shpix : (opcode : ℕ) → 0x32 ≤ opcode → opcode < 0x39 → (opcode < 0x32) ⊎ (0x38 ≤ opcode) → opcode ≡ 0x38
@@ -66,88 +66,88 @@ shpix-requires : tie.Need-shpix-requires
 shpix-requires c κs = let p = start2 (to-shpix c) .pre in (p .3, p .4, p .6, p .7)
 
 same-length : tie.Need-same-length
-same-length c = after-shp c .shp .kept .1 .1 .1 .1 .1 .0
+same-length c = search (after-shp c .shp .kept)
 
 same-length-2 : tie.Need-same-length-2
-same-length-2 c = after-shp c .shp .kept .1 .1 .1 .1 .1 .1 .0
+same-length-2 c = search (after-shp c .shp .kept)
 
 same-length-3 : tie.Need-same-length-3
-same-length-3 c = after-shp c .shp .kept .1 .1 .1 .1 .1 .1 .1 .0
+same-length-3 c = search (after-shp c .shp .kept)
 
 same-length-4 : tie.Need-same-length-4
-same-length-4 c = after-shp c .shp .kept .1 .1 .1 .1 .1 .1 .1 .1 .1 .1 .0
+same-length-4 c = search (after-shp c .shp .kept)
 
 same-length-5 : tie.Need-same-length-5
-same-length-5 c = after-shp c .shp .kept .1 .1 .1 .1 .1 .1 .1 .1 .1 .1 .1 .0
+same-length-5 c = search (after-shp c .shp .kept)
 
 same-length-6 : tie.Need-same-length-6
-same-length-6 c = after-shp c .shp .kept .1 .1 .1 .1 .1 .1 .1 .1 .1 .1 .1 .1 .0
+same-length-6 c = search (after-shp c .shp .kept)
 
 returns : tie.Need-returns
 returns c = let k = after-shp c in let i = to-shp (k .before) in let s = start (i .before) in
     λ controls gux guy. at-two (read s controls gux guy) (s .args .opcode) (now (s .args .operands)) (entry s) 0x32 (i .before .if1 .left) (i .if2 .taken) refl (k .shp .ensures controls gux guy (now (s .args .contours)))
 
 same-length-7 : tie.Need-same-length-7
-same-length-7 c = after-shc c .shc .kept .1 .1 .1 .1 .1 .0
+same-length-7 c = search (after-shc c .shc .kept)
 
 same-length-8 : tie.Need-same-length-8
-same-length-8 c = after-shc c .shc .kept .1 .1 .1 .1 .1 .1 .0
+same-length-8 c = search (after-shc c .shc .kept)
 
 same-length-9 : tie.Need-same-length-9
-same-length-9 c = after-shc c .shc .kept .1 .1 .1 .1 .1 .1 .1 .0
+same-length-9 c = search (after-shc c .shc .kept)
 
 same-length-10 : tie.Need-same-length-10
-same-length-10 c = after-shc c .shc .kept .1 .1 .1 .1 .1 .1 .1 .1 .1 .1 .1 .0
+same-length-10 c = search (after-shc c .shc .kept)
 
 same-length-11 : tie.Need-same-length-11
-same-length-11 c = after-shc c .shc .kept .1 .1 .1 .1 .1 .1 .1 .1 .1 .1 .1 .1 .0
+same-length-11 c = search (after-shc c .shc .kept)
 
 same-length-12 : tie.Need-same-length-12
-same-length-12 c = after-shc c .shc .kept .1 .1 .1 .1 .1 .1 .1 .1 .1 .1 .1 .1 .1 .0
+same-length-12 c = search (after-shc c .shc .kept)
 
 returns-2 : tie.Need-returns-2
 returns-2 c = let k = after-shc c in let i = to-shc (k .before) in let s = start (i .before .before) in
     λ controls gux guy. at-two (read s controls gux guy) (s .args .opcode) (now (s .args .operands)) (entry s) 0x34 (i .before .if2 .left) (i .if3 .taken) refl (k .shc .ensures controls gux guy)
 
 same-length-13 : tie.Need-same-length-13
-same-length-13 c = after-shz c .shz .kept .1 .1 .1 .1 .1 .0
+same-length-13 c = search (after-shz c .shz .kept)
 
 same-length-14 : tie.Need-same-length-14
-same-length-14 c = after-shz c .shz .kept .1 .1 .1 .1 .1 .1 .0
+same-length-14 c = search (after-shz c .shz .kept)
 
 same-length-15 : tie.Need-same-length-15
-same-length-15 c = after-shz c .shz .kept .1 .1 .1 .1 .1 .1 .1 .0
+same-length-15 c = search (after-shz c .shz .kept)
 
 same-length-16 : tie.Need-same-length-16
-same-length-16 c = after-shz c .shz .kept .1 .1 .1 .1 .1 .1 .1 .1 .1 .1 .1 .0
+same-length-16 c = search (after-shz c .shz .kept)
 
 same-length-17 : tie.Need-same-length-17
-same-length-17 c = after-shz c .shz .kept .1 .1 .1 .1 .1 .1 .1 .1 .1 .1 .1 .1 .0
+same-length-17 c = search (after-shz c .shz .kept)
 
 same-length-18 : tie.Need-same-length-18
-same-length-18 c = after-shz c .shz .kept .1 .1 .1 .1 .1 .1 .1 .1 .1 .1 .1 .1 .1 .0
+same-length-18 c = search (after-shz c .shz .kept)
 
 returns-3 : tie.Need-returns-3
 returns-3 c = let k = after-shz c in let i = to-shz (k .before) in let s = start (i .before .before .before) in
     λ controls gux guy. at-two (read s controls gux guy) (s .args .opcode) (now (s .args .operands)) (entry s) 0x36 (i .before .if3 .left) (i .if4 .taken) refl (k .shz .ensures controls gux guy)
 
 same-length-19 : tie.Need-same-length-19
-same-length-19 c = after-shpix c .shpix .kept .1 .1 .0
+same-length-19 c = search (after-shpix c .shpix .kept)
 
 same-length-20 : tie.Need-same-length-20
-same-length-20 c = after-shpix c .shpix .kept .1 .1 .1 .0
+same-length-20 c = search (after-shpix c .shpix .kept)
 
 same-length-21 : tie.Need-same-length-21
-same-length-21 c = after-shpix c .shpix .kept .1 .1 .1 .1 .0
+same-length-21 c = search (after-shpix c .shpix .kept)
 
 same-length-22 : tie.Need-same-length-22
-same-length-22 c = after-shpix c .shpix .kept .1 .1 .1 .1 .1 .0
+same-length-22 c = search (after-shpix c .shpix .kept)
 
 same-length-23 : tie.Need-same-length-23
-same-length-23 c = after-shpix c .shpix .kept .1 .1 .1 .1 .1 .1 .0
+same-length-23 c = search (after-shpix c .shpix .kept)
 
 same-length-24 : tie.Need-same-length-24
-same-length-24 c = after-shpix c .shpix .kept .1 .1 .1 .1 .1 .1 .1 .0
+same-length-24 c = search (after-shpix c .shpix .kept)
 
 returns-4 : tie.Need-returns-4
 returns-4 c = let k = after-shpix c in let j = to-shpix (k .before) in let s = start2 j in

@@ -17,6 +17,22 @@ Inv-loop s count operands gx₀ gy₀ gflags₀ tx₀ ty₀ tflags₀ wanted k�
 abbrev μ-loop : tie.MeasureT-loop
 μ-loop s count operands gx₀ gy₀ gflags₀ tx₀ ty₀ tflags₀ wanted k₀ gx gy gflags tx ty tflags k = count - k
 
+-- ---- places of the walk, found by their types
+abbrev refused : tie.After-known-told Inv-loop μ-loop → tie.After-align-point Inv-loop μ-loop
+refused c = search
+
+abbrev aligned : tie.After-enum-told Inv-loop μ-loop → tie.After-align-point Inv-loop μ-loop
+aligned c = search
+
+abbrev indexed : tie.After-align-point Inv-loop μ-loop → tie.After-as-index Inv-loop μ-loop
+indexed x = search
+
+abbrev looping : tie.After-align-point Inv-loop μ-loop → tie.At-loop Inv-loop μ-loop
+looping x = search
+
+abbrev started : tie.At-loop Inv-loop μ-loop → tie.Start Inv-loop μ-loop
+started l = search
+
 loop-holds : tie.Need-loop-holds Inv-loop μ-loop
 loop-holds c = let a = c .before .before .args in (begun (alignAt (a .s)) (a .count) (now (a .operands)) (zones (now (a .gx)) (now (a .gy)) (now (a .gflags)) (now (a .tx)) (now (a .ty)) (now (a .tflags))), refl, refl, refl, refl, refl, refl)
 
@@ -52,31 +68,31 @@ as-index-requires : tie.Need-as-index-requires Inv-loop μ-loop
 as-index-requires c κs = search needs
 
 align-point-requires : tie.Need-align-point-requires Inv-loop μ-loop
-align-point-requires c κs = let v = c .before .before .before .before .before .before .before .before .before .before .loop .inv in let p = c .before .before .before .before .before .before .before .before .before .before .before .before .before .pre in (v .2 ∙ p .0 ∙ sym (v .1), v .3 ∙ p .1 ∙ sym (v .1), v .5 ∙ p .2 ∙ sym (v .4), v .6 ∙ p .3 ∙ sym (v .4))
+align-point-requires c κs = let l : tie.At-loop Inv-loop μ-loop = search in let v = l .loop .inv in let p = started l .pre in (v .2 ∙ p .0 ∙ sym (v .1), v .3 ∙ p .1 ∙ sym (v .1), v .5 ∙ p .2 ∙ sym (v .4), v .6 ∙ p .3 ∙ sym (v .4))
 
 enum-known-aligned : tie.Need-enum-known-aligned Inv-loop μ-loop
 enum-known-aligned c = search needs
 
 same-length-7 : tie.Need-same-length-7 Inv-loop μ-loop
-same-length-7 c = let x = c .before .before .before .before .before .before .before .before .before .before .before in x .align-point .kept .1 .1 .0 ∙ x .before .before .before .before .before .before .before .before .before .before .before .loop .inv .1
+same-length-7 c = let x = refused c in let q = x .align-point .kept .1 .1 in q .0 ∙ looping x .loop .inv .1
 
 same-length-8 : tie.Need-same-length-8 Inv-loop μ-loop
-same-length-8 c = let x = c .before .before .before .before .before .before .before .before .before .before .before in x .align-point .kept .1 .1 .1 .0 ∙ x .before .before .before .before .before .before .before .before .before .before .before .loop .inv .2
+same-length-8 c = let x = refused c in let q = x .align-point .kept .1 .1 in q .1 .0 ∙ looping x .loop .inv .2
 
 same-length-9 : tie.Need-same-length-9 Inv-loop μ-loop
-same-length-9 c = let x = c .before .before .before .before .before .before .before .before .before .before .before in x .align-point .kept .1 .1 .1 .1 .0 ∙ x .before .before .before .before .before .before .before .before .before .before .before .loop .inv .3
+same-length-9 c = let x = refused c in let q = x .align-point .kept .1 .1 in q .1 .1 .0 ∙ looping x .loop .inv .3
 
 same-length-10 : tie.Need-same-length-10 Inv-loop μ-loop
-same-length-10 c = let x = c .before .before .before .before .before .before .before .before .before .before .before in x .align-point .kept .1 .1 .1 .1 .1 .0 ∙ x .before .before .before .before .before .before .before .before .before .before .before .loop .inv .4
+same-length-10 c = let x = refused c in let q = x .align-point .kept .1 .1 in q .1 .1 .1 .0 ∙ looping x .loop .inv .4
 
 same-length-11 : tie.Need-same-length-11 Inv-loop μ-loop
-same-length-11 c = let x = c .before .before .before .before .before .before .before .before .before .before .before in x .align-point .kept .1 .1 .1 .1 .1 .1 .0 ∙ x .before .before .before .before .before .before .before .before .before .before .before .loop .inv .5
+same-length-11 c = let x = refused c in let q = x .align-point .kept .1 .1 in q .1 .1 .1 .1 .0 ∙ looping x .loop .inv .5
 
 same-length-12 : tie.Need-same-length-12 Inv-loop μ-loop
-same-length-12 c = let x = c .before .before .before .before .before .before .before .before .before .before .before in x .align-point .kept .1 .1 .1 .1 .1 .1 .1 .0 ∙ x .before .before .before .before .before .before .before .before .before .before .before .loop .inv .6
+same-length-12 c = let x = refused c in let q = x .align-point .kept .1 .1 in q .1 .1 .1 .1 .1 .0 ∙ looping x .loop .inv .6
 
 returns-2 : tie.Need-returns-2 Inv-loop μ-loop
-returns-2 c = let x = c .before .before .before .before .before .before .before .before .before .before .before in let n = x .before .before .before .before .before .before .before in let i = n .before .before in let v = i .before .before .loop in let a = i .before .before .before .before .before .args in
+returns-2 c = let x = refused c in let n = indexed x in let i = n .before .before in let l = looping x in let v = l .loop in let a = started l .args in
     stopped (alignAt (a .s)) (a .count) (now (a .operands)) (v .k) (zones (v .gx) (v .gy) (v .gflags) (v .tx) (v .ty) (v .tflags)) (i .before .loop-test .taken) (i .if1 .left) (read (getD (now (a .operands)) (v .k) (pos 0)) (n .before .as-index-arg .given) (n .as-index .ensures)) (x .align-point .ensures) (c .before .aligned .given .1) ∙ v .inv .0
 
 enum-told : tie.Need-enum-told Inv-loop μ-loop
@@ -89,7 +105,7 @@ loop-less : tie.Need-loop-less Inv-loop μ-loop
 loop-less c = search needs
 
 loop-again : tie.Need-loop-again Inv-loop μ-loop
-loop-again c = let x = c .before .before .before .before .before .before .before .before .before .before in let n = x .before .before .before .before .before .before .before in let i = n .before .before in let v = i .before .before .loop in let a = i .before .before .before .before .before .args in let q = x .align-point .kept .1 .1 in (
+loop-again c = let x = aligned c in let n = indexed x in let i = n .before .before in let l = looping x in let v = l .loop in let a = started l .args in let q = x .align-point .kept .1 .1 in (
   turned (alignAt (a .s)) (a .count) (now (a .operands)) (v .k) (zones (v .gx) (v .gy) (v .gflags) (v .tx) (v .ty) (v .tflags)) (i .before .loop-test .taken) (i .if1 .left) (read (getD (now (a .operands)) (v .k) (pos 0)) (n .before .as-index-arg .given) (n .as-index .ensures)) (x .align-point .ensures) (c .enum-told .given .1) ∙ v .inv .0,
   q .0 ∙ v .inv .1,
   q .1 .0 ∙ v .inv .2,

@@ -8,6 +8,16 @@ use Rattle.line_steps.specs.Loop.{zones}
 use Rattle.line_alignrp.proofs.align_point.Statement.{statement}
 use Rattle.line_alignrp.proofs.align_point.Tie as tie
 
+-- ---- places of the walk, found by their types
+abbrev applying : tie.After-slice-known4 → tie.After-apply-in
+applying c = search
+
+abbrev found : tie.After-apply-in → tie.After-found2
+found y = search
+
+abbrev started : tie.After-move-to-align → tie.Start
+started x = search
+
 move-to-align-requires : tie.Need-move-to-align-requires
 move-to-align-requires c κs = search needs
 
@@ -34,7 +44,7 @@ same-length-4 c = search needs
 
 returns : tie.Need-returns
 unfolding alignBy
-returns c = let f = c .before in let x = f .before .before in let a = x .before .before .before .before .before .before .before .before .args in
+returns c = let f = c .before in let x = f .before .before in let a = started x .args in
     found-is (a .s) (a .at) (zones (now (a .gx)) (now (a .gy)) (now (a .gflags)) (now (a .tx)) (now (a .ty)) (now (a .tflags))) (x .move-to-align .ensures) (f .found .given .1)
 
 same-length-5 : tie.Need-same-length-5
@@ -57,7 +67,7 @@ same-length-10 c = search needs
 
 returns-2 : tie.Need-returns-2
 unfolding alignBy
-returns-2 c = let y = c .before .before .before .before .before .before .before .before in let f = y .before .before .before .before .before .before .before .before in let x = f .before .before in let a = x .before .before .before .before .before .before .before .before .args in
+returns-2 c = let y = applying c in let f = found y in let x = f .before .before in let a = started x .args in
     ap zonesLeft (y .apply-in .ensures) ∙ found-is (a .s) (a .at) (zones (now (a .gx)) (now (a .gy)) (now (a .gflags)) (now (a .tx)) (now (a .ty)) (now (a .tflags))) (x .move-to-align .ensures) (f .found2 .given .1)
 
 pub align-point-spec : {M : Type 1} → statement M

@@ -42,10 +42,10 @@ marked-for-requires : tie.Need-marked-for-requires
 marked-for-requires c κs = tt
 
 same-length : tie.Need-same-length
-same-length c = c .before .before .before .walk-on .kept .1 .1 .1 .1 .1 .0
+same-length c = search (c .before .before .before .walk-on .kept)
 
 same-length-2 : tie.Need-same-length-2
-same-length-2 c = c .before .before .before .walk-on .kept .1 .1 .1 .1 .1 .1 .0
+same-length-2 c = search (c .before .before .before .walk-on .kept)
 
 returns-2 : tie.Need-returns-2
 returns-2 c = let k = c .before .before .before in let o = k .before .before .before in let p = o .before .before in let b = started p in

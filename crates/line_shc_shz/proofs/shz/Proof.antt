@@ -19,12 +19,18 @@ lent b controls gux guy = let a = b .args in fixed controls gux guy (now (a .gox
 abbrev entry : tie.Start → World
 entry b = let a = b .args in world (a .s) (now (a .gx)) (now (a .gy)) (now (a .gflags)) (now (a .tox)) (now (a .toy)) (now (a .tx)) (now (a .ty)) (now (a .tflags))
 
--- ---- places of the walk
+-- ---- places of the walk, found by their types
 abbrev started : tie.After-index-at → tie.Start
-started i = i .before .before .before .before .before
+started i = search
 
 abbrev indexed : tie.After-shift-span-of → tie.After-index-at
-indexed t = t .before .before .before .before .before .before .before .before .before .before .before .before
+indexed t = search
+
+abbrev referring : tie.After-shift-span-of → tie.After-reference-of
+referring t = search
+
+abbrev shifted : tie.After-slice-known4 → tie.After-shift-span-of
+shifted c = search
 
 refused-requires : tie.Need-refused-requires
 refused-requires c κs = tt
@@ -53,28 +59,28 @@ reference-of-requires : tie.Need-reference-of-requires
 reference-of-requires c κs = tt
 
 shift-span-of-requires : tie.Need-shift-span-of-requires
-shift-span-of-requires c κs = c .before .before .before .before .before .before .before .before .before .before .before .before .before .before .before .before .pre
+shift-span-of-requires c κs = let b : tie.Start = search in b .pre
 
 same-length : tie.Need-same-length
-same-length c = c .before .before .before .before .before .before .before .before .shift-span-of .kept .1 .1 .1 .1 .1 .1 .1 .1 .1 .0
+same-length c = search (shifted c .shift-span-of .kept)
 
 same-length-2 : tie.Need-same-length-2
-same-length-2 c = c .before .before .before .before .before .before .before .before .shift-span-of .kept .1 .1 .1 .1 .1 .1 .1 .1 .1 .1 .0
+same-length-2 c = search (shifted c .shift-span-of .kept)
 
 same-length-3 : tie.Need-same-length-3
-same-length-3 c = c .before .before .before .before .before .before .before .before .shift-span-of .kept .1 .1 .1 .1 .1 .1 .1 .1 .1 .1 .1 .0
+same-length-3 c = search (shifted c .shift-span-of .kept)
 
 same-length-4 : tie.Need-same-length-4
-same-length-4 c = c .before .before .before .before .before .before .before .before .shift-span-of .kept .1 .1 .1 .1 .1 .1 .1 .1 .1 .1 .1 .1 .1 .1 .0
+same-length-4 c = search (shifted c .shift-span-of .kept)
 
 same-length-5 : tie.Need-same-length-5
-same-length-5 c = c .before .before .before .before .before .before .before .before .shift-span-of .kept .1 .1 .1 .1 .1 .1 .1 .1 .1 .1 .1 .1 .1 .1 .1 .0
+same-length-5 c = search (shifted c .shift-span-of .kept)
 
 same-length-6 : tie.Need-same-length-6
-same-length-6 c = c .before .before .before .before .before .before .before .before .shift-span-of .kept .1 .1 .1 .1 .1 .1 .1 .1 .1 .1 .1 .1 .1 .1 .1 .1 .0
+same-length-6 c = search (shifted c .shift-span-of .kept)
 
 returns-3 : tie.Need-returns-3
-returns-3 c = let t = c .before .before .before .before .before .before .before .before in let p = t .before .before .before .before .before .before .before in let e = p .before in let a = e .before in let i = indexed t in let b = started i in
+returns-3 c = let t = shifted c in let p = referring t in let e = p .before in let a = e .before in let i = indexed t in let b = started i in
     λ controls gux guy. zone-shifted (lent b controls gux guy) (b .args .opcode) (now (b .args .operands)) (entry b) (i .before .if1 .left) (i .index-at .ensures) (a .before .before .if2 .left) (a .point-after .ensures) (e .size-of .ensures)
     (span-is (lent b controls gux guy) (b .args .opcode) false 0 (e .size-of .result) (entry b) (p .reference-of .ensures) (t .shift-span-of .ensures))
 

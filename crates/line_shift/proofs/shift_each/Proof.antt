@@ -16,6 +16,22 @@ Inv-loop m count operands xs₀ ys₀ flags₀ wanted k₀ xs ys flags k = Left 
 abbrev μ-loop : tie.MeasureT-loop
 μ-loop m count operands xs₀ ys₀ flags₀ wanted k₀ xs ys flags k = count - k
 
+-- ---- places of the walk, found by their types
+abbrev refused : tie.After-known-told Inv-loop μ-loop → tie.After-apply Inv-loop μ-loop
+refused c = search
+
+abbrev applied : tie.After-enum-told Inv-loop μ-loop → tie.After-apply Inv-loop μ-loop
+applied c = search
+
+abbrev indexed : tie.After-apply Inv-loop μ-loop → tie.After-as-index Inv-loop μ-loop
+indexed x = search
+
+abbrev looping : tie.After-apply Inv-loop μ-loop → tie.At-loop Inv-loop μ-loop
+looping x = search
+
+abbrev started : tie.At-loop Inv-loop μ-loop → tie.Start Inv-loop μ-loop
+started l = search
+
 loop-holds : tie.Need-loop-holds Inv-loop μ-loop
 loop-holds c = let a = c .before .args in (begun (shiftAt (a .m)) (a .count) (now (a .operands)) (points (now (a .xs)) (now (a .ys)) (now (a .flags))), refl, refl, refl)
 
@@ -42,22 +58,22 @@ as-index-requires : tie.Need-as-index-requires Inv-loop μ-loop
 as-index-requires c κs = search needs
 
 apply-requires : tie.Need-apply-requires Inv-loop μ-loop
-apply-requires c κs = let v = c .before .before .before .before .before .before .before .loop .inv in let p = c .before .before .before .before .before .before .before .before .before .pre in (v .2 ∙ p .0 ∙ sym (v .1), v .3 ∙ p .1 ∙ sym (v .1))
+apply-requires c κs = let l : tie.At-loop Inv-loop μ-loop = search in let v = l .loop .inv in let p = started l .pre in (v .2 ∙ p .0 ∙ sym (v .1), v .3 ∙ p .1 ∙ sym (v .1))
 
 enum-known-shifted : tie.Need-enum-known-shifted Inv-loop μ-loop
 enum-known-shifted c = search needs
 
 same-length-4 : tie.Need-same-length-4 Inv-loop μ-loop
-same-length-4 c = let x = c .before .before .before .before .before .before .before in x .apply .kept .1 .1 .0 ∙ x .before .before .before .before .before .before .before .before .loop .inv .1
+same-length-4 c = let x = refused c in x .apply .kept .1 .1 .0 ∙ looping x .loop .inv .1
 
 same-length-5 : tie.Need-same-length-5 Inv-loop μ-loop
-same-length-5 c = let x = c .before .before .before .before .before .before .before in x .apply .kept .1 .1 .1 .0 ∙ x .before .before .before .before .before .before .before .before .loop .inv .2
+same-length-5 c = let x = refused c in x .apply .kept .1 .1 .1 .0 ∙ looping x .loop .inv .2
 
 same-length-6 : tie.Need-same-length-6 Inv-loop μ-loop
-same-length-6 c = let x = c .before .before .before .before .before .before .before in x .apply .kept .1 .1 .1 .1 .0 ∙ x .before .before .before .before .before .before .before .before .loop .inv .3
+same-length-6 c = let x = refused c in x .apply .kept .1 .1 .1 .1 .0 ∙ looping x .loop .inv .3
 
 returns-2 : tie.Need-returns-2 Inv-loop μ-loop
-returns-2 c = let x = c .before .before .before .before .before .before .before in let n = x .before .before .before .before in let i = n .before .before in let v = i .before .before .loop in let a = i .before .before .before .before .args in
+returns-2 c = let x = refused c in let n = indexed x in let i = n .before .before in let l = looping x in let v = l .loop in let a = started l .args in
     stopped (shiftAt (a .m)) (a .count) (now (a .operands)) (v .k) (points (v .xs) (v .ys) (v .flags)) (i .before .loop-test .taken) (i .if1 .left) (read (getD (now (a .operands)) (v .k) (pos 0)) (n .before .as-index-arg .given) (n .as-index .ensures)) (ap pointsLeft (x .apply .ensures)) (c .before .shifted .given .1) ∙ v .inv .0
 
 enum-told : tie.Need-enum-told Inv-loop μ-loop
@@ -70,7 +86,7 @@ loop-less : tie.Need-loop-less Inv-loop μ-loop
 loop-less c = search needs
 
 loop-again : tie.Need-loop-again Inv-loop μ-loop
-loop-again c = let x = c .before .before .before .before .before .before in let n = x .before .before .before .before in let i = n .before .before in let v = i .before .before .loop in let a = i .before .before .before .before .args in let q = x .apply .kept .1 .1 in (
+loop-again c = let x = applied c in let n = indexed x in let i = n .before .before in let l = looping x in let v = l .loop in let a = started l .args in let q = x .apply .kept .1 .1 in (
   turned (shiftAt (a .m)) (a .count) (now (a .operands)) (v .k) (points (v .xs) (v .ys) (v .flags)) (i .before .loop-test .taken) (i .if1 .left) (read (getD (now (a .operands)) (v .k) (pos 0)) (n .before .as-index-arg .given) (n .as-index .ensures)) (ap pointsLeft (x .apply .ensures)) (c .enum-told .given .1) ∙ v .inv .0,
   q .0 ∙ v .inv .1,
   q .1 .0 ∙ v .inv .2,

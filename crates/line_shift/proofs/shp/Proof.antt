@@ -21,11 +21,27 @@ entry s = let a = s .args in
 abbrev held : tie.Start → List ℤ → List ℤ → List ℤ → List ℕ → Fixed
 held s controls gux guy contours = fixed controls gux guy (now (s .args .gox)) (now (s .args .goy)) contours
 
+-- ---- places of the walk, found by their types
+abbrev shifted : tie.After-reset-loop-counter → tie.After-shift-in
+shifted c = search
+
+abbrev moving : tie.After-shift-in → tie.After-zp2-move-of
+moving t = search
+
+abbrev displacing : tie.After-zp2-move-of → tie.After-displaced
+displacing m = search
+
+abbrev referred : tie.After-displaced → tie.After-reference-of
+referred x = search
+
+abbrev started : tie.After-reference-of → tie.Start
+started r = search
+
 reference-of-requires : tie.Need-reference-of-requires
 reference-of-requires c κs = tt
 
 displaced-requires : tie.Need-displaced-requires
-displaced-requires c κs = let p = c .before .before .before .before .before .before .before .before .before .before .pre in (p .0, p .1, p .3, p .4)
+displaced-requires c κs = let s : tie.Start = search in let p = s .pre in (p .0, p .1, p .3, p .4)
 
 enum-known-by : tie.Need-enum-known-by
 enum-known-by c = c .match .keys1
@@ -40,7 +56,7 @@ zp2-move-of-requires : tie.Need-zp2-move-of-requires
 zp2-move-of-requires c κs = tt
 
 shift-in-requires : tie.Need-shift-in-requires
-shift-in-requires c κs = let p = c .before .before .before .before .before .before .before .before .before .before .before .before .before .before .before .before .before .before .before .before .before .before .before .pre in (p .1, p .2, p .4, p .5)
+shift-in-requires c κs = let m : tie.After-zp2-move-of = search in let p = started (referred (displacing m)) .pre in (p .1, p .2, p .4, p .5)
 
 reset-loop-counter-requires : tie.Need-reset-loop-counter-requires
 reset-loop-counter-requires c κs = tt
@@ -58,30 +74,30 @@ same-length-4 : tie.Need-same-length-4
 same-length-4 c = refl
 
 returns : tie.Need-returns
-returns c = let f = c .before .before in let x = f .before .before in let r = x .before .before .before .before .before in let s = r .before .before .before .before .before .before in
+returns c = let f = c .before .before in let x = f .before .before in let r = referred x in let s = started r in
     λ controls gux guy contours. shp-refused (held s controls gux guy contours) (s .args .opcode) (now (s .args .operands)) (entry s) (r .reference-of .ensures) (x .displaced .ensures)
     (f .by .given .1) (ap (into (entry s)) (c .refused .ensures))
 
 same-length-5 : tie.Need-same-length-5
-same-length-5 c = c .before .before .before .before .before .before .before .before .before .shift-in .kept .1 .1 .1 .1 .0
+same-length-5 c = search (shifted c .shift-in .kept)
 
 same-length-6 : tie.Need-same-length-6
-same-length-6 c = c .before .before .before .before .before .before .before .before .before .shift-in .kept .1 .1 .1 .1 .1 .0
+same-length-6 c = search (shifted c .shift-in .kept)
 
 same-length-7 : tie.Need-same-length-7
-same-length-7 c = c .before .before .before .before .before .before .before .before .before .shift-in .kept .1 .1 .1 .1 .1 .1 .0
+same-length-7 c = search (shifted c .shift-in .kept)
 
 same-length-8 : tie.Need-same-length-8
-same-length-8 c = c .before .before .before .before .before .before .before .before .before .shift-in .kept .1 .1 .1 .1 .1 .1 .1 .0
+same-length-8 c = search (shifted c .shift-in .kept)
 
 same-length-9 : tie.Need-same-length-9
-same-length-9 c = c .before .before .before .before .before .before .before .before .before .shift-in .kept .1 .1 .1 .1 .1 .1 .1 .1 .0
+same-length-9 c = search (shifted c .shift-in .kept)
 
 same-length-10 : tie.Need-same-length-10
-same-length-10 c = c .before .before .before .before .before .before .before .before .before .shift-in .kept .1 .1 .1 .1 .1 .1 .1 .1 .1 .0
+same-length-10 c = search (shifted c .shift-in .kept)
 
 returns-2 : tie.Need-returns-2
-returns-2 c = let t = c .before .before .before .before .before .before .before .before .before in let m = t .before .before .before .before .before .before .before in let f = m .before .before .before .before in let x = f .before .before in let r = x .before .before .before .before .before in let s = r .before .before .before .before .before .before in
+returns-2 c = let t = shifted c in let m = moving t in let f = m .before .before .before .before in let x = f .before .before in let r = referred x in let s = started r in
     λ controls gux guy contours. shp-shifted (held s controls gux guy contours) (s .args .opcode) (now (s .args .operands)) (entry s) (r .reference-of .ensures) (x .displaced .ensures)
     (f .by2 .given .1)
     (m .zp2-move-of .ensures)

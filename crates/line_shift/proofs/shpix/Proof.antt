@@ -19,18 +19,28 @@ abbrev entry : tie.Start → List ℤ → List ℤ → World
 entry s tox toy = let a = s .args in
     world (a .s) (now (a .gx)) (now (a .gy)) (now (a .gflags)) tox toy (now (a .tx)) (now (a .ty)) (now (a .tflags))
 
+-- ---- places of the walk, found by their types
+abbrev shifted : tie.After-reset-loop-counter → tie.After-shift-in
+shifted c = search
+
+abbrev moving : tie.After-shift-in → tie.After-pixel-move
+moving t = search
+
+abbrev started : tie.Else1 → tie.Start
+started i = search
+
 refused-requires : tie.Need-refused-requires
 refused-requires c κs = tt
 
 returns : tie.Need-returns
-returns c = let i = c .before in let s = i .before .before .before .before .before .before in
+returns c = let i = c .before in let s : tie.Start = search in
     λ f opcode tox toy. compatible f opcode (now (s .args .operands)) (entry s tox toy) (i .if1 .taken) (ap (into (entry s tox toy)) (c .refused .ensures))
 
 refused-requires-2 : tie.Need-refused-requires-2
 refused-requires-2 c κs = tt
 
 returns-2 : tie.Need-returns-2
-returns-2 c = let j = c .before in let i = j .before in let s = i .before .before .before .before .before .before in
+returns-2 c = let j = c .before in let i = j .before in let s = started i in
     λ f opcode tox toy. no-amount f opcode (now (s .args .operands)) (entry s tox toy) (i .if1 .left) (j .if2 .taken) (ap (into (entry s tox toy)) (c .refused2 .ensures))
 
 shared-slice-copy-out-pixel-move : tie.Need-shared-slice-copy-out-pixel-move
@@ -55,25 +65,25 @@ reset-loop-counter-requires : tie.Need-reset-loop-counter-requires
 reset-loop-counter-requires c κs = tt
 
 same-length : tie.Need-same-length
-same-length c = c .before .before .before .before .before .before .before .before .before .shift-in .kept .1 .1 .1 .1 .0
+same-length c = search (shifted c .shift-in .kept)
 
 same-length-2 : tie.Need-same-length-2
-same-length-2 c = c .before .before .before .before .before .before .before .before .before .shift-in .kept .1 .1 .1 .1 .1 .0
+same-length-2 c = search (shifted c .shift-in .kept)
 
 same-length-3 : tie.Need-same-length-3
-same-length-3 c = c .before .before .before .before .before .before .before .before .before .shift-in .kept .1 .1 .1 .1 .1 .1 .0
+same-length-3 c = search (shifted c .shift-in .kept)
 
 same-length-4 : tie.Need-same-length-4
-same-length-4 c = c .before .before .before .before .before .before .before .before .before .shift-in .kept .1 .1 .1 .1 .1 .1 .1 .0
+same-length-4 c = search (shifted c .shift-in .kept)
 
 same-length-5 : tie.Need-same-length-5
-same-length-5 c = c .before .before .before .before .before .before .before .before .before .shift-in .kept .1 .1 .1 .1 .1 .1 .1 .1 .0
+same-length-5 c = search (shifted c .shift-in .kept)
 
 same-length-6 : tie.Need-same-length-6
-same-length-6 c = c .before .before .before .before .before .before .before .before .before .shift-in .kept .1 .1 .1 .1 .1 .1 .1 .1 .1 .0
+same-length-6 c = search (shifted c .shift-in .kept)
 
 returns-3 : tie.Need-returns-3
-returns-3 c = let t = c .before .before .before .before .before .before .before .before .before in let m = t .before .before .before .before .before .before .before .before in let j = m .before .before in let i = j .before in let s = i .before .before .before .before .before .before in
+returns-3 c = let t = shifted c in let m = moving t in let j = m .before .before in let i = j .before in let s = started i in
     λ f opcode tox toy. amount-first f opcode (now (s .args .operands)) (entry s tox toy) (i .if1 .left) (omega (arith, j .if2 .left))
     (m .pixel-move .ensures)
     (back32 _ (m .before .pixel-move-arg .given))

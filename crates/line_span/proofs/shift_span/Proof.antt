@@ -17,13 +17,13 @@ returns c = let a = c .before .before .before .args in
     idle-is (a .m) (a .keeps) (a .kept) (a .start) (a .end) (points (now (a .xs)) (now (a .ys)) (now (a .flags))) (sym (c .before .is-idle .ensures) ∙ c .if1 .taken)
 
 same-length : tie.Need-same-length
-same-length c = c .before .before .before .before .shift-busy-span .kept .1 .1 .1 .1 .1 .0
+same-length c = search (c .before .before .before .before .shift-busy-span .kept)
 
 same-length-2 : tie.Need-same-length-2
-same-length-2 c = c .before .before .before .before .shift-busy-span .kept .1 .1 .1 .1 .1 .1 .0
+same-length-2 c = search (c .before .before .before .before .shift-busy-span .kept)
 
 same-length-3 : tie.Need-same-length-3
-same-length-3 c = c .before .before .before .before .shift-busy-span .kept .1 .1 .1 .1 .1 .1 .1 .0
+same-length-3 c = search (c .before .before .before .before .shift-busy-span .kept)
 
 returns-2 : tie.Need-returns-2
 returns-2 c = c .before .before .before .before .shift-busy-span .ensures

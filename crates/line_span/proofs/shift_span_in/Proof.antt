@@ -23,13 +23,13 @@ shift-span-requires-2 : tie.Need-shift-span-requires-2
 shift-span-requires-2 c κs = let p = c .before .before .before .before .before .before .before .pre in (p .2, p .3)
 
 same-length : tie.Need-same-length
-same-length c = c .before .before .before .before .shift-span .kept .1 .1 .1 .1 .1 .0
+same-length c = search (c .before .before .before .before .shift-span .kept)
 
 same-length-2 : tie.Need-same-length-2
-same-length-2 c = c .before .before .before .before .shift-span .kept .1 .1 .1 .1 .1 .1 .0
+same-length-2 c = search (c .before .before .before .before .shift-span .kept)
 
 same-length-3 : tie.Need-same-length-3
-same-length-3 c = c .before .before .before .before .shift-span .kept .1 .1 .1 .1 .1 .1 .1 .0
+same-length-3 c = search (c .before .before .before .before .shift-span .kept)
 
 returns : tie.Need-returns
 unfolding inZone
@@ -37,13 +37,13 @@ returns c = let t = c .before .before .before .before in let e = t .before .befo
     ap (glyphLeft (entry b .twilight)) (t .shift-span .ensures) ∙ sym (ap (inZone (shiftSpan (a .m) (a .keeps) (a .kept) (a .start) (a .end)) (entry b)) (e .enum-told .given .1))
 
 same-length-4 : tie.Need-same-length-4
-same-length-4 c = c .before .before .before .before .shift-span2 .kept .1 .1 .1 .1 .1 .0
+same-length-4 c = search (c .before .before .before .before .shift-span2 .kept)
 
 same-length-5 : tie.Need-same-length-5
-same-length-5 c = c .before .before .before .before .shift-span2 .kept .1 .1 .1 .1 .1 .1 .0
+same-length-5 c = search (c .before .before .before .before .shift-span2 .kept)
 
 same-length-6 : tie.Need-same-length-6
-same-length-6 c = c .before .before .before .before .shift-span2 .kept .1 .1 .1 .1 .1 .1 .1 .0
+same-length-6 c = search (c .before .before .before .before .shift-span2 .kept)
 
 returns-2 : tie.Need-returns-2
 unfolding inZone

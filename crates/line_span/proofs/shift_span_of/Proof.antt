@@ -12,15 +12,21 @@ use Rattle.line_span.proofs.shift_span_of.Tie as tie
 abbrev entry : tie.Start → Zones
 entry b = let a = b .args in zones (now (a .gx)) (now (a .gy)) (now (a .gflags)) (now (a .tx)) (now (a .ty)) (now (a .tflags))
 
--- ---- places of the walk
+-- ---- places of the walk, found by their types
 abbrev started : tie.After-displaced-in → tie.Start
-started x = x .before .before .before .before .before .before .before
+started x = search
 
 abbrev moving : tie.After-shift-span-in → tie.After-zp2-move-of
-moving t = t .before .before .before .before .before .before .before .before
+moving t = search
+
+abbrev zoned : tie.After-shift-span-in → tie.After-same-zone
+zoned t = search
+
+abbrev spanned : tie.After-slice-known4 → tie.After-shift-span-in
+spanned c = search
 
 displaced-in-requires : tie.Need-displaced-in-requires
-displaced-in-requires c κs = let p = c .before .before .before .before .before .before .pre in (p .0, p .1, p .3, p .4)
+displaced-in-requires c κs = let s : tie.Start = search in let p = s .pre in (p .0, p .1, p .3, p .4)
 
 enum-known-displaced : tie.Need-enum-known-displaced
 enum-known-displaced c = c .match .keys1
@@ -35,7 +41,7 @@ same-zone-requires : tie.Need-same-zone-requires
 same-zone-requires c κs = tt
 
 shift-span-in-requires : tie.Need-shift-span-in-requires
-shift-span-in-requires c κs = let p = c .before .before .before .before .before .before .before .before .before .before .before .before .before .before .before .before .before .before .before .before .pre in (p .1, p .2, p .4, p .5)
+shift-span-in-requires c κs = let s : tie.Start = search in let p = s .pre in (p .1, p .2, p .4, p .5)
 
 same-length : tie.Need-same-length
 same-length c = refl
@@ -54,30 +60,30 @@ returns c = let x = c .before .before .before in let b = started x in let a = b 
     span-out (a .v) (a .f) (a .zp2) (a .reference) (a .touches) (a .start) (a .end) (now (a .gox)) (now (a .goy)) (now (a .tox)) (now (a .toy)) (entry b) (x .displaced-in .ensures) (c .before .displaced .given .1)
 
 same-length-5 : tie.Need-same-length-5
-same-length-5 c = c .before .before .before .before .before .before .before .before .shift-span-in .kept .1 .1 .1 .1 .1 .1 .0
+same-length-5 c = search (spanned c .shift-span-in .kept)
 
 same-length-6 : tie.Need-same-length-6
-same-length-6 c = c .before .before .before .before .before .before .before .before .shift-span-in .kept .1 .1 .1 .1 .1 .1 .1 .0
+same-length-6 c = search (spanned c .shift-span-in .kept)
 
 same-length-7 : tie.Need-same-length-7
-same-length-7 c = c .before .before .before .before .before .before .before .before .shift-span-in .kept .1 .1 .1 .1 .1 .1 .1 .1 .0
+same-length-7 c = search (spanned c .shift-span-in .kept)
 
 same-length-8 : tie.Need-same-length-8
-same-length-8 c = c .before .before .before .before .before .before .before .before .shift-span-in .kept .1 .1 .1 .1 .1 .1 .1 .1 .1 .0
+same-length-8 c = search (spanned c .shift-span-in .kept)
 
 same-length-9 : tie.Need-same-length-9
-same-length-9 c = c .before .before .before .before .before .before .before .before .shift-span-in .kept .1 .1 .1 .1 .1 .1 .1 .1 .1 .1 .0
+same-length-9 c = search (spanned c .shift-span-in .kept)
 
 same-length-10 : tie.Need-same-length-10
-same-length-10 c = c .before .before .before .before .before .before .before .before .shift-span-in .kept .1 .1 .1 .1 .1 .1 .1 .1 .1 .1 .1 .0
+same-length-10 c = search (spanned c .shift-span-in .kept)
 
 returns-2 : tie.Need-returns-2
-returns-2 c = let t = c .before .before .before .before .before .before .before .before in let m = moving t in let k = m .before .before .before .before in let x = k .before .before in let b = started x in let a = b .args in
+returns-2 c = let t = spanned c in let m = moving t in let k = m .before .before .before .before in let x = k .before .before in let b = started x in let a = b .args in
     span-there (a .v) (a .f) (a .zp2) (a .reference) (a .touches) (a .start) (a .end) (now (a .gox)) (now (a .goy)) (now (a .tox)) (now (a .toy)) (entry b) (x .displaced-in .ensures) (k .displaced2 .given .1)
     (m .zp2-move-of .ensures)
     (back32 _ (omega (arith, m .before .before .struct-told .given .1 .1 .0)))
     (back32 _ (omega (arith, m .before .struct-told2 .given .1 .1 .1 .0)))
-    (t .before .before .before .before .before .before .before .same-zone .ensures)
+    (zoned t .same-zone .ensures)
     (t .shift-span-in .ensures)
 
 pub shift-span-of-spec : {M : Type 1} → statement M

@@ -11,16 +11,16 @@ move-run-requires : tie.Need-move-run-requires
 move-run-requires c κs = c .before .before .before .pre .2
 
 move-run-requires-2 : tie.Need-move-run-requires-2
-move-run-requires-2 c κs = let p = c .before .before .before .before .before .before .before .pre in omega (arith, p .0, p .2)
+move-run-requires-2 c κs = let s : tie.Start = search in let p = s .pre in omega (arith, p .0, p .2)
 
 touch-run-requires : tie.Need-touch-run-requires
-touch-run-requires c κs = let p = c .before .before .before .before .before .before .before .before .before .before .pre in omega (arith, p .1, p .2)
+touch-run-requires c κs = let s : tie.Start = search in let p = s .pre in omega (arith, p .1, p .2)
 
 same-length : tie.Need-same-length
-same-length c = c .before .before .before .before .before .before .before .before .before .move-run .kept .0
+same-length c = let x : tie.After-move-run = search in x .move-run .kept .0
 
 same-length-2 : tie.Need-same-length-2
-same-length-2 c = c .before .before .before .before .before .move-run2 .kept .0
+same-length-2 c = let y : tie.After-move-run2 = search in y .move-run2 .kept .0
 
 same-length-3 : tie.Need-same-length-3
 same-length-3 c = c .before .before .touch-run .kept .0

@@ -29,7 +29,7 @@ abbrev y : tie.After-flag-at → ℤ
 y c = toZ w32 (ofZ w32 (c .before .from-bits2 .result))
 
 abbrev entry : tie.After-flag-at → tie.Start
-entry c = c .before .before .before .before .before .before .before .before .before
+entry c = search
 
 abbrev wanted : tie.After-flag-at → List ℕ
 wanted c = nextLine (now (entry c .args .out)) (entry c .args .l) (entry c .args .i)

@@ -208,7 +208,7 @@ run-and-write-requires : tie.Need-run-and-write-requires
 run-and-write-requires c κs = tt
 
 same-length : tie.Need-same-length
-same-length c = ran c .run-and-write .kept .1 .1 .1 .1 .1 .1 .1 .1 .1 .1 .1 .1 .1 .1 .1 .1 .1 .0
+same-length c = search (ran c .run-and-write .kept)
 
 returns : tie.Need-returns
 returns c =

@@ -181,7 +181,7 @@ replay-over-requires : tie.Need-replay-over-requires
 replay-over-requires c κs = let s = from-contours (c .before) in (entry s .pre .0, entry s .pre .1 .1 .0)
 
 same-length : tie.Need-same-length
-same-length c = c .before .before .replay-over .kept .1 .1 .1 .1 .1 .1 .1 .1 .1 .0
+same-length c = search (c .before .before .replay-over .kept)
 
 returns : tie.Need-returns
 returns c =

@@ -34,44 +34,46 @@ say-requires : tie.Need-say-requires
 say-requires c κs = tt
 
 same-length : tie.Need-same-length
-same-length c = ran c .run .kept .1 .1 .1 .1 .1 .1 .1 .1 .1 .0
+same-length c = search (ran c .run .kept)
 
 same-length-2 : tie.Need-same-length-2
-same-length-2 c = ran c .run .kept .1 .1 .1 .1 .1 .1 .1 .1 .1 .1 .0
+same-length-2 c = search (ran c .run .kept)
 
 same-length-3 : tie.Need-same-length-3
-same-length-3 c = ran c .run .kept .1 .1 .1 .1 .1 .1 .1 .1 .1 .1 .1 .0
+same-length-3 c = search (ran c .run .kept)
 
 same-length-4 : tie.Need-same-length-4
-same-length-4 c = ran c .run .kept .1 .1 .1 .1 .1 .1 .1 .1 .1 .1 .1 .1 .1 .0
+same-length-4 c = search (ran c .run .kept)
 
 same-length-5 : tie.Need-same-length-5
-same-length-5 c = ran c .run .kept .1 .1 .1 .1 .1 .1 .1 .1 .1 .1 .1 .1 .1 .1 .0
+same-length-5 c = search (ran c .run .kept)
 
 same-length-6 : tie.Need-same-length-6
-same-length-6 c = ran c .run .kept .1 .1 .1 .1 .1 .1 .1 .1 .1 .1 .1 .1 .1 .1 .1 .0
+same-length-6 c = search (ran c .run .kept)
 
 same-length-7 : tie.Need-same-length-7
-same-length-7 c = ran c .run .kept .1 .1 .1 .1 .1 .1 .1 .1 .1 .1 .1 .1 .1 .1 .1 .1 .0
+same-length-7 c = search (ran c .run .kept)
 
 same-length-8 : tie.Need-same-length-8
-same-length-8 c = ran c .run .kept .1 .1 .1 .1 .1 .1 .1 .1 .1 .1 .1 .1 .1 .1 .1 .1 .1 .0
+same-length-8 c = search (ran c .run .kept)
 
 same-length-9 : tie.Need-same-length-9
-same-length-9 c = written c .write .kept .1 .1 .1 .1 .1 .1 .1 .1 .1 .1 .1 .1 .1 .1 .1 .1 .0
+same-length-9 c = search (written c .write .kept)
 
 returns : tie.Need-returns
 returns c =
     let write = written c in
     let run = ran c in
+    let glyph = run .run .last .1 .1 .1 .1 .1 .1 .1 .1 .1 in
+    let twilight = glyph .1 .1 .1 .1 in
     let a = entry c .args in
     let f = fixed (now (a .controls)) (now (a .gux)) (now (a .guy)) (now (a .gox)) (now (a .goy)) (now (a .contours)) in
     let w = world (a .s) (now (a .gx)) (now (a .gy)) (now (a .gflags)) (now (a .tox)) (now (a .toy)) (now (a .tx)) (now (a .ty)) (now (a .tflags)) in (
       ran-and-written (a .l) f (now (a .sheet)) w (now (a .out)) (run .run .result)
-          (run .run .last .1 .1 .1 .1 .1 .1 .1 .1 .1 .0) (run .run .last .1 .1 .1 .1 .1 .1 .1 .1 .1 .1 .0) (run .run .last .1 .1 .1 .1 .1 .1 .1 .1 .1 .1 .1 .0) (run .run .last .1 .1 .1 .1 .1 .1 .1 .1 .1 .1 .1 .1 .1 .0) (run .run .last .1 .1 .1 .1 .1 .1 .1 .1 .1 .1 .1 .1 .1 .1 .0) (run .run .last .1 .1 .1 .1 .1 .1 .1 .1 .1 .1 .1 .1 .1 .1 .1 .0) (run .run .last .1 .1 .1 .1 .1 .1 .1 .1 .1 .1 .1 .1 .1 .1 .1 .1 .0) (run .run .last .1 .1 .1 .1 .1 .1 .1 .1 .1 .1 .1 .1 .1 .1 .1 .1 .1 .0)
+          (glyph .0) (glyph .1 .0) (glyph .1 .1 .0) (twilight .0) (twilight .1 .0) (twilight .1 .1 .0) (twilight .1 .1 .1 .0) (twilight .1 .1 .1 .1 .0)
           (run .run .ensures) (write .write .ensures) (c .say .ensures),
       lists-left f (now (a .sheet)) w (run .run .result)
-          (run .run .last .1 .1 .1 .1 .1 .1 .1 .1 .1 .0) (run .run .last .1 .1 .1 .1 .1 .1 .1 .1 .1 .1 .0) (run .run .last .1 .1 .1 .1 .1 .1 .1 .1 .1 .1 .1 .0) (run .run .last .1 .1 .1 .1 .1 .1 .1 .1 .1 .1 .1 .1 .1 .0) (run .run .last .1 .1 .1 .1 .1 .1 .1 .1 .1 .1 .1 .1 .1 .1 .0) (run .run .last .1 .1 .1 .1 .1 .1 .1 .1 .1 .1 .1 .1 .1 .1 .1 .0) (run .run .last .1 .1 .1 .1 .1 .1 .1 .1 .1 .1 .1 .1 .1 .1 .1 .1 .0) (run .run .last .1 .1 .1 .1 .1 .1 .1 .1 .1 .1 .1 .1 .1 .1 .1 .1 .1 .0)
+          (glyph .0) (glyph .1 .0) (glyph .1 .1 .0) (twilight .0) (twilight .1 .0) (twilight .1 .1 .0) (twilight .1 .1 .1 .0) (twilight .1 .1 .1 .1 .0)
           (run .run .ensures),
     )
 

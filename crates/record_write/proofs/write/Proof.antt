@@ -48,7 +48,7 @@ store-requires : tie.Need-store-requires
 store-requires c κs = tt
 
 same-length : tie.Need-same-length
-same-length c = c .before .before .store .kept .1 .1 .1 .1 .1 .1 .1 .1 .1 .1 .1 .1 .1 .1 .1 .1 .1 .0
+same-length c = search (c .before .before .store .kept)
 
 returns-4 : tie.Need-returns-4
 returns-4 c =

@@ -7,6 +7,7 @@ use native.Mathlib.Omega.{arith}
 use borrow.Author.Needs.{needs as all-needs}
 use denote.Ref.{now}
 use lib.IntN.{ℤ}
+use lib.ListN.{length}
 use Rattle.line.specs.World.{Fixed, World, fixed, world}
 use Rattle.run_lines.specs.Onward.{replayOf}
 use Rattle.run_lines.proofs.Loop.{Sizes, at-end, goes-on, same-sizes, sizes, still-alike, stops, used}
@@ -24,6 +25,25 @@ Inv-loop start budget sheet needs controls gux guy gox goy gx₀ gy₀ gflags₀
 
 abbrev μ-loop : tie.MeasureT-loop
 μ-loop start budget sheet needs controls gux guy gox goy gx₀ gy₀ gflags₀ contours tox₀ toy₀ tx₀ ty₀ tflags₀ state₀ at₀ left₀ lines₀ gx gy gflags tox toy tx ty tflags state at left lines = left
+
+-- ---- places of the walk, found by their types
+abbrev stepped : tie.After-enum-told Inv-loop μ-loop → tie.After-step Inv-loop μ-loop
+stepped c = search
+
+abbrev refused : tie.After-known-told Inv-loop μ-loop → tie.After-step Inv-loop μ-loop
+refused c = search
+
+abbrev going : tie.After-step Inv-loop μ-loop → tie.Else1 Inv-loop μ-loop
+going k = search
+
+abbrev looping : tie.Else1 Inv-loop μ-loop → tie.At-loop Inv-loop μ-loop
+looping i = search
+
+abbrev turn : tie.After-step Inv-loop μ-loop → tie.At-loop Inv-loop μ-loop
+turn k = looping (going k)
+
+abbrev started : tie.At-loop Inv-loop μ-loop → tie.Start Inv-loop μ-loop
+started l = search
 
 abbrev held : tie.Start Inv-loop μ-loop → Fixed
 held s = fixed (now (s .args .controls)) (now (s .args .gux)) (now (s .args .guy)) (now (s .args .gox)) (now (s .args .goy)) (now (s .args .contours))
@@ -64,61 +84,67 @@ same-length-8 : tie.Need-same-length-8 Inv-loop μ-loop
 same-length-8 c = let l = c .before .before in ap (λ (z : Sizes). z .tflags) (l .loop .inv .same)
 
 returns : tie.Need-returns Inv-loop μ-loop
-returns c = let t = c .before in let l = t .before in let s = l .before .before .before .before .before in
+returns c = let t = c .before in let l = t .before in let s = started l in
     used (held s) (now (s .args .sheet)) _ _ _ (head l) (c .if1 .taken) (t .loop-test .taken) ∙ l .loop .inv .run
 
 step-requires : tie.Need-step-requires Inv-loop μ-loop
-step-requires c κs = let l = c .before .before .before .before .before .before .before .before .before .before in let s = l .before .before .before .before .before in (s .pre .0, still-alike (held s) (entry s) (head l) (l .loop .inv .same) (s .pre .1))
+step-requires c κs = let l : tie.At-loop Inv-loop μ-loop = search in let s = started l in (s .pre .0, still-alike (held s) (entry s) (head l) (l .loop .inv .same) (s .pre .1))
 
 enum-known-call : tie.Need-enum-known-call Inv-loop μ-loop
 enum-known-call c = search all-needs
 
 same-length-9 : tie.Need-same-length-9 Inv-loop μ-loop
-same-length-9 c = let k = c .before .before .before .before .before .before .before .before .before .before .before .before .before .before in let l = k .before .before .before .before .before .before .before .before .before .before .before in k .step .kept .1 .1 .1 .1 .1 .1 .1 .1 .1 .0 ∙ ap (λ (z : Sizes). z .gx) (l .loop .inv .same)
+same-length-9 c = _∙_ {b = length (turn (refused c) .loop .gx)} (search (refused c .step .kept)) (ap (λ (z : Sizes). z .gx) (turn (refused c) .loop .inv .same))
 
 same-length-10 : tie.Need-same-length-10 Inv-loop μ-loop
-same-length-10 c = let k = c .before .before .before .before .before .before .before .before .before .before .before .before .before .before in let l = k .before .before .before .before .before .before .before .before .before .before .before in k .step .kept .1 .1 .1 .1 .1 .1 .1 .1 .1 .1 .0 ∙ ap (λ (z : Sizes). z .gy) (l .loop .inv .same)
+same-length-10 c = _∙_ {b = length (turn (refused c) .loop .gy)} (search (refused c .step .kept)) (ap (λ (z : Sizes). z .gy) (turn (refused c) .loop .inv .same))
 
 same-length-11 : tie.Need-same-length-11 Inv-loop μ-loop
-same-length-11 c = let k = c .before .before .before .before .before .before .before .before .before .before .before .before .before .before in let l = k .before .before .before .before .before .before .before .before .before .before .before in k .step .kept .1 .1 .1 .1 .1 .1 .1 .1 .1 .1 .1 .0 ∙ ap (λ (z : Sizes). z .gflags) (l .loop .inv .same)
+same-length-11 c = _∙_ {b = length (turn (refused c) .loop .gflags)} (search (refused c .step .kept)) (ap (λ (z : Sizes). z .gflags) (turn (refused c) .loop .inv .same))
 
 same-length-12 : tie.Need-same-length-12 Inv-loop μ-loop
-same-length-12 c = let k = c .before .before .before .before .before .before .before .before .before .before .before .before .before .before in let l = k .before .before .before .before .before .before .before .before .before .before .before in k .step .kept .1 .1 .1 .1 .1 .1 .1 .1 .1 .1 .1 .1 .1 .0 ∙ ap (λ (z : Sizes). z .tox) (l .loop .inv .same)
+same-length-12 c = _∙_ {b = length (turn (refused c) .loop .tox)} (search) (ap (λ (z : Sizes). z .tox) (turn (refused c) .loop .inv .same))
 
 same-length-13 : tie.Need-same-length-13 Inv-loop μ-loop
-same-length-13 c = let k = c .before .before .before .before .before .before .before .before .before .before .before .before .before .before in let l = k .before .before .before .before .before .before .before .before .before .before .before in k .step .kept .1 .1 .1 .1 .1 .1 .1 .1 .1 .1 .1 .1 .1 .1 .0 ∙ ap (λ (z : Sizes). z .toy) (l .loop .inv .same)
+same-length-13 c = _∙_ {b = length (turn (refused c) .loop .toy)} (search) (ap (λ (z : Sizes). z .toy) (turn (refused c) .loop .inv .same))
 
 same-length-14 : tie.Need-same-length-14 Inv-loop μ-loop
-same-length-14 c = let k = c .before .before .before .before .before .before .before .before .before .before .before .before .before .before in let l = k .before .before .before .before .before .before .before .before .before .before .before in k .step .kept .1 .1 .1 .1 .1 .1 .1 .1 .1 .1 .1 .1 .1 .1 .1 .0 ∙ ap (λ (z : Sizes). z .tx) (l .loop .inv .same)
+same-length-14 c = _∙_ {b = length (turn (refused c) .loop .tx)} (search) (ap (λ (z : Sizes). z .tx) (turn (refused c) .loop .inv .same))
 
 same-length-15 : tie.Need-same-length-15 Inv-loop μ-loop
-same-length-15 c = let k = c .before .before .before .before .before .before .before .before .before .before .before .before .before .before in let l = k .before .before .before .before .before .before .before .before .before .before .before in k .step .kept .1 .1 .1 .1 .1 .1 .1 .1 .1 .1 .1 .1 .1 .1 .1 .1 .0 ∙ ap (λ (z : Sizes). z .ty) (l .loop .inv .same)
+same-length-15 c = _∙_ {b = length (turn (refused c) .loop .ty)} (search) (ap (λ (z : Sizes). z .ty) (turn (refused c) .loop .inv .same))
 
 same-length-16 : tie.Need-same-length-16 Inv-loop μ-loop
-same-length-16 c = let k = c .before .before .before .before .before .before .before .before .before .before .before .before .before .before in let l = k .before .before .before .before .before .before .before .before .before .before .before in k .step .kept .1 .1 .1 .1 .1 .1 .1 .1 .1 .1 .1 .1 .1 .1 .1 .1 .1 .0 ∙ ap (λ (z : Sizes). z .tflags) (l .loop .inv .same)
+same-length-16 c = _∙_ {b = length (turn (refused c) .loop .tflags)} (search) (ap (λ (z : Sizes). z .tflags) (turn (refused c) .loop .inv .same))
 
 returns-2 : tie.Need-returns-2 Inv-loop μ-loop
-returns-2 c = let m = c .before in let k = m .before .before .before .before .before .before .before .before .before .before .before .before .before in let i = k .before .before .before .before .before .before .before .before .before in let t = i .before in let l = t .before in let s = l .before .before .before .before .before in
+returns-2 c = let m = c .before in let k = refused c in let i = going k in let t = i .before in let l = t .before in let s = started l in
     stops (held s) (now (s .args .sheet)) _ _ _ (head l) _ (k .step .ensures) (t .loop-test .taken) (i .if1 .left) (m .call .given .1) ∙ l .loop .inv .run
 
 enum-told : tie.Need-enum-told Inv-loop μ-loop
 enum-told c = search all-needs
 
 sub-left : tie.Need-sub-left Inv-loop μ-loop
-sub-left c = let i = c .before .before .before .before .before .before .before .before .before .before .before .before .before .before .before .before .before .before .before .before .before .before in omega (arith, i .if1 .left)
+sub-left c = let i = going (stepped c) in omega (arith, i .if1 .left)
 
 add-lines : tie.Need-add-lines Inv-loop μ-loop
-add-lines c = let i = c .before .before .before .before .before .before .before .before .before .before .before .before .before .before .before .before .before .before .before .before .before .before in let l = i .before .before in let s = l .before .before .before .before .before in omega (arith, i .if1 .left, l .loop .inv .sum, s .fits .budget)
+add-lines c = let i = going (stepped c) in let l = looping i in let s = started l in omega (arith, i .if1 .left, l .loop .inv .sum, s .fits .budget)
 
 loop-less : tie.Need-loop-less Inv-loop μ-loop
-loop-less c = let i = c .before .before .before .before .before .before .before .before .before .before .before .before .before .before .before .before .before .before .before .before .before .before in omega (arith, i .if1 .left)
+loop-less c = let i = going (stepped c) in omega (arith, i .if1 .left)
 
 loop-again : tie.Need-loop-again Inv-loop μ-loop
-loop-again c = let k = c .before .before .before .before .before .before .before .before .before .before .before .before .before in let i = k .before .before .before .before .before .before .before .before .before in let t = i .before in let l = t .before in let s = l .before .before .before .before .before in
+loop-again c =
     record {
-      run = goes-on (held s) (now (s .args .sheet)) _ _ _ (head l) _ (k .step .ensures) (t .loop-test .taken) (i .if1 .left) (c .enum-told .given .1) ∙ l .loop .inv .run;
-      same = same-sizes (k .step .kept .1 .1 .1 .1 .1 .1 .1 .1 .1 .0) (k .step .kept .1 .1 .1 .1 .1 .1 .1 .1 .1 .1 .0) (k .step .kept .1 .1 .1 .1 .1 .1 .1 .1 .1 .1 .1 .0) (k .step .kept .1 .1 .1 .1 .1 .1 .1 .1 .1 .1 .1 .1 .1 .0) (k .step .kept .1 .1 .1 .1 .1 .1 .1 .1 .1 .1 .1 .1 .1 .1 .0) (k .step .kept .1 .1 .1 .1 .1 .1 .1 .1 .1 .1 .1 .1 .1 .1 .1 .0) (k .step .kept .1 .1 .1 .1 .1 .1 .1 .1 .1 .1 .1 .1 .1 .1 .1 .1 .0) (k .step .kept .1 .1 .1 .1 .1 .1 .1 .1 .1 .1 .1 .1 .1 .1 .1 .1 .1 .0) ∙ l .loop .inv .same;
-      sum = omega (arith, i .if1 .left, l .loop .inv .sum);
+      run = let k = stepped c in let i = going k in let t = i .before in let l = t .before in let s = started l in
+          goes-on (held s) (now (s .args .sheet)) _ _ _ (head l) _ (k .step .ensures) (t .loop-test .taken) (i .if1 .left) (c .enum-told .given .1) ∙ l .loop .inv .run;
+      same =
+          same-sizes {b0 = length (turn (stepped c) .loop .gx)} {b1 = length (turn (stepped c) .loop .gy)} {b2 = length (turn (stepped c) .loop .gflags)}
+          {b3 = length (turn (stepped c) .loop .tox)} {b4 = length (turn (stepped c) .loop .toy)} {b5 = length (turn (stepped c) .loop .tx)}
+          {b6 = length (turn (stepped c) .loop .ty)} {b7 = length (turn (stepped c) .loop .tflags)}
+          (search (stepped c .step .kept)) (search (stepped c .step .kept)) (search (stepped c .step .kept)) (search) (search) (search) (search) (search)
+          ∙ turn (stepped c) .loop .inv .same;
+      sum = let i = going (stepped c) in omega (arith, i .if1 .left, looping i .loop .inv .sum);
     }
 
 same-length-17 : tie.Need-same-length-17 Inv-loop μ-loop
@@ -146,7 +172,7 @@ same-length-24 : tie.Need-same-length-24 Inv-loop μ-loop
 same-length-24 c = let l = c .before in ap (λ (z : Sizes). z .tflags) (l .loop .inv .same)
 
 returns-3 : tie.Need-returns-3 Inv-loop μ-loop
-returns-3 c = let l = c .before in let s = l .before .before .before .before .before in
+returns-3 c = let l = c .before in let s = started l in
     at-end (held s) (now (s .args .sheet)) _ _ _ (head l) (c .loop-test .left) ∙ l .loop .inv .run
 
 pub onward-spec : {M : Type 1} → statement M

@@ -6,6 +6,19 @@ use Rattle.state_words.proofs.Same.{same-facts}
 use Rattle.state_words.proofs.facts_of.Tie as tie
 use Rattle.state_words.proofs.facts_of.Statement.{statement}
 
+-- ---- places of the walk, found by their types
+abbrev first : tie.After-fact-of5 → tie.After-fact-of
+first c = search
+
+abbrev second : tie.After-fact-of5 → tie.After-fact-of2
+second c = search
+
+abbrev third : tie.After-fact-of5 → tie.After-fact-of3
+third c = search
+
+abbrev fourth : tie.After-fact-of5 → tie.After-fact-of4
+fourth c = search
+
 word-requires : tie.Need-word-requires
 word-requires c κs = tt
 
@@ -51,7 +64,12 @@ fact-of-requires-5 c κs = tt
 returns : tie.Need-returns
 unfolding stateOf
 returns c =
-    same-facts (c .before .before .before .before .before .before .before .before .fact-of .ensures ∙ ap factOf (c .before .before .before .before .before .before .before .before .before .word .ensures)) (c .before .before .before .before .before .before .fact-of2 .ensures ∙ ap factOf (c .before .before .before .before .before .before .before .word2 .ensures)) (c .before .before .before .before .fact-of3 .ensures ∙ ap factOf (c .before .before .before .before .before .word3 .ensures)) (c .before .before .fact-of4 .ensures ∙ ap factOf (c .before .before .before .word4 .ensures)) (c .fact-of5 .ensures ∙ ap factOf (c .before .word5 .ensures))
+    same-facts
+    (first c .fact-of .ensures ∙ ap factOf (first c .before .word .ensures))
+    (second c .fact-of2 .ensures ∙ ap factOf (second c .before .word2 .ensures))
+    (third c .fact-of3 .ensures ∙ ap factOf (third c .before .word3 .ensures))
+    (fourth c .fact-of4 .ensures ∙ ap factOf (fourth c .before .word4 .ensures))
+    (c .fact-of5 .ensures ∙ ap factOf (c .before .word5 .ensures))
 
 pub facts-of-spec : {M : Type 1} → statement M
 facts-of-spec =

@@ -8,6 +8,10 @@ use Rattle.state_words.proofs.Places.{cut-in-at, facts-at, loop-at, out
 use Rattle.state_words.proofs.word_of.Tie as tie
 use Rattle.state_words.proofs.word_of.Statement.{statement}
 
+-- where the walk starts, found by its type
+abbrev started : tie.After-to-bits → tie.Start
+started c = search
+
 vectors-word-requires : tie.Need-vectors-word-requires
 vectors-word-requires c κs = tt
 
@@ -45,7 +49,7 @@ returns-6 : tie.Need-returns-6
 returns-6 c = let a = c .before .before .before .before .before .before .before .args in c .facts-word .ensures ∙ facts-at (a .s) (a .k) (c .before .before .if5 .left) (c .before .if6 .taken)
 
 returns-7 : tie.Need-returns-7
-returns-7 c = let a = c .before .before .before .before .before .before .before .before .before .args in c .to-bits .ensures ∙ ap bitsOf (back32 (a .s .«cut_in») (omega arith)) ∙ cut-in-at (a .s) (a .k) (c .before .before .before .if6 .left) (c .before .before .if7 .taken)
+returns-7 c = let a = started c .args in c .to-bits .ensures ∙ ap bitsOf (back32 (a .s .«cut_in») (omega arith)) ∙ cut-in-at (a .s) (a .k) (c .before .before .before .if6 .left) (c .before .before .if7 .taken)
 
 returns-8 : tie.Need-returns-8
 returns-8 c = let a = c .before .before .before .before .before .before .before .args in outside (stateWords (a .s)) (a .k) (omega (arith, state-size (a .s), c .if7 .left))

@@ -1,6 +1,9 @@
 -- `test_one_run::agrees_in_glyph` is safe: each list is the part of its array that its length says, and a run keeps its length. Assumes nothing.
 use mathlib.Core.Path.{_≡_, subst, sym, _∙_}
 use Prim.Native.Nat.{ℕ, _≤_}
+use mathlib.Core.List.{List}
+use lib.IntN.{ℤ}
+use lib.ListN.{length, take}
 use lib.Seq.{length-take-le}
 use borrow.Table.Elements.{same-len}
 use borrow.Author.Needs.{needs}
@@ -10,6 +13,38 @@ use Rattle.test_one_run.proofs.agrees_in_glyph.Tie as tie
 -- a length within the room is within the list
 within : {n room size : ℕ} → n ≤ room → room ≡ size → n ≤ size
 within {n} h e = subst (λ (k : ℕ). n ≤ k) e h
+
+-- ---- the twilight lists as the run left them
+abbrev tox-left : tie.After-run → List ℤ
+tox-left r = r .run .last .1 .1 .1 .1 .1 .1 .1 .1 .1 .1 .1 .1 .1 .0
+
+abbrev toy-left : tie.After-run → List ℤ
+toy-left r = r .run .last .1 .1 .1 .1 .1 .1 .1 .1 .1 .1 .1 .1 .1 .1 .0
+
+abbrev tcx-left : tie.After-run → List ℤ
+tcx-left r = r .run .last .1 .1 .1 .1 .1 .1 .1 .1 .1 .1 .1 .1 .1 .1 .1 .0
+
+abbrev tcy-left : tie.After-run → List ℤ
+tcy-left r = r .run .last .1 .1 .1 .1 .1 .1 .1 .1 .1 .1 .1 .1 .1 .1 .1 .1 .0
+
+abbrev tflags-left : tie.After-run → List ℕ
+tflags-left r = r .run .last .1 .1 .1 .1 .1 .1 .1 .1 .1 .1 .1 .1 .1 .1 .1 .1 .1 .0
+
+-- ---- and that each is as long as it was lent
+tox-kept : (r : tie.After-run) → let n : tie.After-length-of = search in let l : tie.After-words-of = search in length (tox-left r) ≡ length (take (n .length-of .result) (l .words-of .result))
+tox-kept r = r .run .kept .1 .1 .1 .1 .1 .1 .1 .1 .1 .1 .1 .1 .1 .0
+
+toy-kept : (r : tie.After-run) → let n : tie.After-length-of2 = search in let l : tie.After-words-of2 = search in length (toy-left r) ≡ length (take (n .length-of2 .result) (l .words-of2 .result))
+toy-kept r = r .run .kept .1 .1 .1 .1 .1 .1 .1 .1 .1 .1 .1 .1 .1 .1 .0
+
+tcx-kept : (r : tie.After-run) → let n : tie.After-length-of3 = search in let l : tie.After-words-of3 = search in length (tcx-left r) ≡ length (take (n .length-of3 .result) (l .words-of3 .result))
+tcx-kept r = r .run .kept .1 .1 .1 .1 .1 .1 .1 .1 .1 .1 .1 .1 .1 .1 .1 .0
+
+tcy-kept : (r : tie.After-run) → let n : tie.After-length-of4 = search in let l : tie.After-words-of4 = search in length (tcy-left r) ≡ length (take (n .length-of4 .result) (l .words-of4 .result))
+tcy-kept r = r .run .kept .1 .1 .1 .1 .1 .1 .1 .1 .1 .1 .1 .1 .1 .1 .1 .1 .0
+
+tflags-kept : (r : tie.After-run) → let n : tie.After-length-of5 = search in let l : tie.After-flags-of = search in length (tflags-left r) ≡ length (take (n .length-of5 .result) (l .flags-of .result))
+tflags-kept r = r .run .kept .1 .1 .1 .1 .1 .1 .1 .1 .1 .1 .1 .1 .1 .1 .1 .1 .1 .0
 
 long-requires : tie.Need-long-requires
 long-requires c κs = search needs
@@ -84,34 +119,34 @@ run-requires : tie.Need-run-requires
 run-requires c κs = search needs
 
 array-share-prefix-tox : tie.Need-array-share-prefix-tox
-array-share-prefix-tox c = let r : tie.After-run = search in let n : tie.After-length-of = search in let l : tie.After-words-of = search in within (n .length-of .ensures) (l .words-of .ensures ∙ sym (same-len (n .length-of .result) (l .words-of .result) (r .run .last .1 .1 .1 .1 .1 .1 .1 .1 .1 .1 .1 .1 .1 .0) (r .run .kept .1 .1 .1 .1 .1 .1 .1 .1 .1 .1 .1 .1 .1 .0)))
+array-share-prefix-tox c = let r : tie.After-run = search in let n : tie.After-length-of = search in let l : tie.After-words-of = search in within (n .length-of .ensures) (l .words-of .ensures ∙ sym (same-len (n .length-of .result) (l .words-of .result) (tox-left r) (tox-kept r)))
 
 slice-aggregate-left-as : tie.Need-slice-aggregate-left-as
-slice-aggregate-left-as c = let r : tie.After-run = search in let n : tie.After-length-of = search in let l : tie.After-words-of = search in sym (length-take-le _ _ (within (n .length-of .ensures) (l .words-of .ensures ∙ sym (same-len (n .length-of .result) (l .words-of .result) (r .run .last .1 .1 .1 .1 .1 .1 .1 .1 .1 .1 .1 .1 .1 .0) (r .run .kept .1 .1 .1 .1 .1 .1 .1 .1 .1 .1 .1 .1 .1 .0)))))
+slice-aggregate-left-as c = let r : tie.After-run = search in let n : tie.After-length-of = search in let l : tie.After-words-of = search in sym (length-take-le _ _ (within (n .length-of .ensures) (l .words-of .ensures ∙ sym (same-len (n .length-of .result) (l .words-of .result) (tox-left r) (tox-kept r)))))
 
 array-share-prefix-toy : tie.Need-array-share-prefix-toy
-array-share-prefix-toy c = let r : tie.After-run = search in let n : tie.After-length-of2 = search in let l : tie.After-words-of2 = search in within (n .length-of2 .ensures) (l .words-of2 .ensures ∙ sym (same-len (n .length-of2 .result) (l .words-of2 .result) (r .run .last .1 .1 .1 .1 .1 .1 .1 .1 .1 .1 .1 .1 .1 .1 .0) (r .run .kept .1 .1 .1 .1 .1 .1 .1 .1 .1 .1 .1 .1 .1 .1 .0)))
+array-share-prefix-toy c = let r : tie.After-run = search in let n : tie.After-length-of2 = search in let l : tie.After-words-of2 = search in within (n .length-of2 .ensures) (l .words-of2 .ensures ∙ sym (same-len (n .length-of2 .result) (l .words-of2 .result) (toy-left r) (toy-kept r)))
 
 slice-aggregate-left-as-2 : tie.Need-slice-aggregate-left-as-2
-slice-aggregate-left-as-2 c = let r : tie.After-run = search in let n : tie.After-length-of2 = search in let l : tie.After-words-of2 = search in sym (length-take-le _ _ (within (n .length-of2 .ensures) (l .words-of2 .ensures ∙ sym (same-len (n .length-of2 .result) (l .words-of2 .result) (r .run .last .1 .1 .1 .1 .1 .1 .1 .1 .1 .1 .1 .1 .1 .1 .0) (r .run .kept .1 .1 .1 .1 .1 .1 .1 .1 .1 .1 .1 .1 .1 .1 .0)))))
+slice-aggregate-left-as-2 c = let r : tie.After-run = search in let n : tie.After-length-of2 = search in let l : tie.After-words-of2 = search in sym (length-take-le _ _ (within (n .length-of2 .ensures) (l .words-of2 .ensures ∙ sym (same-len (n .length-of2 .result) (l .words-of2 .result) (toy-left r) (toy-kept r)))))
 
 array-share-prefix-tcx : tie.Need-array-share-prefix-tcx
-array-share-prefix-tcx c = let r : tie.After-run = search in let n : tie.After-length-of3 = search in let l : tie.After-words-of3 = search in within (n .length-of3 .ensures) (l .words-of3 .ensures ∙ sym (same-len (n .length-of3 .result) (l .words-of3 .result) (r .run .last .1 .1 .1 .1 .1 .1 .1 .1 .1 .1 .1 .1 .1 .1 .1 .0) (r .run .kept .1 .1 .1 .1 .1 .1 .1 .1 .1 .1 .1 .1 .1 .1 .1 .0)))
+array-share-prefix-tcx c = let r : tie.After-run = search in let n : tie.After-length-of3 = search in let l : tie.After-words-of3 = search in within (n .length-of3 .ensures) (l .words-of3 .ensures ∙ sym (same-len (n .length-of3 .result) (l .words-of3 .result) (tcx-left r) (tcx-kept r)))
 
 slice-aggregate-left-as-3 : tie.Need-slice-aggregate-left-as-3
-slice-aggregate-left-as-3 c = let r : tie.After-run = search in let n : tie.After-length-of3 = search in let l : tie.After-words-of3 = search in sym (length-take-le _ _ (within (n .length-of3 .ensures) (l .words-of3 .ensures ∙ sym (same-len (n .length-of3 .result) (l .words-of3 .result) (r .run .last .1 .1 .1 .1 .1 .1 .1 .1 .1 .1 .1 .1 .1 .1 .1 .0) (r .run .kept .1 .1 .1 .1 .1 .1 .1 .1 .1 .1 .1 .1 .1 .1 .1 .0)))))
+slice-aggregate-left-as-3 c = let r : tie.After-run = search in let n : tie.After-length-of3 = search in let l : tie.After-words-of3 = search in sym (length-take-le _ _ (within (n .length-of3 .ensures) (l .words-of3 .ensures ∙ sym (same-len (n .length-of3 .result) (l .words-of3 .result) (tcx-left r) (tcx-kept r)))))
 
 array-share-prefix-tcy : tie.Need-array-share-prefix-tcy
-array-share-prefix-tcy c = let r : tie.After-run = search in let n : tie.After-length-of4 = search in let l : tie.After-words-of4 = search in within (n .length-of4 .ensures) (l .words-of4 .ensures ∙ sym (same-len (n .length-of4 .result) (l .words-of4 .result) (r .run .last .1 .1 .1 .1 .1 .1 .1 .1 .1 .1 .1 .1 .1 .1 .1 .1 .0) (r .run .kept .1 .1 .1 .1 .1 .1 .1 .1 .1 .1 .1 .1 .1 .1 .1 .1 .0)))
+array-share-prefix-tcy c = let r : tie.After-run = search in let n : tie.After-length-of4 = search in let l : tie.After-words-of4 = search in within (n .length-of4 .ensures) (l .words-of4 .ensures ∙ sym (same-len (n .length-of4 .result) (l .words-of4 .result) (tcy-left r) (tcy-kept r)))
 
 slice-aggregate-left-as-4 : tie.Need-slice-aggregate-left-as-4
-slice-aggregate-left-as-4 c = let r : tie.After-run = search in let n : tie.After-length-of4 = search in let l : tie.After-words-of4 = search in sym (length-take-le _ _ (within (n .length-of4 .ensures) (l .words-of4 .ensures ∙ sym (same-len (n .length-of4 .result) (l .words-of4 .result) (r .run .last .1 .1 .1 .1 .1 .1 .1 .1 .1 .1 .1 .1 .1 .1 .1 .1 .0) (r .run .kept .1 .1 .1 .1 .1 .1 .1 .1 .1 .1 .1 .1 .1 .1 .1 .1 .0)))))
+slice-aggregate-left-as-4 c = let r : tie.After-run = search in let n : tie.After-length-of4 = search in let l : tie.After-words-of4 = search in sym (length-take-le _ _ (within (n .length-of4 .ensures) (l .words-of4 .ensures ∙ sym (same-len (n .length-of4 .result) (l .words-of4 .result) (tcy-left r) (tcy-kept r)))))
 
 array-share-prefix-tflags : tie.Need-array-share-prefix-tflags
-array-share-prefix-tflags c = let r : tie.After-run = search in let n : tie.After-length-of5 = search in let l : tie.After-flags-of = search in within (n .length-of5 .ensures) (l .flags-of .ensures ∙ sym (same-len (n .length-of5 .result) (l .flags-of .result) (r .run .last .1 .1 .1 .1 .1 .1 .1 .1 .1 .1 .1 .1 .1 .1 .1 .1 .1 .0) (r .run .kept .1 .1 .1 .1 .1 .1 .1 .1 .1 .1 .1 .1 .1 .1 .1 .1 .1 .0)))
+array-share-prefix-tflags c = let r : tie.After-run = search in let n : tie.After-length-of5 = search in let l : tie.After-flags-of = search in within (n .length-of5 .ensures) (l .flags-of .ensures ∙ sym (same-len (n .length-of5 .result) (l .flags-of .result) (tflags-left r) (tflags-kept r)))
 
 slice-aggregate-left-as-5 : tie.Need-slice-aggregate-left-as-5
-slice-aggregate-left-as-5 c = let r : tie.After-run = search in let n : tie.After-length-of5 = search in let l : tie.After-flags-of = search in sym (length-take-le _ _ (within (n .length-of5 .ensures) (l .flags-of .ensures ∙ sym (same-len (n .length-of5 .result) (l .flags-of .result) (r .run .last .1 .1 .1 .1 .1 .1 .1 .1 .1 .1 .1 .1 .1 .1 .1 .1 .1 .0) (r .run .kept .1 .1 .1 .1 .1 .1 .1 .1 .1 .1 .1 .1 .1 .1 .1 .1 .1 .0)))))
+slice-aggregate-left-as-5 c = let r : tie.After-run = search in let n : tie.After-length-of5 = search in let l : tie.After-flags-of = search in sym (length-take-le _ _ (within (n .length-of5 .ensures) (l .flags-of .ensures ∙ sym (same-len (n .length-of5 .result) (l .flags-of .result) (tflags-left r) (tflags-kept r)))))
 
 left-as-requires : tie.Need-left-as-requires
 left-as-requires c κs = search needs

@@ -46,8 +46,8 @@ loop-less : tie.Need-loop-less Inv-loop μ-loop
 loop-less c = omega arith
 
 loop-again : tie.Need-loop-again Inv-loop μ-loop
-loop-again c = let a = c .before .before .before .before .before .before .before .before .before .before .before .before .args in
-    let v = c .before .before .before .before .before .before .before .loop in
+loop-again c = let s : tie.Start Inv-loop μ-loop = search in let a = s .args in
+    let l : tie.At-loop Inv-loop μ-loop = search in let v = l .loop in
     store-turn (c .before .before .before .before .to-bits .result) (v .inv) (omega (arith, c .before .before .before .before .before .before .loop-test .taken, length-map (now (a .numbers)) bitsOf)) (c .before .before .before .before .to-bits .ensures ∙ ap bitsOf (back32 (getD (now (a .numbers)) (v .i) (pos 0)) (c .before .before .before .before .before .to-bits-arg .given)) ∙ sym (List·getD-map bitsOf (now (a .numbers)) (v .i) (pos 0))) (c .before .before .put-word .ensures)
 
 same-length : tie.Need-same-length Inv-loop μ-loop

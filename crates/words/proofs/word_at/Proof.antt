@@ -42,7 +42,7 @@ join-requires : tie.Need-join-requires
 join-requires c κs = search needs
 
 returns-3 : tie.Need-returns-3
-returns-3 c = let s = c .before .before .before .before .before .before .before .before in
+returns-3 c = let s : tie.Start = search in
     rw (le-leb (s .args .at + 4) (length (now (s .args .bytes))) (omega arith)) (c .join .ensures)
 
 pub word-at-spec : {M : Type 1} → statement M
