@@ -59,10 +59,10 @@ outline-lengths ox oy cx cy e =
     let originals : pairFits ox oy ≡ true = and-right (eqb (length ox) (length cx)) _ (and-left sameAndOriginals _ e) in
     (pair-length ox oy originals, pair-length cx cy (and-right sameAndOriginals _ e))
 
-pub both-outlines-lengths : (gox goy gcx gcy tox toy tcx tcy : List ℤ) → outlineFits gox goy gcx gcy && outlineFits tox toy tcx tcy ≡ true → (length goy ≡ length gox) × (length gcy ≡ length gcx) × (length toy ≡ length tox) × (length tcy ≡ length tcx)
-both-outlines-lengths gox goy gcx gcy tox toy tcx tcy e =
-    let g = outline-lengths gox goy gcx gcy (and-left (outlineFits gox goy gcx gcy) _ e) in
-    let t = outline-lengths tox toy tcx tcy (and-right (outlineFits gox goy gcx gcy) _ e) in
+pub both-outlines-lengths : (gox goy gx gy tox toy tx ty : List ℤ) → outlineFits gox goy gx gy && outlineFits tox toy tx ty ≡ true → (length goy ≡ length gox) × (length gy ≡ length gx) × (length toy ≡ length tox) × (length ty ≡ length tx)
+both-outlines-lengths gox goy gx gy tox toy tx ty e =
+    let g = outline-lengths gox goy gx gy (and-left (outlineFits gox goy gx gy) _ e) in
+    let t = outline-lengths tox toy tx ty (and-right (outlineFits gox goy gx gy) _ e) in
     (g .0, g .1, t .0, t .1)
 
 pub zones-lengths : (gx gy : List ℤ) (gflags : List ℕ) (tx ty : List ℤ) (tflags : List ℕ) → zonesFit gx gy gflags tx ty tflags ≡ true → (length gy ≡ length gx) × (length gflags ≡ length gx) × (length ty ≡ length tx) × (length tflags ≡ length tx)
@@ -96,9 +96,9 @@ module _ (gx gy : List ℤ) (gflags : List ℕ) (tx ty : List ℤ) (tflags : Lis
   pub zp2-busy : isIdle m ≡ false → applyIn m at gx gy gflags tx ty tflags zone ≡ zp2After gx gy gflags tx ty tflags zone m at Done
   zp2-busy e = ap (λ (b : Bool). cond b (bothMoved Done gx gy gflags tx ty tflags) (applyIn m at gx gy gflags tx ty tflags zone)) (sym e)
 
-module _ (gox goy gcx gcy tox toy tcx tcy : List ℤ) (s : GraphicsState) (opcode : ℕ) {g t : Bool} {begun h : Call} where
-  pub displacement-begun : g ≡ outlineFits gox goy gcx gcy → t ≡ outlineFits tox toy tcx tcy → begun ≡ entryBy (g && t) (usableState s) → begun ≡ h → {p : Reference} → p ≡ referenceOf s opcode → displacedAfter gox goy gcx gcy tox toy tcx tcy s p h ≡ tryDisplacementOf gox goy gcx gcy tox toy tcx tcy s opcode
+module _ (gox goy gx gy tox toy tx ty : List ℤ) (s : GraphicsState) (opcode : ℕ) {g t : Bool} {begun h : Call} where
+  pub displacement-begun : g ≡ outlineFits gox goy gx gy → t ≡ outlineFits tox toy tx ty → begun ≡ entryBy (g && t) (usableState s) → begun ≡ h → {p : Reference} → p ≡ referenceOf s opcode → displacedAfter gox goy gx gy tox toy tx ty s p h ≡ tryDisplacementOf gox goy gx gy tox toy tx ty s opcode
   unfolding tryDisplacementOf
   displacement-begun fg ft q e r =
-      ap (λ (p : Reference). displacedAfter gox goy gcx gcy tox toy tcx tcy s p h) r
-      ∙ ap (displacedAfter gox goy gcx gcy tox toy tcx tcy s (referenceOf s opcode)) (begun-is (usableState s) (ap₂ (λ (a b : Bool). a && b) fg ft) q e)
+      ap (λ (p : Reference). displacedAfter gox goy gx gy tox toy tx ty s p h) r
+      ∙ ap (displacedAfter gox goy gx gy tox toy tx ty s (referenceOf s opcode)) (begun-is (usableState s) (ap₂ (λ (a b : Bool). a && b) fg ft) q e)

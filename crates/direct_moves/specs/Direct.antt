@@ -40,14 +40,14 @@ unfoldable pub outlineFits : List ℤ → List ℤ → List ℤ → List ℤ →
 outlineFits ox oy cx cy = eqb (length ox) (length cx) && pairFits ox oy && pairFits cx cy
 
 -- ---- move_original
-module _ (gx gy tx ty : List ℤ) where
+module _ (gox goy tox toy : List ℤ) where
   abbrev pub shiftAfter : ZonePointer → Move → ℕ → Call → BothShifted
-  shiftAfter zone m at Done = shiftIn m at gx gy tx ty zone
-  shiftAfter zone m at (Refused why) = bothShifted (Refused why) gx gy tx ty
+  shiftAfter zone m at Done = shiftIn m at gox goy tox toy zone
+  shiftAfter zone m at (Refused why) = bothShifted (Refused why) gox goy tox toy
 
   unfoldable pub tryMoveOriginalOf : GraphicsState → ZonePointer → ℕ → ℤ → BothShifted
   tryMoveOriginalOf s zone at distance =
-      shiftAfter zone (originalMoveOf (s .vectors) distance) at (entryBy (pairsFit gx gy tx ty) (usableState s))
+      shiftAfter zone (originalMoveOf (s .vectors) distance) at (entryBy (pairsFit gox goy tox toy) (usableState s))
 
 -- ---- move_point and move_zp2_point
 module _ (gx gy : List ℤ) (gflags : List ℕ) (tx ty : List ℤ) (tflags : List ℕ) where
@@ -69,11 +69,11 @@ module _ (gx gy : List ℤ) (gflags : List ℕ) (tx ty : List ℤ) (tflags : Lis
       zp2After (s .pointers .zp2) (zp2MoveOf (s .vectors) (s .facts) dx dy touches) at (entryBy (zonesFit gx gy gflags tx ty tflags) (usableState s))
 
 -- ---- point_displacement
-module _ (gox goy gcx gcy tox toy tcx tcy : List ℤ) where
+module _ (gox goy gx gy tox toy tx ty : List ℤ) where
   abbrev pub displacedAfter : GraphicsState → Reference → Call → Displaced
-  displacedAfter s p Done = displacedIn (s .vectors) p gox goy gcx gcy tox toy tcx tcy (p .zone)
+  displacedAfter s p Done = displacedIn (s .vectors) p gox goy gx gy tox toy tx ty (p .zone)
   displacedAfter s p (Refused why) = RefusedDisplacement why
 
   unfoldable pub tryDisplacementOf : GraphicsState → ℕ → Displaced
   tryDisplacementOf s opcode =
-      displacedAfter s (referenceOf s opcode) (entryBy (outlineFits gox goy gcx gcy && outlineFits tox toy tcx tcy) (usableState s))
+      displacedAfter s (referenceOf s opcode) (entryBy (outlineFits gox goy gx gy && outlineFits tox toy tx ty) (usableState s))

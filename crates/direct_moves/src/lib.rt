@@ -62,25 +62,25 @@ pub fn try_move_original(
     zone: ZonePointer,
     at: u64,
     distance: i32,
-    gx: &mut [i32],
-    gy: &mut [i32],
-    tx: &mut [i32],
-    ty: &mut [i32],
+    gox: &mut [i32],
+    goy: &mut [i32],
+    tox: &mut [i32],
+    toy: &mut [i32],
 ) -> Call
-    ensures { λ r. ⌜ bothShifted r (now (gx .exit)) (now (gy .exit)) (now (tx .exit)) (now (ty .exit)) ≡ tryMoveOriginalOf (now (gx .entry)) (now (gy .entry)) (now (tx .entry)) (now (ty .entry)) s zone at distance ⌝ }
+    ensures { λ r. ⌜ bothShifted r (now (gox .exit)) (now (goy .exit)) (now (tox .exit)) (now (toy .exit)) ≡ tryMoveOriginalOf (now (gox .entry)) (now (goy .entry)) (now (tox .entry)) (now (toy .entry)) s zone at distance ⌝ }
 {
     let vectors = s.vectors;
-    let begun = entry(pairs_fit(gx, gy, tx, ty), s);
+    let begun = entry(pairs_fit(gox, goy, tox, toy), s);
     match begun {
         Call::Refused(why) => Call::Refused(why),
         Call::Done => apply_coords_in(
             zone,
             original_move_of(vectors, distance),
             at,
-            gx,
-            gy,
-            tx,
-            ty,
+            gox,
+            goy,
+            tox,
+            toy,
         ),
     }
 }
@@ -158,17 +158,17 @@ pub fn try_point_displacement(
     opcode: usize,
     gox: &[i32],
     goy: &[i32],
-    gcx: &[i32],
-    gcy: &[i32],
+    gx: &[i32],
+    gy: &[i32],
     tox: &[i32],
     toy: &[i32],
-    tcx: &[i32],
-    tcy: &[i32],
+    tx: &[i32],
+    ty: &[i32],
 ) -> Displaced
-    ensures { λ r. ⌜ r ≡ tryDisplacementOf (now (gox .entry)) (now (goy .entry)) (now (gcx .entry)) (now (gcy .entry)) (now (tox .entry)) (now (toy .entry)) (now (tcx .entry)) (now (tcy .entry)) s opcode ⌝ }
+    ensures { λ r. ⌜ r ≡ tryDisplacementOf (now (gox .entry)) (now (goy .entry)) (now (gx .entry)) (now (gy .entry)) (now (tox .entry)) (now (toy .entry)) (now (tx .entry)) (now (ty .entry)) s opcode ⌝ }
 {
     let vectors = s.vectors;
-    let fits = outline_fits(gox, goy, gcx, gcy) & outline_fits(tox, toy, tcx, tcy);
+    let fits = outline_fits(gox, goy, gx, gy) & outline_fits(tox, toy, tx, ty);
     let begun = entry(fits, s);
     match begun {
         Call::Refused(why) => Displaced::Refused(why),
@@ -177,12 +177,12 @@ pub fn try_point_displacement(
             reference_of(s, opcode),
             gox,
             goy,
-            gcx,
-            gcy,
+            gx,
+            gy,
             tox,
             toy,
-            tcx,
-            tcy,
+            tx,
+            ty,
         ),
     }
 }

@@ -21,14 +21,14 @@ use Rattle.graphics.specs.declared.GraphicsState.{GraphicsState}
 
 -- ---- the parts
 -- 1 as a 2.14 number
-abbrev pub one : ℤ
-one = pos 16384
+abbrev pub unit : ℤ
+unit = pos 16384
 
 abbrev pub xAxis : Vector
-xAxis = record { x = one; y = pos 0 }
+xAxis = record { x = unit; y = pos 0 }
 
 abbrev pub yAxis : Vector
-yAxis = record { x = pos 0; y = one }
+yAxis = record { x = pos 0; y = unit }
 
 -- SVTCA; SPVTCA; SFVTCA
 abbrev pub allAlong : Vector → Vectors
@@ -76,14 +76,14 @@ abbrev pub allNo : Facts
 allNo = record { «backward_compatibility» = false; pedantic = false; «native_clear_type_x» = false; «did_iup_x» = false; «did_iup_y» = false }
 
 -- the marks that IUP sets
-abbrev pub marked : Facts → Bool → Bool → Facts
-marked f x y = record { «backward_compatibility» = f .«backward_compatibility»; pedantic = f .pedantic; «native_clear_type_x» = f .«native_clear_type_x»; «did_iup_x» = x; «did_iup_y» = y }
+abbrev pub withMarks : Facts → Bool → Bool → Facts
+withMarks f x y = record { «backward_compatibility» = f .«backward_compatibility»; pedantic = f .pedantic; «native_clear_type_x» = f .«native_clear_type_x»; «did_iup_x» = x; «did_iup_y» = y }
 
 abbrev pub markedX : Facts → Facts
-markedX f = marked f true (f .«did_iup_y»)
+markedX f = withMarks f true (f .«did_iup_y»)
 
 abbrev pub markedY : Facts → Facts
-markedY f = marked f (f .«did_iup_x») true
+markedY f = withMarks f (f .«did_iup_x») true
 
 -- whether y is held fast too
 abbrev pub pastBothIups : Facts → Bool
@@ -91,7 +91,7 @@ pastBothIups f = f .«backward_compatibility» && f .«did_iup_x» && f .«did_i
 
 -- ---- the state test: answer 3 where it says no
 abbrev pub inRange : ℤ → Bool
-inRange z = leZ (negℤ one) z && leZ z one
+inRange z = leZ (negℤ unit) z && leZ z unit
 
 unfoldable pub vectorInRange : Vector → Bool
 vectorInRange v = inRange (v .x) && inRange (v .y)

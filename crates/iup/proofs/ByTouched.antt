@@ -13,32 +13,32 @@ use Rattle.int.specs.Word.{add32}
 use Rattle.iup.proofs.Points.{touchOf, Shown, map-take, map-drop}
 use Rattle.iup.proofs.Spread.{front, headPlace, front-le, fromTouched, touched-cut}
 use Rattle.iup.proofs.Turn.{read-place, front-is, sizes}
-use Rattle.iup.specs.Contour.{Point, displacement, touchedOf, lastOf, spread, shifted, currentOf, byTouched, contourOf}
+use Rattle.iup.specs.Contour.{Point, offset, touchedPlaces, lastOf, spread, shiftedBy, currentOf, byTouched, contourOf}
 use Rattle.iup.specs.Parts.{marks, ahead, upToLast, placeAt}
 use Rattle.iup.specs.declared.Place.{Place}
 use Rattle.flags.specs.Flag.{hasAny}
 
 -- ---- untouched points
-front-clear-by : (p : Point) (ps : List Point) (t : Bool) → p .touched ≡ t → touchedOf (take (front ps) ps) ≡ [] → touchedOf (take (front (p ∷ ps)) (p ∷ ps)) ≡ []
-unfolding touchedOf
+front-clear-by : (p : Point) (ps : List Point) (t : Bool) → p .touched ≡ t → touchedPlaces (take (front ps) ps) ≡ [] → touchedPlaces (take (front (p ∷ ps)) (p ∷ ps)) ≡ []
+unfolding touchedPlaces
 front-clear-by p ps true t e = rw t
 front-clear-by p ps false t e = rw t e
 
-front-clear : (ps : List Point) → touchedOf (take (front ps) ps) ≡ []
-unfolding touchedOf
+front-clear : (ps : List Point) → touchedPlaces (take (front ps) ps) ≡ []
+unfolding touchedPlaces
 front-clear [] = refl
 front-clear (p ∷ ps) = front-clear-by p ps (p .touched) refl (front-clear ps)
 
 abbrev pub shiftAll : ℤ → List ℤ → List ℤ
 shiftAll d l = map (λ x. add32 x d) l
 
-shift-by : (d : ℤ) (p : Point) (ps : List Point) (t : Bool) → p .touched ≡ t → touchedOf (p ∷ ps) ≡ [] → (touchedOf ps ≡ [] → map (shifted d) ps ≡ shiftAll d (currentOf ps)) → map (shifted d) (p ∷ ps) ≡ shiftAll d (currentOf (p ∷ ps))
-unfolding touchedOf
-shift-by d p ps true t e f = absurd (let w : length (p .place ∷ touchedOf ps) ≡ 0 = ap length (rw t at e) in omega arith)
+shift-by : (d : ℤ) (p : Point) (ps : List Point) (t : Bool) → p .touched ≡ t → touchedPlaces (p ∷ ps) ≡ [] → (touchedPlaces ps ≡ [] → map (shiftedBy d) ps ≡ shiftAll d (currentOf ps)) → map (shiftedBy d) (p ∷ ps) ≡ shiftAll d (currentOf (p ∷ ps))
+unfolding touchedPlaces
+shift-by d p ps true t e f = absurd (let w : length (p .place ∷ touchedPlaces ps) ≡ 0 = ap length (rw t at e) in omega arith)
 shift-by d p ps false t e f = rw t (ap (λ (l : List ℤ). add32 (p .place .current) d ∷ l) (f (rw t at e)))
 
 -- untouched points all move
-shift-clear : (d : ℤ) (ps : List Point) → touchedOf ps ≡ [] → map (shifted d) ps ≡ shiftAll d (currentOf ps)
+shift-clear : (d : ℤ) (ps : List Point) → touchedPlaces ps ≡ [] → map (shiftedBy d) ps ≡ shiftAll d (currentOf ps)
 shift-clear d [] e = refl
 shift-clear d (p ∷ ps) e = shift-by d p ps (p .touched) refl e (shift-clear d ps)
 
@@ -63,38 +63,38 @@ last-by :
     (other : Place) (p q : Point) (ps : List Point) (t : Bool) (k : ℕ) →
     q .touched ≡ t →
     reach ps ≡ k →
-    ((x : Point) → lastOf (x .place) (touchedOf ps) ≡ headPlace other (drop (reach ps) (x ∷ ps))) →
-    lastOf (p .place) (touchedOf (q ∷ ps)) ≡ headPlace other (drop (reach (q ∷ ps)) (p ∷ (q ∷ ps)))
-unfolding touchedOf
+    ((x : Point) → lastOf (x .place) (touchedPlaces ps) ≡ headPlace other (drop (reach ps) (x ∷ ps))) →
+    lastOf (p .place) (touchedPlaces (q ∷ ps)) ≡ headPlace other (drop (reach (q ∷ ps)) (p ∷ (q ∷ ps)))
+unfolding touchedPlaces
 last-by other p q ps true zero t r f = let g = f q in rw (t, r) (rw r at g)
 last-by other p q ps true (suc k) t r f = let g = f q in rw (t, r) (rw r at g)
 last-by other p q ps false zero t r f = let g = f p in rw (t, r) (rw r at g)
 last-by other p q ps false (suc k) t r f = let g = f p in rw (t, r) (rw r at g)
 
-last-is : (other : Place) (ps : List Point) (p : Point) → lastOf (p .place) (touchedOf ps) ≡ headPlace other (drop (reach ps) (p ∷ ps))
-unfolding touchedOf
+last-is : (other : Place) (ps : List Point) (p : Point) → lastOf (p .place) (touchedPlaces ps) ≡ headPlace other (drop (reach ps) (p ∷ ps))
+unfolding touchedPlaces
 last-is other [] p = refl
 last-is other (q ∷ ps) p = last-by other p q ps (q .touched) (reach ps) refl refl (last-is other ps)
 
-clear-by : (p : Point) (ps : List Point) (t : Bool) (k : ℕ) → p .touched ≡ t → reach ps ≡ k → reach (p ∷ ps) ≡ 0 → (reach ps ≡ 0 → touchedOf ps ≡ []) → touchedOf (p ∷ ps) ≡ []
-unfolding touchedOf
+clear-by : (p : Point) (ps : List Point) (t : Bool) (k : ℕ) → p .touched ≡ t → reach ps ≡ k → reach (p ∷ ps) ≡ 0 → (reach ps ≡ 0 → touchedPlaces ps ≡ []) → touchedPlaces (p ∷ ps) ≡ []
+unfolding touchedPlaces
 clear-by p ps true zero t r e f = absurd (let z : _≡_ {A = ℕ} 1 0 = rw (t, r) at e in omega arith)
 clear-by p ps true (suc k) t r e f = absurd (let z : _≡_ {A = ℕ} (suc (suc k)) 0 = rw (t, r) at e in omega arith)
 clear-by p ps false zero t r e f = rw t (f r)
 clear-by p ps false (suc k) t r e f = absurd (let z : _≡_ {A = ℕ} (suc (suc k)) 0 = rw (t, r) at e in omega arith)
 
 -- none is touched where the search finds none
-clear : (ps : List Point) → reach ps ≡ 0 → touchedOf ps ≡ []
-unfolding touchedOf
+clear : (ps : List Point) → reach ps ≡ 0 → touchedPlaces ps ≡ []
+unfolding touchedPlaces
 clear [] e = refl
 clear (p ∷ ps) e = clear-by p ps (p .touched) (reach ps) refl refl e (clear ps)
 
-found-by : (p : Point) (ps : List Point) (t : Bool) → p .touched ≡ t → touchedOf (p ∷ ps) ≡ [] → (touchedOf ps ≡ [] → reach ps ≡ 0) → reach (p ∷ ps) ≡ 0
-unfolding touchedOf
-found-by p ps true t e f = absurd (let w : length (p .place ∷ touchedOf ps) ≡ 0 = ap length (rw t at e) in omega arith)
+found-by : (p : Point) (ps : List Point) (t : Bool) → p .touched ≡ t → touchedPlaces (p ∷ ps) ≡ [] → (touchedPlaces ps ≡ [] → reach ps ≡ 0) → reach (p ∷ ps) ≡ 0
+unfolding touchedPlaces
+found-by p ps true t e f = absurd (let w : length (p .place ∷ touchedPlaces ps) ≡ 0 = ap length (rw t at e) in omega arith)
 found-by p ps false t e f = rw (t, f (rw t at e))
 
-unreached : (ps : List Point) → touchedOf ps ≡ [] → reach ps ≡ 0
+unreached : (ps : List Point) → touchedPlaces ps ≡ [] → reach ps ≡ 0
 unreached [] e = refl
 unreached (p ∷ ps) e = found-by p ps (p .touched) refl e (unreached ps)
 
@@ -134,7 +134,7 @@ module _ {mask : ℕ} {fs : List ℕ} {us os cs : List ℤ} {ps : List Point} (s
     behind-is : drop (at + 1) ps ≡ qs
     behind-is = sym (drop-drop 1 at ps) ∙ ap (drop 1) e
 
-    touched-are : touchedOf ps ≡ p .place ∷ touchedOf qs
+    touched-are : touchedPlaces ps ≡ p .place ∷ touchedPlaces qs
     touched-are = touched-cut ps ∙ ap (λ (i : ℕ). fromTouched (drop i ps)) (sym is-front) ∙ ap fromTouched e
 
     more-is : more ≡ reach qs
@@ -147,17 +147,17 @@ module _ {mask : ℕ} {fs : List ℕ} {us os cs : List ℤ} {ps : List Point} (s
     several-of : {last : Place} → (more ≡ 0 → ⊥) → last ≡ placeAt us os cs (at + more) first → spread last first ps ≡ contourOf ps
     unfolding contourOf
     several-of {last} h z =
-        let l : last ≡ lastOf (p .place) (touchedOf qs) =
+        let l : last ≡ lastOf (p .place) (touchedPlaces qs) =
         z
         ∙ place-is (at + more) first
         ∙ ap (headPlace first) (sym (drop-drop more at ps) ∙ ap₂ (λ (i : ℕ) (x : List Point). drop i x) more-is e)
         ∙ sym (last-is first qs p) in
         ap₂ (λ (x y : Place). spread x y ps) l first-is
-        ∙ sym (more-by ps (p .place) (touchedOf qs) (λ g. h (more-is ∙ unreached qs g)))
+        ∙ sym (more-by ps (p .place) (touchedPlaces qs) (λ g. h (more-is ∙ unreached qs g)))
         ∙ ap (byTouched ps) (sym touched-are)
 
     -- exactly one
-    module _ {d : ℤ} (z : d ≡ displacement first) (h : more ≡ 0) where
+    module _ {d : ℤ} (z : d ≡ offset first) (h : more ≡ 0) where
       abbrev xs : List ℤ
       xs = shiftAll d (currentOf (take at ps))
 
@@ -171,13 +171,13 @@ module _ {mask : ℕ} {fs : List ℕ} {us os cs : List ℤ} {ps : List Point} (s
       unfolding contourOf
       whole-is =
           let t : p .touched ≡ true = hit ps p qs (ap (λ (i : ℕ). drop i ps) (sym is-front) ∙ e) in
-          let y : shifted d p ≡ p .place .current = rw t in
+          let y : shiftedBy d p ≡ p .place .current = rw t in
           ap (byTouched ps) (touched-are ∙ ap (λ (l : List Place). p .place ∷ l) (clear qs (sym more-is ∙ h)))
-          ∙ ap (λ (x : ℤ). map (shifted x) ps) (sym (z ∙ ap displacement first-is))
-          ∙ ap (map (shifted d)) (sym (take-append-drop at ps) ∙ ap (λ (l : List Point). take at ps ++ l) e)
-          ∙ map-append (shifted d) (take at ps) (p ∷ qs)
+          ∙ ap (λ (x : ℤ). map (shiftedBy x) ps) (sym (z ∙ ap offset first-is))
+          ∙ ap (map (shiftedBy d)) (sym (take-append-drop at ps) ∙ ap (λ (l : List Point). take at ps ++ l) e)
+          ∙ map-append (shiftedBy d) (take at ps) (p ∷ qs)
           ∙ ap₂ (λ (a b : List ℤ). a ++ b)
-          (shift-clear d (take at ps) (ap (λ (i : ℕ). touchedOf (take i ps)) is-front ∙ front-clear ps))
+          (shift-clear d (take at ps) (ap (λ (i : ℕ). touchedPlaces (take i ps)) is-front ∙ front-clear ps))
           (ap₂ (λ (x : ℤ) (l : List ℤ). x ∷ l) y (shift-clear d qs (clear qs (sym more-is ∙ h))))
 
       one-of :
@@ -209,7 +209,7 @@ module _ {mask : ℕ} {fs : List ℕ} {us os cs : List ℤ} {ps : List Point} (s
 
     pub one :
         {d : ℤ} {l l′ : List ℤ} →
-        d ≡ displacement first →
+        d ≡ offset first →
         more ≡ 0 →
         l ≡ shiftAll d (take at cs) ++ drop at cs →
         l′ ≡ putMid (at + 1) (length l - (at + 1)) l (shiftAll d (take (length l - (at + 1)) (drop (at + 1) l))) →

@@ -13,7 +13,7 @@ use lib.Seq.{take-at, drop-at, length-take-le, drop-drop}
 use Rattle.iup.proofs.Fill.{getD-map}
 use Rattle.iup.proofs.Points.{Shown, shown, map-drop}
 use Rattle.iup.proofs.Walks.{past-le}
-use Rattle.iup.specs.Contour.{Point, displacement, between, touchedOf, headOr, lastOf, spread, shifted, currentOf, byTouched, contourOf, points}
+use Rattle.iup.specs.Contour.{Point, offset, between, touchedPlaces, headOr, lastOf, spread, shiftedBy, currentOf, byTouched, contourOf, pointsOf}
 use Rattle.iup.specs.Iup.{past, walkOf, reached, iupOf}
 use Rattle.iup.specs.declared.Place.{Place}
 use Rattle.flags.specs.Axis.{touchBit}
@@ -42,17 +42,17 @@ keeps-current : (ps : List Point) → Keeps ps (currentOf ps)
 keeps-current [] = none
 keeps-current (p ∷ ps) = also (λ t. refl) (keeps-current ps)
 
-shifted-kept : (d : ℤ) (p : Point) → p .touched ≡ true → shifted d p ≡ p .place .current
+shifted-kept : (d : ℤ) (p : Point) → p .touched ≡ true → shiftedBy d p ≡ p .place .current
 shifted-kept d p t = rw t
 
-keeps-shifted : (d : ℤ) (ps : List Point) → Keeps ps (map (shifted d) ps)
+keeps-shifted : (d : ℤ) (ps : List Point) → Keeps ps (map (shiftedBy d) ps)
 keeps-shifted d [] = none
 keeps-shifted d (p ∷ ps) = also (shifted-kept d p) (keeps-shifted d ps)
 
 keeps-spread-by : (before first : Place) (p : Point) (ps : List Point) (b : Bool) → p .touched ≡ b → ((q : Place) → Keeps ps (spread q first ps)) → Keeps (p ∷ ps) (spread before first (p ∷ ps))
 unfolding spread
 keeps-spread-by before first p ps true t k = rw t (also (λ e. refl) (k (p .place)))
-keeps-spread-by before first p ps false t k = rw t (also {p = record { place = p .place; touched = false }} {x = between before (headOr first (touchedOf ps)) (p .place)} (λ e. cc e) (k before))
+keeps-spread-by before first p ps false t k = rw t (also {p = record { place = p .place; touched = false }} {x = between before (headOr first (touchedPlaces ps)) (p .place)} (λ e. cc e) (k before))
 
 keeps-spread : (before first : Place) (ps : List Point) → Keeps ps (spread before first ps)
 unfolding spread
@@ -61,12 +61,12 @@ keeps-spread before first (p ∷ ps) = keeps-spread-by before first p ps (p .tou
 
 keeps-by : (ps : List Point) (ts : List Place) → Keeps ps (byTouched ps ts)
 keeps-by ps [] = keeps-current ps
-keeps-by ps (t ∷ []) = keeps-shifted (displacement t) ps
+keeps-by ps (t ∷ []) = keeps-shifted (offset t) ps
 keeps-by ps (t ∷ (u ∷ us)) = keeps-spread (lastOf u us) t ps
 
 pub keeps-contour : (ps : List Point) → Keeps ps (contourOf ps)
 unfolding contourOf
-keeps-contour ps = keeps-by ps (touchedOf ps)
+keeps-contour ps = keeps-by ps (touchedPlaces ps)
 
 keeps-walk-by : (n at end : ℕ) (ends : List ℕ) (ps : List Point) (b : Bool) → ltb at (past end n) ≡ b → ((m : ℕ) (qs : List Point) → Keeps qs (walkOf n m ends qs)) → Keeps ps (walkOf n at (end ∷ ends) ps)
 unfolding walkOf
@@ -151,7 +151,7 @@ outside n at (end ∷ ends) ps h l = outside-by n at end ends ps (ltb at (past e
 -- ---- the call
 module _ (axis : Axis) (fs es : List ℕ) (us os cs : List ℤ) (a : length us ≡ length cs) (b : length os ≡ length cs) (c : length fs ≡ length cs) where
   abbrev ps : List Point
-  ps = points (touchBit axis) fs us os cs
+  ps = pointsOf (touchBit axis) fs us os cs
 
   s : Shown (touchBit axis) fs us os cs ps
   s = shown (touchBit axis) fs us os cs a b c

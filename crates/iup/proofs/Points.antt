@@ -7,7 +7,7 @@ use Prim.Native.Nat.{ℕ, zero, suc}
 use native.Mathlib.Omega.{arith}
 use lib.IntN.{ℤ}
 use lib.ListN.{length, take, drop}
-use Rattle.iup.specs.Contour.{Point, currentOf, points}
+use Rattle.iup.specs.Contour.{Point, currentOf, pointsOf}
 use Rattle.iup.specs.Parts.{marks}
 use Rattle.flags.specs.Flag.{hasAny}
 
@@ -38,8 +38,8 @@ more {mask} f u o c s =
       size = ap suc (s .size);
     }
 
-pub shown : (mask : ℕ) (fs : List ℕ) (us os cs : List ℤ) → length us ≡ length cs → length os ≡ length cs → length fs ≡ length cs → Shown mask fs us os cs (points mask fs us os cs)
-unfolding points
+pub shown : (mask : ℕ) (fs : List ℕ) (us os cs : List ℤ) → length us ≡ length cs → length os ≡ length cs → length fs ≡ length cs → Shown mask fs us os cs (pointsOf mask fs us os cs)
+unfolding pointsOf
 shown mask [] [] [] [] a b d = record { flags = refl; unscaled = refl; original = refl; current = refl; size = refl }
 shown mask [] [] [] (c ∷ cs) a b d = absurd (omega arith)
 shown mask [] [] (o ∷ os) cs a b d = absurd (omega arith)
@@ -49,8 +49,8 @@ shown mask (f ∷ fs) (u ∷ us) [] cs a b d = absurd (omega arith)
 shown mask (f ∷ fs) (u ∷ us) (o ∷ os) [] a b d = absurd (omega arith)
 shown mask (f ∷ fs) (u ∷ us) (o ∷ os) (c ∷ cs) a b d = more f u o c (shown mask fs us os cs (omega arith) (omega arith) (omega arith))
 
-pub points-take : (mask k : ℕ) (fs : List ℕ) (us os cs : List ℤ) → points mask (take k fs) (take k us) (take k os) (take k cs) ≡ take k (points mask fs us os cs)
-unfolding points
+pub points-take : (mask k : ℕ) (fs : List ℕ) (us os cs : List ℤ) → pointsOf mask (take k fs) (take k us) (take k os) (take k cs) ≡ take k (pointsOf mask fs us os cs)
+unfolding pointsOf
 points-take mask zero fs us os cs = refl
 points-take mask (suc k) [] us os cs = refl
 points-take mask (suc k) (f ∷ fs) [] os cs = refl
@@ -59,8 +59,8 @@ points-take mask (suc k) (f ∷ fs) (u ∷ us) (o ∷ os) [] = refl
 points-take mask (suc k) (f ∷ fs) (u ∷ us) (o ∷ os) (c ∷ cs) =
     ap (λ (ps : List Point). record { place = record { unscaled = u; original = o; current = c }; touched = hasAny f mask } ∷ ps) (points-take mask k fs us os cs)
 
-pub points-drop : (mask k : ℕ) (fs : List ℕ) (us os cs : List ℤ) → length us ≡ length cs → length os ≡ length cs → length fs ≡ length cs → points mask (drop k fs) (drop k us) (drop k os) (drop k cs) ≡ drop k (points mask fs us os cs)
-unfolding points
+pub points-drop : (mask k : ℕ) (fs : List ℕ) (us os cs : List ℤ) → length us ≡ length cs → length os ≡ length cs → length fs ≡ length cs → pointsOf mask (drop k fs) (drop k us) (drop k os) (drop k cs) ≡ drop k (pointsOf mask fs us os cs)
+unfolding pointsOf
 points-drop mask zero fs us os cs a b d = refl
 points-drop mask (suc k) [] us os cs a b d = refl
 points-drop mask (suc k) (f ∷ fs) [] os cs a b d = absurd (omega arith)

@@ -11,7 +11,7 @@ use lib.ListN.{length, take, drop, length-append, length-drop, length-map}
 use lib.Seq.{take-append-add, drop-append-add, length-take-le, drop-drop}
 use Rattle.int.specs.Word.{low}
 use Rattle.iup.proofs.Points.{unscaledOf, originalOf, touchOf, map-drop}
-use Rattle.iup.specs.Contour.{Point, inside, along, between, touchedOf, headOr, spread, currentOf}
+use Rattle.iup.specs.Contour.{Point, inside, along, between, touchedPlaces, headOr, spread, currentOf}
 use Rattle.iup.specs.Parts.{ahead, level, slope, insideBy, movedBy, byReferences, both}
 use Rattle.iup.specs.declared.Place.{Place}
 
@@ -72,16 +72,16 @@ front-le (p ∷ ps) = front-by p ps (p .touched) refl (front-le ps)
 -- the touched points of a list whose first is touched
 abbrev pub fromTouched : List Point → List Place
 fromTouched [] = []
-fromTouched (p ∷ ps) = p .place ∷ touchedOf ps
+fromTouched (p ∷ ps) = p .place ∷ touchedPlaces ps
 
 -- the first touched point stands behind the untouched ones in front
-cut-by : (p : Point) (ps : List Point) (t : Bool) → p .touched ≡ t → touchedOf ps ≡ fromTouched (drop (front ps) ps) → touchedOf (p ∷ ps) ≡ fromTouched (drop (front (p ∷ ps)) (p ∷ ps))
-unfolding touchedOf
+cut-by : (p : Point) (ps : List Point) (t : Bool) → p .touched ≡ t → touchedPlaces ps ≡ fromTouched (drop (front ps) ps) → touchedPlaces (p ∷ ps) ≡ fromTouched (drop (front (p ∷ ps)) (p ∷ ps))
+unfolding touchedPlaces
 cut-by p ps true t e = rw t
 cut-by p ps false t e = rw t e
 
-pub touched-cut : (ps : List Point) → touchedOf ps ≡ fromTouched (drop (front ps) ps)
-unfolding touchedOf
+pub touched-cut : (ps : List Point) → touchedPlaces ps ≡ fromTouched (drop (front ps) ps)
+unfolding touchedPlaces
 touched-cut [] = refl
 touched-cut (p ∷ ps) = cut-by p ps (p .touched) refl (touched-cut ps)
 
@@ -89,19 +89,19 @@ head-of : (other : Place) (ds : List Point) → headOr other (fromTouched ds) �
 head-of other [] = refl
 head-of other (d ∷ ds) = refl
 
-pub ahead-is : (other : Place) (ps : List Point) → headOr other (touchedOf ps) ≡ headPlace other (drop (front ps) ps)
+pub ahead-is : (other : Place) (ps : List Point) → headOr other (touchedPlaces ps) ≡ headPlace other (drop (front ps) ps)
 ahead-is other ps = ap (headOr other) (touched-cut ps) ∙ head-of other (drop (front ps) ps)
 
 abbrev pub goBetween : Place → Place → List Point → List ℤ
 goBetween a b ps = map (λ p. between a b (p .place)) ps
 
-spread-by : (before first : Place) (p : Point) (ps : List Point) (t : Bool) → p .touched ≡ t → spread before first ps ≡ goBetween before (headOr first (touchedOf ps)) (take (front ps) ps) ++ from first (drop (front ps) ps) → spread before first (p ∷ ps) ≡ goBetween before (headOr first (touchedOf (p ∷ ps))) (take (front (p ∷ ps)) (p ∷ ps)) ++ from first (drop (front (p ∷ ps)) (p ∷ ps))
-unfolding spread touchedOf
+spread-by : (before first : Place) (p : Point) (ps : List Point) (t : Bool) → p .touched ≡ t → spread before first ps ≡ goBetween before (headOr first (touchedPlaces ps)) (take (front ps) ps) ++ from first (drop (front ps) ps) → spread before first (p ∷ ps) ≡ goBetween before (headOr first (touchedPlaces (p ∷ ps))) (take (front (p ∷ ps)) (p ∷ ps)) ++ from first (drop (front (p ∷ ps)) (p ∷ ps))
+unfolding spread touchedPlaces
 spread-by before first p ps true t e = rw t
-spread-by before first p ps false t e = rw t (ap (λ (l : List ℤ). between before (headOr first (touchedOf ps)) (p .place) ∷ l) e)
+spread-by before first p ps false t e = rw t (ap (λ (l : List ℤ). between before (headOr first (touchedPlaces ps)) (p .place) ∷ l) e)
 
-pub spread-cut : (before first : Place) (ps : List Point) → spread before first ps ≡ goBetween before (headOr first (touchedOf ps)) (take (front ps) ps) ++ from first (drop (front ps) ps)
-unfolding spread touchedOf
+pub spread-cut : (before first : Place) (ps : List Point) → spread before first ps ≡ goBetween before (headOr first (touchedPlaces ps)) (take (front ps) ps) ++ from first (drop (front ps) ps)
+unfolding spread touchedPlaces
 spread-cut before first [] = refl
 spread-cut before first (p ∷ ps) = spread-by before first p ps (p .touched) refl (spread-cut before first ps)
 
@@ -133,13 +133,13 @@ module _ {first : Place} {ps : List Point} {r l : List ℤ} {before : Place} {at
   xs = take at l
 
   abbrev ys : List ℤ
-  ys = goBetween before (headOr first (touchedOf qs)) (take k qs)
+  ys = goBetween before (headOr first (touchedPlaces qs)) (take k qs)
 
   size-xs : length xs ≡ at
   size-xs = length-take-le at l (omega (arith, v .size))
 
   size-ys : length ys ≡ k
-  size-ys = length-map (take k qs) (λ p. between before (headOr first (touchedOf qs)) (p .place)) ∙ length-take-le k qs (front-le qs)
+  size-ys = length-map (take k qs) (λ p. between before (headOr first (touchedPlaces qs)) (p .place)) ∙ length-take-le k qs (front-le qs)
 
   size-front : length (xs ++ ys) ≡ at + k
   size-front = length-append xs ys ∙ omega (arith, size-xs, size-ys)
@@ -150,7 +150,7 @@ module _ {first : Place} {ps : List Point} {r l : List ℤ} {before : Place} {at
   pub next-le : at + k ≤ length ps
   next-le = omega (arith, front-le qs, length-drop at ps)
 
-  pub step : {l′ : List ℤ} → l′ ≡ xs ++ (ys ++ drop (at + k) l) → length l′ ≡ length ps → Spreading first ps r l′ (headOr first (touchedOf qs)) (at + k + 1)
+  pub step : {l′ : List ℤ} → l′ ≡ xs ++ (ys ++ drop (at + k) l) → length l′ ≡ length ps → Spreading first ps r l′ (headOr first (touchedPlaces qs)) (at + k + 1)
   step {l′} e g =
       let ds : List Point = drop k qs in
       let w : l′ ≡ (xs ++ ys) ++ currentOf ds = e ∙ sym (append-assoc xs ys (drop (at + k) l)) ∙ ap (λ (z : List ℤ). (xs ++ ys) ++ z) behind in

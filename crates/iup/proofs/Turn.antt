@@ -10,7 +10,7 @@ use lib.Seq.{take-all, drop-drop}
 use borrow.Rule.Slice.PartMut.{putMid, post-is}
 use Rattle.iup.proofs.Points.{unscaledOf, originalOf, Shown, map-take, map-drop}
 use Rattle.iup.proofs.Spread.{both-is, front, headPlace, ahead-is, goBetween, Spreading, step}
-use Rattle.iup.specs.Contour.{Point, touchedOf, headOr, spread, currentOf}
+use Rattle.iup.specs.Contour.{Point, touchedPlaces, headOr, spread, currentOf}
 use Rattle.iup.specs.Parts.{marks, ahead, placeAt, byReferences, both}
 use Rattle.iup.specs.declared.Place.{Place}
 use Rattle.flags.specs.Flag.{hasAny}
@@ -64,7 +64,7 @@ module _ {mask : ℕ} {fs : List ℕ} {us os cs : List ℤ} {ps : List Point} (s
         ∙ map-drop (λ p. p .place .current) (front (drop at ps)) (drop at ps)
         ∙ ap currentOf (drop-drop (front (drop at ps)) at ps ∙ ap (λ (j : ℕ). drop j ps) (sym is-next))
 
-    is-after : {after : Place} → after ≡ placeAt us os l next first → after ≡ headOr first (touchedOf (drop at ps))
+    is-after : {after : Place} → after ≡ placeAt us os l next first → after ≡ headOr first (touchedPlaces (drop at ps))
     is-after a =
         a
         ∙ ap₂ (λ (x y : List ℤ). placeAt x y l next first) (s .unscaled) (s .original)
@@ -84,9 +84,9 @@ module _ {mask : ℕ} {fs : List ℕ} {us os cs : List ℤ} {ps : List Point} (s
         let d : next - at ≡ k = omega (arith, is-next) in
         let u : take (next - at) (drop at us) ≡ unscaledOf (take k (drop at ps)) = ap₂ (λ (j : ℕ) (t : List ℤ). take j (drop at t)) d (s .unscaled) ∙ map-part (λ p. p .place .unscaled) k at ps in
         let o : take (next - at) (drop at os) ≡ originalOf (take k (drop at ps)) = ap₂ (λ (j : ℕ) (t : List ℤ). take j (drop at t)) d (s .original) ∙ map-part (λ p. p .place .original) k at ps in
-        let z : ys ≡ goBetween before (headOr first (touchedOf (drop at ps))) (take k (drop at ps)) =
+        let z : ys ≡ goBetween before (headOr first (touchedPlaces (drop at ps))) (take k (drop at ps)) =
         y ∙ ap₂ (both (byReferences before after)) u o ∙ both-is before after (take k (drop at ps)) ∙ ap (λ (b : Place). goBetween before b (take k (drop at ps))) (is-after a) in
-        let w : l′ ≡ take at l ++ (goBetween before (headOr first (touchedOf (drop at ps))) (take k (drop at ps)) ++ drop (at + k) l) =
+        let w : l′ ≡ take at l ++ (goBetween before (headOr first (touchedPlaces (drop at ps))) (take k (drop at ps)) ++ drop (at + k) l) =
         e ∙ ap₂ (λ (x t : List ℤ). take at l ++ (x ++ t)) z (post-is at next l (omega (arith, is-next)) ∙ ap (λ (j : ℕ). drop j l) is-next) in
         rw (is-after a, is-next) (step v (omega (arith, sizes, h)) w (g ∙ v .size))
 

@@ -12,7 +12,7 @@ use lib.ListN.{length, take, drop, getD, length-append, drop-of-length-le, take-
 use lib.Seq.{drop-cons, take-at, length-take-le}
 use borrow.Rule.Slice.PartMut.{putMid, post-is, same-len-mid, drop-put, mid-len}
 use Rattle.iup.proofs.Points.{shown, points-take, points-drop, map-drop}
-use Rattle.iup.specs.Contour.{Point, currentOf, contourOf, points}
+use Rattle.iup.specs.Contour.{Point, currentOf, contourOf, pointsOf}
 use Rattle.iup.specs.Iup.{past, walkOf, sizesFit}
 use Rattle.limits.specs.Limits.{mostPoints, mostContours}
 
@@ -61,17 +61,17 @@ module _ {es : List ℕ} {ps : List Point} {l : List ℤ} {at k : ℕ} (v : Walk
       ∙ ap (λ (x : List ℕ). take at l ++ walkOf (length ps) at x (drop at ps)) (sym (drop-of-length-le es {i = k} h))
       ∙ v .done
 
-module _ (mask : ℕ) (fs : List ℕ) (us os cs : List ℤ) (a : length us ≡ length cs) (b : length os ≡ length cs) (c : length fs ≡ length cs) {es : List ℕ} {l : List ℤ} {at k : ℕ} (v : Walking es (points mask fs us os cs) l at k) where
+module _ (mask : ℕ) (fs : List ℕ) (us os cs : List ℤ) (a : length us ≡ length cs) (b : length os ≡ length cs) (c : length fs ≡ length cs) {es : List ℕ} {l : List ℤ} {at k : ℕ} (v : Walking es (pointsOf mask fs us os cs) l at k) where
   abbrev ps : List Point
-  ps = points mask fs us os cs
+  ps = pointsOf mask fs us os cs
 
   s : cs ≡ currentOf ps
   s = shown mask fs us os cs a b c .current
 
   -- the points of the parts are the part of the points
-  part-is : (m : ℕ) → points mask (take m (drop at fs)) (take m (drop at us)) (take m (drop at os)) (take m (drop at l)) ≡ take m (drop at ps)
+  part-is : (m : ℕ) → pointsOf mask (take m (drop at fs)) (take m (drop at us)) (take m (drop at os)) (take m (drop at l)) ≡ take m (drop at ps)
   part-is m =
-      ap (λ (x : List ℤ). points mask (take m (drop at fs)) (take m (drop at us)) (take m (drop at os)) (take m x)) (v .same ∙ sym (ap (drop at) s ∙ map-drop (λ x. x .place .current) at ps))
+      ap (λ (x : List ℤ). pointsOf mask (take m (drop at fs)) (take m (drop at us)) (take m (drop at os)) (take m x)) (v .same ∙ sym (ap (drop at) s ∙ map-drop (λ x. x .place .current) at ps))
       ∙ points-take mask m (drop at fs) (drop at us) (drop at os) (drop at cs)
       ∙ ap (take m) (points-drop mask at fs us os cs a b c)
 
@@ -80,7 +80,7 @@ module _ (mask : ℕ) (fs : List ℕ) (us os cs : List ℤ) (a : length us ≡ l
       k < length es →
       e ≡ past (getD es k 0) (length l) →
       at < e →
-      ys ≡ contourOf (points mask (take (e - at) (drop at fs)) (take (e - at) (drop at us)) (take (e - at) (drop at os)) (take (e - at) (drop at l))) →
+      ys ≡ contourOf (pointsOf mask (take (e - at) (drop at fs)) (take (e - at) (drop at us)) (take (e - at) (drop at os)) (take (e - at) (drop at l))) →
       length ys ≡ length (take (e - at) (drop at l)) →
       Walking es ps (putMid at (e - at) l ys) e (k + 1)
   over {e} {ys} h q g y z =

@@ -16,8 +16,8 @@ pub record Point : Type 0 where
   pub touched : Bool
 
 -- how far a point was moved
-abbrev pub displacement : Place → ℤ
-displacement p = sub32 (p .current) (p .original)
+abbrev pub offset : Place → ℤ
+offset p = sub32 (p .current) (p .original)
 
 -- p strictly between its references: in proportion to the unscaled coordinates; where that has no meaning, at the lower reference
 unfoldable pub inside : Place → Place → Place → ℤ
@@ -32,9 +32,9 @@ inside low high p =
 unfoldable pub along : Place → Place → Place → ℤ
 along low high p =
     cond (leZ (p .original) (low .original))
-    (add32 (p .original) (displacement low))
+    (add32 (p .original) (offset low))
     (cond (leZ (high .original) (p .original))
-    (add32 (p .original) (displacement high))
+    (add32 (p .original) (offset high))
     (inside low high p))
 
 -- the references are put in order by their unscaled coordinates
@@ -42,9 +42,9 @@ unfoldable pub between : Place → Place → Place → ℤ
 between a b p = cond (leZ (a .unscaled) (b .unscaled)) (along a b p) (along b a p)
 
 -- the touched points
-unfoldable pub touchedOf : List Point → List Place
-touchedOf [] = []
-touchedOf (p ∷ ps) = cond (p .touched) (p .place ∷ touchedOf ps) (touchedOf ps)
+unfoldable pub touchedPlaces : List Point → List Place
+touchedPlaces [] = []
+touchedPlaces (p ∷ ps) = cond (p .touched) (p .place ∷ touchedPlaces ps) (touchedPlaces ps)
 
 -- the first of a list, or another
 abbrev pub headOr : Place → List Place → Place
@@ -63,11 +63,11 @@ spread before first [] = []
 spread before first (p ∷ ps) =
     cond (p .touched)
     (p .place .current ∷ spread (p .place) first ps)
-    (between before (headOr first (touchedOf ps)) (p .place) ∷ spread before first ps)
+    (between before (headOr first (touchedPlaces ps)) (p .place) ∷ spread before first ps)
 
 -- moved by d, unless touched
-abbrev pub shifted : ℤ → Point → ℤ
-shifted d p = cond (p .touched) (p .place .current) (add32 (p .place .current) d)
+abbrev pub shiftedBy : ℤ → Point → ℤ
+shiftedBy d p = cond (p .touched) (p .place .current) (add32 (p .place .current) d)
 
 abbrev pub currentOf : List Point → List ℤ
 currentOf ps = map (λ p. p .place .current) ps
@@ -75,18 +75,18 @@ currentOf ps = map (λ p. p .place .current) ps
 -- by how many points are touched: with none nothing moves, one takes all others along, and from two on the others are spread
 abbrev pub byTouched : List Point → List Place → List ℤ
 byTouched ps [] = currentOf ps
-byTouched ps (t ∷ []) = map (shifted (displacement t)) ps
+byTouched ps (t ∷ []) = map (shiftedBy (offset t)) ps
 byTouched ps (t ∷ (u ∷ us)) = spread (lastOf u us) t ps
 
 -- the current coordinates after IUP
 unfoldable pub contourOf : List Point → List ℤ
-contourOf ps = byTouched ps (touchedOf ps)
+contourOf ps = byTouched ps (touchedPlaces ps)
 
 -- the points that four lists of one length hold. A point is touched where its flag has a bit of the mask
-unfoldable pub points : ℕ → List ℕ → List ℤ → List ℤ → List ℤ → List Point
-points mask [] us os cs = []
-points mask (f ∷ fs) [] os cs = []
-points mask (f ∷ fs) (u ∷ us) [] cs = []
-points mask (f ∷ fs) (u ∷ us) (o ∷ os) [] = []
-points mask (f ∷ fs) (u ∷ us) (o ∷ os) (c ∷ cs) =
-    record { place = record { unscaled = u; original = o; current = c }; touched = hasAny f mask } ∷ points mask fs us os cs
+unfoldable pub pointsOf : ℕ → List ℕ → List ℤ → List ℤ → List ℤ → List Point
+pointsOf mask [] us os cs = []
+pointsOf mask (f ∷ fs) [] os cs = []
+pointsOf mask (f ∷ fs) (u ∷ us) [] cs = []
+pointsOf mask (f ∷ fs) (u ∷ us) (o ∷ os) [] = []
+pointsOf mask (f ∷ fs) (u ∷ us) (o ∷ os) (c ∷ cs) =
+    record { place = record { unscaled = u; original = o; current = c }; touched = hasAny f mask } ∷ pointsOf mask fs us os cs

@@ -12,7 +12,7 @@ use Rattle.answer.specs.declared.Refusal.the-variants.{Sizes, Point}
 use Rattle.limits.specs.Limits.{mostPoints, mostContours}
 use Rattle.flags.specs.Axis.{touchBit}
 use Rattle.flags.specs.declared.Axis.{Axis}
-use Rattle.iup.specs.Contour.{currentOf, contourOf, points}
+use Rattle.iup.specs.Contour.{currentOf, contourOf, pointsOf}
 use Rattle.iup.specs.Contour.{Point as Dot}
 
 -- the place past a contour's end; an end at or above n is taken as n - 1
@@ -34,19 +34,19 @@ reached n at [] = at
 reached n at (end ∷ ends) = cond (ltb at (past end n)) (reached n (past end n) ends) (reached n at ends)
 
 -- what a call says, and the current coordinates that it leaves
-pub record Went : Type 0 where
+pub record Swept : Type 0 where
   pub answer : Call
   pub current : List ℤ
 
-abbrev pub went : Call → List ℤ → Went
-went r l = record { answer = r; current = l }
+abbrev pub swept : Call → List ℤ → Swept
+swept r l = record { answer = r; current = l }
 
 -- a point is touched where its flag has the axis's bit; a contour of a glyph without points has no point to start at
-unfoldable pub iupOf : Axis → List ℕ → List ℕ → List ℤ → List ℤ → List ℤ → Went
+unfoldable pub iupOf : Axis → List ℕ → List ℕ → List ℤ → List ℤ → List ℤ → Swept
 iupOf axis flags contours unscaled original current =
     cond (eqb (length current) 0 && ltb 0 (length contours))
-    (went (Refused (Point 0)) current)
-    (went Done (walkOf (length current) 0 contours (points (touchBit axis) flags unscaled original current)))
+    (swept (Refused (Point 0)) current)
+    (swept Done (walkOf (length current) 0 contours (pointsOf (touchBit axis) flags unscaled original current)))
 
 -- four lists of one length within the limit, and contours within theirs
 unfoldable pub sizesFit : ℕ → ℕ → ℕ → ℕ → ℕ → Bool
@@ -54,8 +54,8 @@ sizesFit flags contours unscaled original current =
     eqb unscaled current && (eqb original current && (eqb flags current && (leb current mostPoints && leb contours mostContours)))
 
 -- the direct call
-unfoldable pub triedOf : Axis → List ℕ → List ℕ → List ℤ → List ℤ → List ℤ → Went
+unfoldable pub triedOf : Axis → List ℕ → List ℕ → List ℤ → List ℤ → List ℤ → Swept
 triedOf axis flags contours unscaled original current =
     cond (sizesFit (length flags) (length contours) (length unscaled) (length original) (length current))
     (iupOf axis flags contours unscaled original current)
-    (went (Refused Sizes) current)
+    (swept (Refused Sizes) current)

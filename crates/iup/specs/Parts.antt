@@ -1,4 +1,5 @@
--- What the inner functions work out: the searches for touched points, the references of a stretch, and a stretch between them. Assumes nothing.
+-- What the inner functions work out: the searches for touched points, the references of a stretch, and a stretch between them. Nobody need believe this:
+-- Contour.antt and Iup.antt are what `iup` is held to. Assumes nothing.
 use Prim.Native.Nat.{ℕ, zero, suc}
 use mathlib.Core.Bool.{Bool, cond, _||_}
 use mathlib.Core.List.{List, [], _∷_, map}
@@ -9,7 +10,7 @@ use lib.Signed.{leZ}
 use Rattle.int.specs.Word.{add32, sub32, eqZ}
 use Rattle.math.specs.Fixed.{mulFix, divFix}
 use Rattle.flags.specs.Flag.{hasAny}
-use Rattle.iup.specs.Contour.{displacement}
+use Rattle.iup.specs.Contour.{offset}
 use Rattle.iup.specs.declared.Place.{Place}
 
 -- which points are touched
@@ -49,9 +50,9 @@ insideBy low flat scale u = cond flat (low .current) (add32 (low .current) (mulF
 unfoldable pub movedBy : Place → Place → Bool → ℤ → ℤ → ℤ → ℤ
 movedBy low high flat scale u o =
     cond (leZ o (low .original))
-    (add32 o (displacement low))
+    (add32 o (offset low))
     (cond (leZ (high .original) o)
-    (add32 o (displacement high))
+    (add32 o (offset high))
     (insideBy low flat scale u))
 
 unfoldable pub byReferences : Place → Place → ℤ → ℤ → ℤ

@@ -26,8 +26,8 @@ ghost use lib.Dec.{ltb, eqb};
 ghost use lib.ListN.{length, drop};
 ghost use lib.Signed.{leZ};
 ghost use Rattle.int.specs.Word.{add32};
-ghost use Rattle.iup.specs.Contour.{displacement as Contour·displacement, spread, contourOf, points};
-ghost use Rattle.iup.specs.Iup.{past as Iup·past, went, iupOf, sizesFit, triedOf};
+ghost use Rattle.iup.specs.Contour.{offset as Contour·displacement, spread, contourOf, pointsOf};
+ghost use Rattle.iup.specs.Iup.{past as Iup·past, swept, iupOf, sizesFit, triedOf};
 ghost use Rattle.iup.specs.Parts.{marks, ahead, upToLast, placeAt, level as Parts·level, slope as Parts·slope, insideBy, movedBy, byReferences, both};
 
 // A point on the axis: in font units, scaled, and where it stands now.
@@ -231,7 +231,7 @@ fn spread_out(
     first: Place,
 )
     requires { ⌜ (length (now unscaled) ≡ length (now current)) × (length (now original) ≡ length (now current)) × (length (now flags) ≡ length (now current)) ⌝ }
-    ensures { λ _. ⌜ now (current .exit) ≡ spread last first (points mask (now (flags .entry)) (now (unscaled .entry)) (now (original .entry)) (now (current .entry))) ⌝ }
+    ensures { λ _. ⌜ now (current .exit) ≡ spread last first (pointsOf mask (now (flags .entry)) (now (unscaled .entry)) (now (original .entry)) (now (current .entry))) ⌝ }
 {
     let mut before = last;
     let mut at = 0;
@@ -253,7 +253,7 @@ fn spread_out(
 // One contour: with no touched point nothing moves, one takes all others along, and from two on the others go between them.
 fn contour(unscaled: &[i32], original: &[i32], current: &mut [i32], flags: &[u8], mask: u8)
     requires { ⌜ (length (now unscaled) ≡ length (now current)) × (length (now original) ≡ length (now current)) × (length (now flags) ≡ length (now current)) ⌝ }
-    ensures { λ _. ⌜ now (current .exit) ≡ contourOf (points mask (now (flags .entry)) (now (unscaled .entry)) (now (original .entry)) (now (current .entry))) ⌝ }
+    ensures { λ _. ⌜ now (current .exit) ≡ contourOf (pointsOf mask (now (flags .entry)) (now (unscaled .entry)) (now (original .entry)) (now (current .entry))) ⌝ }
 {
     let at = next_touched(flags, mask, 0);
     if at < flags.len() {
@@ -300,7 +300,7 @@ pub fn iup(
     axis: Axis,
 ) -> Call
     requires { ⌜ (length (now unscaled) ≡ length (now current)) × (length (now original) ≡ length (now current)) × (length (now flags) ≡ length (now current)) ⌝ }
-    ensures { λ r. ⌜ went r (now (current .exit)) ≡ iupOf axis (now (flags .entry)) (now (contours .entry)) (now (unscaled .entry)) (now (original .entry)) (now (current .entry)) ⌝ }
+    ensures { λ r. ⌜ swept r (now (current .exit)) ≡ iupOf axis (now (flags .entry)) (now (contours .entry)) (now (unscaled .entry)) (now (original .entry)) (now (current .entry)) ⌝ }
 {
     if no_start(current.len(), contours.len()) {
         return Call::Refused(Refusal::Point(0));
@@ -360,7 +360,7 @@ pub fn try_iup(
     contours: &[u16],
     axis: Axis,
 ) -> Call
-    ensures { λ r. ⌜ went r (now (current .exit)) ≡ triedOf axis (now (flags .entry)) (now (contours .entry)) (now (unscaled .entry)) (now (original .entry)) (now (current .entry)) ⌝ }
+    ensures { λ r. ⌜ swept r (now (current .exit)) ≡ triedOf axis (now (flags .entry)) (now (contours .entry)) (now (unscaled .entry)) (now (original .entry)) (now (current .entry)) ⌝ }
 {
     if sizes_fit(
         flags.len(),

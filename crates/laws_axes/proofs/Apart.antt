@@ -19,7 +19,7 @@ use Rattle.run_lines.specs.Onward.{Ran, ends, onCall, onWent, replayOf}
 use Rattle.replay.specs.Run.{entryOf, onEntry as runOnEntry, runOf}
 use Rattle.run_step.specs.Step.{Went, stepOf}
 use Rattle.line.specs.Sizes.{fits, worldFits}
-use Rattle.laws_axes.specs.Reached.{SameAlong, afterCall, afterLine, entered, linesReached, none, onEntry as reachedOnEntry, opcodeAt, reachedFrom}
+use Rattle.laws_axes.specs.Reached.{SameAlong, afterCall, afterLine, entered, linesReached, none, reachedOnEntry, opcodeAt, reachedFrom}
 use Rattle.laws_axes.specs.Axes.{Straight, fixedSeen, mixes, worldSeen}
 use Rattle.flags.specs.declared.Axis.the-variants.{X, Y}
 use Rattle.graphics.specs.State.{allAlong, usableState, xAxis, yAxis}

@@ -16,7 +16,7 @@ use Rattle.run_lines.specs.Onward.{Ran, ends, onCall, onWent, replayOf}
 use Rattle.run_lines.specs.declared.Answer.the-variants.{Finished, OutOfBudget}
 use Rattle.replay.specs.Run.{onEntry as runOnEntry, runOf}
 use Rattle.run_step.specs.Step.{stepOf}
-use Rattle.laws_axes.specs.Reached.{afterCall, afterLine, entered, linesReached, onEntry as reachedOnEntry, opcodeAt, reachedBy, reachedFrom}
+use Rattle.laws_axes.specs.Reached.{afterCall, afterLine, entered, linesReached, reachedOnEntry, opcodeAt, reachedBy, reachedFrom}
 
 -- n lines finished before, and these reached
 abbrev Counted : ℕ → List ℕ → Ran → Type 0

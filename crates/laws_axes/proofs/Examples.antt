@@ -23,7 +23,7 @@ use Rattle.replay.specs.Run.{entryOf, onEntry as runOnEntry, runOf}
 use Rattle.line.specs.Sizes.{fits}
 use Rattle.run_step.specs.Step.{onDecoded, stepOf}
 use Rattle.laws_axes.specs.Plain.{OnlyXDiffers, OnlyYDiffers, SameHorizontally, SameVertically}
-use Rattle.laws_axes.specs.Reached.{afterCall, linesReached, none, onEntry as reachedOnEntry, reachedFrom}
+use Rattle.laws_axes.specs.Reached.{afterCall, linesReached, none, reachedOnEntry, reachedFrom}
 use Rattle.flags.specs.declared.Axis.{Axis}
 use Rattle.flags.specs.declared.Axis.the-variants.{X, Y}
 use Rattle.int.specs.Word.{abs32, add32, maxZ, minZ, mul32, neg32, quot32, sub32, wrap32}
@@ -31,7 +31,7 @@ use Rattle.graphics.specs.State.{allAlong, freshState, usableState, vectorInRan
 use Rattle.projection.specs.Projection.{alongOf, axisOf, freedomAxisBy, notSmall, rawFdotp}
 use Rattle.moves.specs.Apply.{applyIn, applyOf}
 use Rattle.line_set.specs.Setters.{axisBy, setBy, setOf, vectorsBy}
-use Rattle.iup.specs.Contour.{contourOf, points, touchedOf}
+use Rattle.iup.specs.Contour.{contourOf, pointsOf, touchedPlaces}
 use Rattle.crossing.specs.Crossing.{crossOf, crossingOf, dotOf, meet, middleBy, movedOf}
 use Rattle.opcodes.specs.Decode.{decodeBy, decodeOf}
 use Rattle.zone.specs.Zone.{fetchOf}
@@ -97,7 +97,7 @@ abbrev moving : List ℤ
 moving = pos 47 ∷ pos 1 ∷ pos 0 ∷ pos 48 ∷ pos 0 ∷ pos 49 ∷ pos 0 ∷ []
 
 pub reaches : (a : Axis) → linesReached (glyph a here) moving 3 0 (begun a here) ≡ 47 ∷ 48 ∷ 49 ∷ []
-unfolding linesReached reachedOnEntry reachedFrom afterCall entryOf fits glyphFits twilightFits pairFits placedFits usableState vectorsInRange vectorInRange stepOf onDecoded decodeOf decodeBy needOf lineOf rowOf setOf one two takeFive controlAt pointOr fetchIn madeIn moveIn laidIn applyIn putTouched outsideMdap mdapOf mdapDistance fromOrigin roundingStep grid alongOf axisOf rawFdotp notSmall fetchOf applyOf moveOf stepBy freedomAxisBy add32 sub32 neg32 abs32 wrap32 maxZ minZ keepUp keepDown padFloor padRound multipleBelow quotFloor markedFor iupLineOf iupOf walkOf past contourOf points touchedOf
+unfolding linesReached reachedOnEntry reachedFrom afterCall entryOf fits glyphFits twilightFits pairFits placedFits usableState vectorsInRange vectorInRange stepOf onDecoded decodeOf decodeBy needOf lineOf rowOf setOf one two takeFive controlAt pointOr fetchIn madeIn moveIn laidIn applyIn putTouched outsideMdap mdapOf mdapDistance fromOrigin roundingStep grid alongOf axisOf rawFdotp notSmall fetchOf applyOf moveOf stepBy freedomAxisBy add32 sub32 neg32 abs32 wrap32 maxZ minZ keepUp keepDown padFloor padRound multipleBelow quotFloor markedFor iupLineOf iupOf walkOf past contourOf pointsOf touchedPlaces
 reaches X = refl
 reaches Y = refl
 
@@ -121,7 +121,7 @@ pub rise-alike :
     (a : Axis)
     → (coordinates a (runOf (glyph a here) moving 3 0 (begun a here) .world) ≡ raised)
     × (coordinates a (runOf (glyph a there) moving 3 0 (begun a there) .world) ≡ raised)
-unfolding runOf runOnEntry entryOf fits glyphFits twilightFits pairFits placedFits usableState vectorsInRange vectorInRange replayOf stepOf onDecoded onCall decodeOf decodeBy needOf lineOf rowOf setOf one two takeFive controlAt pointOr fetchIn madeIn moveIn laidIn applyIn putTouched outsideMdap mdapOf mdapDistance fromOrigin roundingStep grid alongOf axisOf rawFdotp notSmall fetchOf applyOf moveOf stepBy freedomAxisBy add32 sub32 neg32 abs32 wrap32 maxZ minZ keepUp keepDown padFloor padRound multipleBelow quotFloor markedFor iupLineOf iupOf walkOf past contourOf points touchedOf
+unfolding runOf runOnEntry entryOf fits glyphFits twilightFits pairFits placedFits usableState vectorsInRange vectorInRange replayOf stepOf onDecoded onCall decodeOf decodeBy needOf lineOf rowOf setOf one two takeFive controlAt pointOr fetchIn madeIn moveIn laidIn applyIn putTouched outsideMdap mdapOf mdapDistance fromOrigin roundingStep grid alongOf axisOf rawFdotp notSmall fetchOf applyOf moveOf stepBy freedomAxisBy add32 sub32 neg32 abs32 wrap32 maxZ minZ keepUp keepDown padFloor padRound multipleBelow quotFloor markedFor iupLineOf iupOf walkOf past contourOf pointsOf touchedPlaces
 rise-alike X = (refl, refl)
 rise-alike Y = (refl, refl)
 
@@ -160,14 +160,14 @@ abbrev marked : World
 marked = started vertical here heights (3 ∷ 1 ∷ 2 ∷ 0 ∷ 1 ∷ [])
 
 pub reaches-rising : linesReached (held here heights) rising 2 0 marked ≡ 47 ∷ 48 ∷ []
-unfolding linesReached reachedOnEntry reachedFrom afterCall entryOf fits glyphFits twilightFits pairFits placedFits usableState vectorsInRange vectorInRange stepOf onDecoded decodeOf decodeBy needOf lineOf rowOf setOf one two takeFive controlAt pointOr fetchIn madeIn moveIn laidIn applyIn putTouched outsideMdap mdapOf mdapDistance fromOrigin roundingStep grid alongOf axisOf rawFdotp notSmall fetchOf applyOf moveOf stepBy freedomAxisBy add32 sub32 neg32 abs32 wrap32 maxZ minZ keepUp keepDown padFloor padRound multipleBelow quotFloor markedFor iupLineOf iupOf walkOf past contourOf points touchedOf
+unfolding linesReached reachedOnEntry reachedFrom afterCall entryOf fits glyphFits twilightFits pairFits placedFits usableState vectorsInRange vectorInRange stepOf onDecoded decodeOf decodeBy needOf lineOf rowOf setOf one two takeFive controlAt pointOr fetchIn madeIn moveIn laidIn applyIn putTouched outsideMdap mdapOf mdapDistance fromOrigin roundingStep grid alongOf axisOf rawFdotp notSmall fetchOf applyOf moveOf stepBy freedomAxisBy add32 sub32 neg32 abs32 wrap32 maxZ minZ keepUp keepDown padFloor padRound multipleBelow quotFloor markedFor iupLineOf iupOf walkOf past contourOf pointsOf touchedPlaces
 reaches-rising = refl
 
 -- every point rises, and point 0 is touched in y
 pub rises :
     (runOf (held here heights) rising 2 0 marked .world .gy ≡ raised)
     × (runOf (held here heights) rising 2 0 marked .world .gflags ≡ 7 ∷ 1 ∷ 2 ∷ 0 ∷ 1 ∷ [])
-unfolding runOf runOnEntry entryOf fits glyphFits twilightFits pairFits placedFits usableState vectorsInRange vectorInRange replayOf stepOf onDecoded onCall decodeOf decodeBy needOf lineOf rowOf setOf one two takeFive controlAt pointOr fetchIn madeIn moveIn laidIn applyIn putTouched outsideMdap mdapOf mdapDistance fromOrigin roundingStep grid alongOf axisOf rawFdotp notSmall fetchOf applyOf moveOf stepBy freedomAxisBy add32 sub32 neg32 abs32 wrap32 maxZ minZ keepUp keepDown padFloor padRound multipleBelow quotFloor markedFor iupLineOf iupOf walkOf past contourOf points touchedOf
+unfolding runOf runOnEntry entryOf fits glyphFits twilightFits pairFits placedFits usableState vectorsInRange vectorInRange replayOf stepOf onDecoded onCall decodeOf decodeBy needOf lineOf rowOf setOf one two takeFive controlAt pointOr fetchIn madeIn moveIn laidIn applyIn putTouched outsideMdap mdapOf mdapDistance fromOrigin roundingStep grid alongOf axisOf rawFdotp notSmall fetchOf applyOf moveOf stepBy freedomAxisBy add32 sub32 neg32 abs32 wrap32 maxZ minZ keepUp keepDown padFloor padRound multipleBelow quotFloor markedFor iupLineOf iupOf walkOf past contourOf pointsOf touchedPlaces
 rises = (refl, refl)
 
 pub stays-across :
@@ -185,7 +185,7 @@ abbrev moved : World
 moved = started vertical there heights (2 ∷ 0 ∷ 0 ∷ 0 ∷ 0 ∷ [])
 
 pub reaches-sliding : linesReached (held here heights) sliding 1 0 moved ≡ 49 ∷ []
-unfolding linesReached reachedOnEntry reachedFrom afterCall entryOf fits glyphFits twilightFits pairFits placedFits usableState vectorsInRange vectorInRange stepOf onDecoded decodeOf decodeBy needOf lineOf rowOf setOf one two takeFive controlAt pointOr fetchIn madeIn moveIn laidIn applyIn putTouched outsideMdap markedFor iupLineOf iupOf walkOf past contourOf points touchedOf add32 sub32 wrap32
+unfolding linesReached reachedOnEntry reachedFrom afterCall entryOf fits glyphFits twilightFits pairFits placedFits usableState vectorsInRange vectorInRange stepOf onDecoded decodeOf decodeBy needOf lineOf rowOf setOf one two takeFive controlAt pointOr fetchIn madeIn moveIn laidIn applyIn putTouched outsideMdap markedFor iupLineOf iupOf walkOf past contourOf pointsOf touchedPlaces add32 sub32 wrap32
 reaches-sliding = refl
 
 -- it mixes no axes
@@ -196,7 +196,7 @@ slides-free = (ap (none (mixes Y)) reaches-sliding, ap (none (interpolatesAcross
 
 -- all but point 0 move by 7
 pub slides : runOf (held here heights) sliding 1 0 moved .world .gx ≡ five (pos 7) (pos 4) (pos 107) (pos 7) (pos 71)
-unfolding runOf runOnEntry entryOf fits glyphFits twilightFits pairFits placedFits usableState vectorsInRange vectorInRange replayOf stepOf onDecoded onCall decodeOf decodeBy needOf lineOf rowOf setOf one two takeFive controlAt pointOr fetchIn madeIn moveIn laidIn applyIn putTouched outsideMdap markedFor iupLineOf iupOf walkOf past contourOf points touchedOf add32 sub32 wrap32
+unfolding runOf runOnEntry entryOf fits glyphFits twilightFits pairFits placedFits usableState vectorsInRange vectorInRange replayOf stepOf onDecoded onCall decodeOf decodeBy needOf lineOf rowOf setOf one two takeFive controlAt pointOr fetchIn madeIn moveIn laidIn applyIn putTouched outsideMdap markedFor iupLineOf iupOf walkOf past contourOf pointsOf touchedPlaces add32 sub32 wrap32
 slides = refl
 
 -- ---- an intersection

@@ -22,7 +22,7 @@ use Rattle.graphics.specs.declared.Vectors.{Vectors}
 use Rattle.graphics.specs.declared.ZonePointer.the-variants.{Glyph, Twilight}
 use Rattle.graphics.specs.declared.ZonePointer.{ZonePointer}
 use Rattle.int.specs.Word.{indexOf, neg32, sub32}
-use Rattle.iup.specs.Iup.{Went, iupOf}
+use Rattle.iup.specs.Iup.{Swept, iupOf}
 use Rattle.laws_lines.proofs.Stays.{align-point-state, flip-point-state, shift-but-state, shift-point-state}
 use Rattle.line_alignrp.specs.Alignrp.{alignPoint, alignrpOf}
 use Rattle.line_flip.specs.Flip.{flipPoint, flipptOf, fliprgOf, heldFast, setThrough}
@@ -35,7 +35,7 @@ use Rattle.line_shc_shz.specs.Shc.{pointAfter, shcOf, shzOf}
 use Rattle.line_span.specs.Span.{pointsFrom, sameZone, shiftBut, spanIn}
 use Rattle.line_shift.specs.Shift.{pixelMove, shpOf, shpixOf}
 use Rattle.line_steps.specs.Numbers.{fromOrigin}
-use Rattle.line_steps.specs.Steps.{byDisplaced, displacedIn, displacement, doneIn, inState, laidIn, looped, madeIn, moveIn, onBoth, one, passedOver, pointOr, refusedIn, shiftPoint, two}
+use Rattle.line_steps.specs.Steps.{byDisplaced, referenceIn, referenceMoved, doneIn, inState, laidIn, looped, madeIn, moveIn, onBoth, one, passedOver, pointOr, refusedIn, shiftPoint, two}
 use Rattle.moves.specs.Displacement.{referenceOf}
 use Rattle.moves.specs.Move.{isIdle, moveOf, originalMoveOf, zp2MoveOf}
 use Rattle.moves.specs.declared.Displaced.the-variants.{By}
@@ -215,13 +215,13 @@ by-displaced-seen a w rest rest' h (RefusedDisplacement why) = refused-seen a (w
 
 -- how far the reference point was moved is read along the axis
 reference-seen : (a : Axis) (f : Fixed) (op : ℕ) (w : World) → Straight a (w .state) → (rest rest' : Displacement → Lined) → ((d : Displacement) → Same a (rest d) (rest' d))
-    → Same a (displacedIn (fixedSeen a f) op (worldSeen a w) rest) (displacedIn f op w rest')
-unfolding displacedIn
+    → Same a (referenceIn (fixedSeen a f) op (worldSeen a w) rest) (referenceIn f op w rest')
+unfolding referenceIn
 reference-seen a f op w straight rest rest' h =
     let p = referenceOf (w .state) op in
     ap (λ (d : Displaced). linedSeen a (byDisplaced (worldSeen a w) rest d))
     (displaced-seen a (w .state .vectors) straight p (f .gox) (f .goy) (w .gx) (w .gy) (w .tox) (w .toy) (w .tx) (w .ty) (p .zone))
-    ∙ by-displaced-seen a w rest rest' h (displacement f op w)
+    ∙ by-displaced-seen a w rest rest' h (referenceMoved f op w)
 
 shift-point-level : (a : Axis) (m : Move) (z : ℤ) (w : World) → Straight a (w .state) → Same a (shiftPoint m z (worldSeen a w)) (shiftPoint m z w)
 unfolding shiftPoint

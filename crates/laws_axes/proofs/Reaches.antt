@@ -15,7 +15,7 @@ use Rattle.flags.specs.declared.Axis.{Axis}
 use Rattle.graphics.proofs.Laws.{and-left, and-right}
 use Rattle.run_step.specs.Step.{Went, stepOf}
 use Rattle.line.specs.World.{Fixed, World}
-use Rattle.laws_axes.specs.Reached.{afterCall, afterLine, entered, linesReached, none, onEntry, opcodeAt, reachedFrom}
+use Rattle.laws_axes.specs.Reached.{afterCall, afterLine, entered, linesReached, none, reachedOnEntry, opcodeAt, reachedFrom}
 use Rattle.laws_axes.proofs.Apart.{entry-alike}
 use Rattle.laws_axes.proofs.RunSteps.{free-here, step-straight, steps-alike}
 
@@ -58,9 +58,9 @@ module _ (a : Axis) (f g : Fixed) (sheet : List ℤ) (ef : fixedSeen a f ≡ fix
       (λ here. turn b at w v (same-from b) ew e (free-here (mixes a) (ltb at (length sheet)) _ _ here free))
 
   on-entry : (b start : ℕ) (w v : World) → worldSeen a w ≡ worldSeen a v → Straight a (w .state) → (call : Call)
-      → none (mixes a) (onEntry (reachedFrom f sheet b start w) call) ≡ true
-      → onEntry (reachedFrom f sheet b start w) call ≡ onEntry (reachedFrom g sheet b start v) call
-  unfolding onEntry
+      → none (mixes a) (reachedOnEntry (reachedFrom f sheet b start w) call) ≡ true
+      → reachedOnEntry (reachedFrom f sheet b start w) call ≡ reachedOnEntry (reachedFrom g sheet b start v) call
+  unfolding reachedOnEntry
   on-entry b start w v ew e Done free = same-from b start w v ew e free
   on-entry b start w v ew e (RefusedCall why) free = refl
 
@@ -71,4 +71,4 @@ pub same-lines : (a : Axis) (f g : Fixed) (sheet : List ℤ) (budget start : ℕ
 unfolding linesReached
 same-lines a f g sheet budget start w v ef ew e free =
     on-entry a f g sheet ef budget start w v ew e (entered f sheet start w) free
-    ∙ ap (onEntry (reachedFrom g sheet budget start v)) (entry-alike a f g sheet start w v ef ew)
+    ∙ ap (reachedOnEntry (reachedFrom g sheet budget start v)) (entry-alike a f g sheet start w v ef ew)

@@ -168,12 +168,12 @@ at-seen a v e p ox oy cx cy =
     ap₂ (displacedFrom v p) (fetch-seen a ox oy (p .at)) (fetch-seen a cx cy (p .at))
     ∙ from-seen a v e p (fetchOf ox oy (p .at)) (fetchOf cx cy (p .at))
 
-pub displaced-seen : (a : Axis) (v : Vectors) → v ≡ allAlong (unitOf a) → (p : Reference) (gox goy gcx gcy tox toy tcx tcy : List ℤ) (z : ZonePointer)
-    → displacedIn v p (xSeen a gox) (ySeen a goy) (xSeen a gcx) (ySeen a gcy) (xSeen a tox) (ySeen a toy) (xSeen a tcx) (ySeen a tcy) z
-    ≡ displacedIn v p gox goy gcx gcy tox toy tcx tcy z
+pub displaced-seen : (a : Axis) (v : Vectors) → v ≡ allAlong (unitOf a) → (p : Reference) (gox goy gx gy tox toy tx ty : List ℤ) (z : ZonePointer)
+    → displacedIn v p (xSeen a gox) (ySeen a goy) (xSeen a gx) (ySeen a gy) (xSeen a tox) (ySeen a toy) (xSeen a tx) (ySeen a ty) z
+    ≡ displacedIn v p gox goy gx gy tox toy tx ty z
 unfolding displacedIn
-displaced-seen a v e p gox goy gcx gcy tox toy tcx tcy Glyph = at-seen a v e p gox goy gcx gcy
-displaced-seen a v e p gox goy gcx gcy tox toy tcx tcy Twilight = at-seen a v e p tox toy tcx tcy
+displaced-seen a v e p gox goy gx gy tox toy tx ty Glyph = at-seen a v e p gox goy gx gy
+displaced-seen a v e p gox goy gx gy tox toy tx ty Twilight = at-seen a v e p tox toy tx ty
 
 -- ---- by a test
 -- what is seen of either outcome of a test

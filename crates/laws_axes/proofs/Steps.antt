@@ -23,7 +23,7 @@ use Rattle.graphics.specs.declared.Vectors.{Vectors}
 use Rattle.graphics.specs.declared.ZonePointer.the-variants.{Glyph, Twilight}
 use Rattle.graphics.specs.declared.ZonePointer.{ZonePointer}
 use Rattle.line_steps.specs.Numbers.{fromOrigin, origin}
-use Rattle.line_steps.specs.Steps.{byCall, byDisplaced, byFetched, controlAt, displacedIn, displacement, doneIn, eachIn, first, flagsIn, inState, laidIn, looped, madeIn, moveIn, one, passedOver, pointOr, refusedIn, shiftPoint, two, withPoints}
+use Rattle.line_steps.specs.Steps.{byCall, byDisplaced, byFetched, controlAt, referenceIn, referenceMoved, doneIn, eachIn, first, flagsIn, inState, laidIn, looped, madeIn, moveIn, one, passedOver, pointOr, refusedIn, shiftPoint, two, withPoints}
 use Rattle.moves.specs.Apply.{Moved, applyIn, applyOf}
 use Rattle.moves.specs.Move.{moveOf}
 use Rattle.moves.specs.declared.Move.{Move}

@@ -21,7 +21,7 @@ use Rattle.laws_axes.specs.Axes.{Straight, interpolatesAcross, mixes}
 use Rattle.laws_axes.proofs.Inert.{stays, then}
 use Rattle.laws_axes.proofs.Held.{StillSince}
 use Rattle.flags.specs.declared.Axis.the-variants.{X, Y}
-use Rattle.laws_axes.specs.Reached.{afterCall, afterLine, entered, linesReached, none, onEntry as reachedOnEntry, opcodeAt, reachedFrom}
+use Rattle.laws_axes.specs.Reached.{afterCall, afterLine, entered, linesReached, none, reachedOnEntry, opcodeAt, reachedFrom}
 use Rattle.graphics.specs.State.{allAlong, xAxis, yAxis}
 use Rattle.graphics.proofs.Laws.{and-left, and-right}
 use Rattle.flags.specs.Flag.{bit}

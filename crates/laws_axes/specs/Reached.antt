@@ -43,13 +43,13 @@ reachedFrom f sheet (suc budget) at w =
 abbrev pub entered : Fixed → List ℤ → ℕ → World → Call
 entered f sheet start w = entryOf (worldFits f sheet w) (usableState (w .state)) (leb start (length sheet))
 
-unfoldable pub onEntry : List ℕ → Call → List ℕ
-onEntry reached Done = reached
-onEntry reached (Refused why) = []
+unfoldable pub reachedOnEntry : List ℕ → Call → List ℕ
+reachedOnEntry reached Done = reached
+reachedOnEntry reached (Refused why) = []
 
 -- a run that is refused at its entry reaches no line
 unfoldable pub linesReached : Fixed → List ℤ → ℕ → ℕ → World → List ℕ
-linesReached f sheet budget start w = onEntry (reachedFrom f sheet budget start w) (entered f sheet start w)
+linesReached f sheet budget start w = reachedOnEntry (reachedFrom f sheet budget start w) (entered f sheet start w)
 
 -- none of them is such a line
 abbrev pub none : (ℕ → Bool) → List ℕ → Bool

@@ -36,7 +36,7 @@ use Rattle.moves.specs.Move.{isIdle, moveOf, originalMoveOf, zp2MoveOf}
 use Rattle.moves.specs.declared.Move.{Move}
 use Rattle.moves.specs.declared.Reference.{Reference}
 use Rattle.direct_moves.specs.Direct.{displacedAfter, entryBy, moveAfter, outlineFits, pairsFit, shiftAfter, tryDisplacementOf, tryMoveOriginalOf, tryMovePointOf, tryMoveZp2Of, zonesFit, zp2After}
-use Rattle.iup.specs.Iup.{Went, iupOf, sizesFit, triedOf}
+use Rattle.iup.specs.Iup.{Swept, iupOf, sizesFit, triedOf}
 
 -- ---- the tests, and what is said by them
 pub record Test : Type 0 where
@@ -222,20 +222,20 @@ module _ (v : Vectors) (p : Reference) where
       let same : length ox ≡ length cx = eqb-true _ _ (and-left (eqb (length ox) (length cx)) _ (and-left (eqb (length ox) (length cx) && pairFits ox oy) _ fit)) in
       rw same (measured-from (placeOf ox oy (p .at)) (placeOf cx cy (p .at)) (ltb (p .at) (length cx)))
 
-module _ (gox goy gcx gcy tox toy tcx tcy : List ℤ) where
-  displaced-in : (v : Vectors) (p : Reference) (zone : ZonePointer) → outlineFits gox goy gcx gcy && outlineFits tox toy tcx tcy ≡ true
-      → saidOfDisplaced (displacedIn v p gox goy gcx gcy tox toy tcx tcy zone) ≡ inOrder (point (p .at) (ltb (p .at) (length (ofZone zone gcx tcx))) ∷ [])
+module _ (gox goy gx gy tox toy tx ty : List ℤ) where
+  displaced-in : (v : Vectors) (p : Reference) (zone : ZonePointer) → outlineFits gox goy gx gy && outlineFits tox toy tx ty ≡ true
+      → saidOfDisplaced (displacedIn v p gox goy gx gy tox toy tx ty zone) ≡ inOrder (point (p .at) (ltb (p .at) (length (ofZone zone gx tx))) ∷ [])
   unfolding displacedIn
-  displaced-in v p Glyph fit = displaced v p gox goy gcx gcy (and-left (outlineFits gox goy gcx gcy) _ fit)
-  displaced-in v p Twilight fit = displaced v p tox toy tcx tcy (and-right (outlineFits gox goy gcx gcy) _ fit)
+  displaced-in v p Glyph fit = displaced v p gox goy gx gy (and-left (outlineFits gox goy gx gy) _ fit)
+  displaced-in v p Twilight fit = displaced v p tox toy tx ty (and-right (outlineFits gox goy gx gy) _ fit)
 
   pub try-point-displacement : (s : GraphicsState) (opcode : ℕ)
-      → saidOfDisplaced (tryDisplacementOf gox goy gcx gcy tox toy tcx tcy s opcode)
-      ≡ inOrder (sizes (outlineFits gox goy gcx gcy && outlineFits tox toy tcx tcy) ∷ state (usableState s)
-      ∷ point (referenceOf s opcode .at) (ltb (referenceOf s opcode .at) (length (ofZone (referenceOf s opcode .zone) gcx tcx))) ∷ [])
+      → saidOfDisplaced (tryDisplacementOf gox goy gx gy tox toy tx ty s opcode)
+      ≡ inOrder (sizes (outlineFits gox goy gx gy && outlineFits tox toy tx ty) ∷ state (usableState s)
+      ∷ point (referenceOf s opcode .at) (ltb (referenceOf s opcode .at) (length (ofZone (referenceOf s opcode .zone) gx tx))) ∷ [])
   unfolding tryDisplacementOf
   try-point-displacement s opcode = let p = referenceOf s opcode in
-      at-entry (λ (c : Call). saidOfDisplaced (displacedAfter gox goy gcx gcy tox toy tcx tcy s p c)) (outlineFits gox goy gcx gcy && outlineFits tox toy tcx tcy) (usableState s) refl refl
+      at-entry (λ (c : Call). saidOfDisplaced (displacedAfter gox goy gx gy tox toy tx ty s p c)) (outlineFits gox goy gx gy && outlineFits tox toy tx ty) (usableState s) refl refl
       (displaced-in (s .vectors) p (p .zone))
 
 -- ---- IUP
@@ -244,10 +244,10 @@ module _ (axis : Axis) (flags contours : List ℕ) (unscaled original current : 
   walked : saidOfCall (iupOf axis flags contours unscaled original current .answer)
       ≡ inOrder (point 0 (not (eqb (length current) 0 && ltb 0 (length contours))) ∷ [])
   unfolding iupOf
-  walked = unless (λ (w : Went). saidOfCall (w .answer)) (eqb (length current) 0 && ltb 0 (length contours)) refl refl
+  walked = unless (λ (w : Swept). saidOfCall (w .answer)) (eqb (length current) 0 && ltb 0 (length contours)) refl refl
 
   pub try-iup : saidOfCall (triedOf axis flags contours unscaled original current .answer)
       ≡ inOrder (sizes (sizesFit (length flags) (length contours) (length unscaled) (length original) (length current))
       ∷ point 0 (not (eqb (length current) 0 && ltb 0 (length contours))) ∷ [])
   unfolding triedOf
-  try-iup = by-test (λ (w : Went). saidOfCall (w .answer)) (sizesFit (length flags) (length contours) (length unscaled) (length original) (length current)) walked refl
+  try-iup = by-test (λ (w : Swept). saidOfCall (w .answer)) (sizesFit (length flags) (length contours) (length unscaled) (length original) (length current)) walked refl

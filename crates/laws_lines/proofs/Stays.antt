@@ -30,7 +30,7 @@ use Rattle.line_msirp.specs.Msirp.{bothThere, madePlace, msirpOf, referencesAft
 use Rattle.line_shc_shz.specs.Shc.{shcOf, shzOf}
 use Rattle.line_span.specs.Span.{pointsFrom, sameZone, shiftBut, spanIn}
 use Rattle.line_shift.specs.Shift.{shpOf, shpixOf}
-use Rattle.line_steps.specs.Steps.{byCall, byDisplaced, byFetched, controlAt, displacedIn, displacement, doneIn, eachIn, first, five, flagsIn, inState, laidIn, looped, madeIn, moveIn, onBoth, one, passedOver, pointOr, shiftPoint, two, withPoints}
+use Rattle.line_steps.specs.Steps.{byCall, byDisplaced, byFetched, controlAt, referenceIn, referenceMoved, doneIn, eachIn, first, five, flagsIn, inState, laidIn, looped, madeIn, moveIn, onBoth, one, passedOver, pointOr, shiftPoint, two, withPoints}
 use Rattle.math.specs.Fixed.{mulFix14}
 use Rattle.moves.specs.Apply.{applyIn}
 use Rattle.moves.specs.Move.{isIdle, moveOf, zp2MoveOf}
@@ -110,9 +110,9 @@ module _ (P : World → Type 0) where
   by-displaced-stays w rest p h (By d) = h d
   by-displaced-stays w rest p h (RefusedDisplacement why) = p
 
-  displaced-stays : (f : Fixed) (op : ℕ) (w : World) (rest : Displacement → Lined) → P w → ((d : Displacement) → Left (rest d)) → Left (displacedIn f op w rest)
-  unfolding displacedIn
-  displaced-stays f op w rest p h = by-displaced-stays w rest p h (displacement f op w)
+  displaced-stays : (f : Fixed) (op : ℕ) (w : World) (rest : Displacement → Lined) → P w → ((d : Displacement) → Left (rest d)) → Left (referenceIn f op w rest)
+  unfolding referenceIn
+  displaced-stays f op w rest p h = by-displaced-stays w rest p h (referenceMoved f op w)
 
   passed-stays : (w : World) (why : Refusal) → P w → Left (passedOver w why)
   unfolding passedOver

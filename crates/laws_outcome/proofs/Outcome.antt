@@ -28,7 +28,7 @@ use Rattle.zone.specs.declared.Touched.{Touched}
 use Rattle.moves.specs.Apply.{BothMoved, BothShifted, bothMoved, bothShifted}
 use Rattle.moves.specs.declared.Displaced.{Displaced}
 use Rattle.direct_moves.specs.Direct.{tryDisplacementOf, tryMoveOriginalOf, tryMovePointOf, tryMoveZp2Of}
-use Rattle.iup.specs.Iup.{Went, triedOf, went}
+use Rattle.iup.specs.Iup.{Swept, triedOf, swept}
 use Rattle.state_words.specs.Words.{written}
 use Rattle.line.specs.World.{fixed, world}
 use Rattle.run_lines.specs.Onward.{Ran, ran}
@@ -175,9 +175,9 @@ module _ (s : GraphicsState) (a b : Vector) (r₁ r₂ : Measured) where
       r₁ ≡ measuredOf s (dualProjectOf (s .vectors) a b) → r₂ ≡ measuredOf s (dualProjectOf (s .vectors) a b) → r₁ ≡ r₂
   try-dual-project-unscaled-has-one-outcome p q = one-outcome p q
 
-pub try-point-displacement-has-one-outcome : (gox goy gcx gcy tox toy tcx tcy : List ℤ) (s : GraphicsState) (opcode : ℕ) (r₁ r₂ : Displaced)
-    → r₁ ≡ tryDisplacementOf gox goy gcx gcy tox toy tcx tcy s opcode → r₂ ≡ tryDisplacementOf gox goy gcx gcy tox toy tcx tcy s opcode → r₁ ≡ r₂
-try-point-displacement-has-one-outcome gox goy gcx gcy tox toy tcx tcy s opcode r₁ r₂ p q = one-outcome p q
+pub try-point-displacement-has-one-outcome : (gox goy gx gy tox toy tx ty : List ℤ) (s : GraphicsState) (opcode : ℕ) (r₁ r₂ : Displaced)
+    → r₁ ≡ tryDisplacementOf gox goy gx gy tox toy tx ty s opcode → r₂ ≡ tryDisplacementOf gox goy gx gy tox toy tx ty s opcode → r₁ ≡ r₂
+try-point-displacement-has-one-outcome gox goy gx gy tox toy tx ty s opcode r₁ r₂ p q = one-outcome p q
 
 -- ---- the direct calls that change flags
 both-marked : {m : Marked} (r₁ : Call) (flags₁ : List ℕ) (r₂ : Call) (flags₂ : List ℕ)
@@ -203,18 +203,18 @@ module _ (flags : List ℕ) (r₁ : Call) (flags₁ : List ℕ) (r₂ : Call) (f
 
 -- ---- the direct calls that change coordinates
 pub try-iup-has-one-outcome : (unscaled original current : List ℤ) (flags contours : List ℕ) (axis : Axis) (r₁ : Call) (current₁ : List ℤ) (r₂ : Call) (current₂ : List ℤ)
-    → went r₁ current₁ ≡ triedOf axis flags contours unscaled original current
-    → went r₂ current₂ ≡ triedOf axis flags contours unscaled original current
+    → swept r₁ current₁ ≡ triedOf axis flags contours unscaled original current
+    → swept r₂ current₂ ≡ triedOf axis flags contours unscaled original current
     → (r₁ ≡ r₂) × (current₁ ≡ current₂)
 try-iup-has-one-outcome unscaled original current flags contours axis r₁ current₁ r₂ current₂ p q =
-    (one-part (λ (x : Went). x .answer) p q, one-part (λ (x : Went). x .current) p q)
+    (one-part (λ (x : Swept). x .answer) p q, one-part (λ (x : Swept). x .current) p q)
 
-pub try-move-original-has-one-outcome : (s : GraphicsState) (zone : ZonePointer) (at : ℕ) (distance : ℤ) (gx gy tx ty : List ℤ)
-    (r₁ : Call) (gx₁ gy₁ tx₁ ty₁ : List ℤ) (r₂ : Call) (gx₂ gy₂ tx₂ ty₂ : List ℤ)
-    → bothShifted r₁ gx₁ gy₁ tx₁ ty₁ ≡ tryMoveOriginalOf gx gy tx ty s zone at distance
-    → bothShifted r₂ gx₂ gy₂ tx₂ ty₂ ≡ tryMoveOriginalOf gx gy tx ty s zone at distance
-    → (r₁ ≡ r₂) × (gx₁ ≡ gx₂) × (gy₁ ≡ gy₂) × (tx₁ ≡ tx₂) × (ty₁ ≡ ty₂)
-try-move-original-has-one-outcome s zone at distance gx gy tx ty r₁ gx₁ gy₁ tx₁ ty₁ r₂ gx₂ gy₂ tx₂ ty₂ p q = (
+pub try-move-original-has-one-outcome : (s : GraphicsState) (zone : ZonePointer) (at : ℕ) (distance : ℤ) (gox goy tox toy : List ℤ)
+    (r₁ : Call) (gox₁ goy₁ tox₁ toy₁ : List ℤ) (r₂ : Call) (gox₂ goy₂ tox₂ toy₂ : List ℤ)
+    → bothShifted r₁ gox₁ goy₁ tox₁ toy₁ ≡ tryMoveOriginalOf gox goy tox toy s zone at distance
+    → bothShifted r₂ gox₂ goy₂ tox₂ toy₂ ≡ tryMoveOriginalOf gox goy tox toy s zone at distance
+    → (r₁ ≡ r₂) × (gox₁ ≡ gox₂) × (goy₁ ≡ goy₂) × (tox₁ ≡ tox₂) × (toy₁ ≡ toy₂)
+try-move-original-has-one-outcome s zone at distance gox goy tox toy r₁ gox₁ goy₁ tox₁ toy₁ r₂ gox₂ goy₂ tox₂ toy₂ p q = (
   one-part (λ (x : BothShifted). x .call) p q,
   one-part (λ (x : BothShifted). x .gx) p q,
   one-part (λ (x : BothShifted). x .gy) p q,

@@ -12,7 +12,7 @@ use Rattle.words.proofs.Back.{Bytes, bytes-back, part-fits, part-join, word-fit
 use Rattle.words.proofs.Parts.{mapped-length}
 use Rattle.record_read.specs.Format.{Held, bodyWords, glyphWords, layoutFor, recordOf, trailerWords, twilightWords, wordsOf}
 use Rattle.record_read.specs.Read.{Kept, heldIn, layoutOf, openOf, readAs, readOf, trailerWord, wordCount}
-use Rattle.record_layout.specs.Order.{atTrailer, placeOf}
+use Rattle.record_layout.specs.Order.{atTrailer, listPlace}
 use Rattle.record_layout.specs.declared.Layout.{Layout}
 use Rattle.record_read.specs.declared.Opened.{Opened}
 use Rattle.record_read.specs.declared.Opened.the-variants.{Whole, Damaged}
@@ -58,25 +58,25 @@ module _ (bytes : List ℕ) (f : Bytes bytes) where
     abbrev rest-size : ℕ
     rest-size = l .controls + l .words
 
-    glyph-is : glyphWords h ≡ at (placeOf l 0) glyph-size
+    glyph-is : glyphWords h ≡ at (listPlace l 0) glyph-size
     glyph-is =
-        cat (placeOf l 0) n _ (numbers (placeOf l 0) n)
-        (cat (placeOf l 1) n _ (numbers (placeOf l 1) n)
-        (cat (placeOf l 2) n _ (numbers (placeOf l 2) n)
-        (cat (placeOf l 3) n _ (numbers (placeOf l 3) n)
-        (cat (placeOf l 4) n _ (numbers (placeOf l 4) n)
-        (cat (placeOf l 5) n _ (numbers (placeOf l 5) n)
-        (cat (placeOf l 6) n c (flags-back (at (placeOf l 6) n) (s .flags-are)) (ends-back (at (placeOf l 7) c) (s .ends-are))))))))
+        cat (listPlace l 0) n _ (numbers (listPlace l 0) n)
+        (cat (listPlace l 1) n _ (numbers (listPlace l 1) n)
+        (cat (listPlace l 2) n _ (numbers (listPlace l 2) n)
+        (cat (listPlace l 3) n _ (numbers (listPlace l 3) n)
+        (cat (listPlace l 4) n _ (numbers (listPlace l 4) n)
+        (cat (listPlace l 5) n _ (numbers (listPlace l 5) n)
+        (cat (listPlace l 6) n c (flags-back (at (listPlace l 6) n) (s .flags-are)) (ends-back (at (listPlace l 7) c) (s .ends-are))))))))
 
-    twilight-is : twilightWords h ≡ at (placeOf l 8) twilight-size
+    twilight-is : twilightWords h ≡ at (listPlace l 8) twilight-size
     twilight-is =
-        cat (placeOf l 8) m _ (numbers (placeOf l 8) m)
-        (cat (placeOf l 9) m _ (numbers (placeOf l 9) m)
-        (cat (placeOf l 10) m _ (numbers (placeOf l 10) m)
-        (cat (placeOf l 11) m m (numbers (placeOf l 11) m) (flags-back (at (placeOf l 12) m) (s .twilight-are)))))
+        cat (listPlace l 8) m _ (numbers (listPlace l 8) m)
+        (cat (listPlace l 9) m _ (numbers (listPlace l 9) m)
+        (cat (listPlace l 10) m _ (numbers (listPlace l 10) m)
+        (cat (listPlace l 11) m m (numbers (listPlace l 11) m) (flags-back (at (listPlace l 12) m) (s .twilight-are)))))
 
-    rest-is : wordsOfNumbers (h .fixed .controls) ++ wordsOfNumbers (h .sheet) ≡ at (placeOf l 13) (l .controls + l .words)
-    rest-is = cat (placeOf l 13) (l .controls) (l .words) (numbers (placeOf l 13) (l .controls)) (numbers (placeOf l 14) (l .words))
+    rest-is : wordsOfNumbers (h .fixed .controls) ++ wordsOfNumbers (h .sheet) ≡ at (listPlace l 13) (l .controls + l .words)
+    rest-is = cat (listPlace l 13) (l .controls) (l .words) (numbers (listPlace l 13) (l .controls)) (numbers (listPlace l 14) (l .words))
 
     fit-state : (k : ℕ) → getD (at 0 stateSize) k 0 < 2 ^ 32
     fit-state k = words-at (at 0 stateSize) k (part-fits bytes 0 stateSize f)
@@ -86,9 +86,9 @@ module _ (bytes : List ℕ) (f : Bytes bytes) where
 
     body-is : bodyWords h ≡ at 0 (atTrailer l)
     body-is =
-        let a : placeOf l 0 ≡ 0 + stateSize = omega arith in
-        let b : placeOf l 8 ≡ 0 + stateSize + glyph-size = omega arith in
-        let d : placeOf l 13 ≡ 0 + stateSize + glyph-size + twilight-size = omega arith in
+        let a : listPlace l 0 ≡ 0 + stateSize = omega arith in
+        let b : listPlace l 8 ≡ 0 + stateSize + glyph-size = omega arith in
+        let d : listPlace l 13 ≡ 0 + stateSize + glyph-size + twilight-size = omega arith in
         let all : stateSize + (glyph-size + (twilight-size + rest-size)) ≡ atTrailer l = omega arith in
         cat 0 stateSize (glyph-size + (twilight-size + rest-size)) state-back
         (cat (0 + stateSize) glyph-size (twilight-size + rest-size) (glyph-is ∙ ap (λ (k : ℕ). at k glyph-size) a)
@@ -103,19 +103,19 @@ module _ (bytes : List ℕ) (f : Bytes bytes) where
     t = atTrailer l
 
     points-are : length (h .world .gx) ≡ n
-    points-are = mapped-length ofBits bytes (placeOf l 4) n
+    points-are = mapped-length ofBits bytes (listPlace l 4) n
 
     contours-are : length (h .fixed .contours) ≡ c
-    contours-are = mapped-length endOf bytes (placeOf l 7) c
+    contours-are = mapped-length endOf bytes (listPlace l 7) c
 
     twilight-are : length (h .world .tx) ≡ m
-    twilight-are = mapped-length ofBits bytes (placeOf l 10) m
+    twilight-are = mapped-length ofBits bytes (listPlace l 10) m
 
     controls-are : length (h .fixed .controls) ≡ l .controls
-    controls-are = mapped-length ofBits bytes (placeOf l 13) (l .controls)
+    controls-are = mapped-length ofBits bytes (listPlace l 13) (l .controls)
 
     words-are : length (h .sheet) ≡ l .words
-    words-are = mapped-length ofBits bytes (placeOf l 14) (l .words)
+    words-are = mapped-length ofBits bytes (listPlace l 14) (l .words)
 
     same-trailer : atTrailer (layoutFor h) ≡ t
     same-trailer = omega (arith, points-are, contours-are, twilight-are, controls-are, words-are)

@@ -12,7 +12,7 @@ use Rattle.state_words.specs.Words.{stateOf, stateSize}
 use Rattle.words.specs.Lists.{endsOf, flagsOf, numbersOf, part}
 use Rattle.words.proofs.Back.{Bytes, Words, part-fits}
 use Rattle.words.proofs.Back.Words.{more, none}
-use Rattle.record_layout.specs.Order.{placeOf}
+use Rattle.record_layout.specs.Order.{listPlace}
 use Rattle.record_layout.specs.declared.Layout.{Layout}
 use Rattle.record_read.specs.Format.{Held}
 use Rattle.record_read.specs.Read.{heldIn, openOf, readAs, readOf}
@@ -74,29 +74,29 @@ module _ (bytes : List ℕ) (f : Bytes bytes) (l : Layout) where
 
   fixed-fits : FixedInWidth (heldIn bytes l .fixed)
   fixed-fits = record {
-    controls = numbers (placeOf l 13) (l .controls);
-    gux = numbers (placeOf l 0) (l .points);
-    guy = numbers (placeOf l 1) (l .points);
-    gox = numbers (placeOf l 2) (l .points);
-    goy = numbers (placeOf l 3) (l .points);
-    contours = ends-fit (part bytes (placeOf l 7) (l .contours));
+    controls = numbers (listPlace l 13) (l .controls);
+    gux = numbers (listPlace l 0) (l .points);
+    guy = numbers (listPlace l 1) (l .points);
+    gox = numbers (listPlace l 2) (l .points);
+    goy = numbers (listPlace l 3) (l .points);
+    contours = ends-fit (part bytes (listPlace l 7) (l .contours));
   }
 
   world-fits : InWidth (heldIn bytes l .world)
   world-fits = record {
     state = state-fits (part bytes 0 stateSize) (part-fits bytes 0 stateSize f);
-    gx = numbers (placeOf l 4) (l .points);
-    gy = numbers (placeOf l 5) (l .points);
-    gflags = flags-fit (part bytes (placeOf l 6) (l .points));
-    tox = numbers (placeOf l 8) (l .twilight);
-    toy = numbers (placeOf l 9) (l .twilight);
-    tx = numbers (placeOf l 10) (l .twilight);
-    ty = numbers (placeOf l 11) (l .twilight);
-    tflags = flags-fit (part bytes (placeOf l 12) (l .twilight));
+    gx = numbers (listPlace l 4) (l .points);
+    gy = numbers (listPlace l 5) (l .points);
+    gflags = flags-fit (part bytes (listPlace l 6) (l .points));
+    tox = numbers (listPlace l 8) (l .twilight);
+    toy = numbers (listPlace l 9) (l .twilight);
+    tx = numbers (listPlace l 10) (l .twilight);
+    ty = numbers (listPlace l 11) (l .twilight);
+    tflags = flags-fit (part bytes (listPlace l 12) (l .twilight));
   }
 
   held-fits : HeldInWidth (heldIn bytes l)
-  held-fits = record { fixed = fixed-fits; sheet = numbers (placeOf l 14) (l .words); world = world-fits }
+  held-fits = record { fixed = fixed-fits; sheet = numbers (listPlace l 14) (l .words); world = world-fits }
 
 -- ---- over every byte string
 by-verdict : (bytes : List ℕ) → Bytes bytes → (o : Opened) (h : Held) → readAs bytes o ≡ Kept h → HeldInWidth h

@@ -26,7 +26,7 @@ use Rattle.words.proofs.Back.Words.{more, none}
 use Rattle.words.proofs.Storing.{bytes-length}
 use Rattle.record_read.specs.Format.{Held, bodyWords, glyphWords, layout, layoutFor, recordOf, trailerWords, twilightWords, wordsOf}
 use Rattle.record_read.specs.Read.{Kept, countsFit, framed, layoutOf, openOf, readAs, readOf, sumFits, trailerFits, trailerWord, wordCount, wordsFit}
-use Rattle.record_layout.specs.Order.{atTrailer, edition, mostBytes, placeOf, recordSize, trailerSize}
+use Rattle.record_layout.specs.Order.{atTrailer, edition, mostBytes, listPlace, recordSize, trailerSize}
 use Rattle.record_layout.specs.declared.Layout.{Layout}
 use Rattle.record_read.specs.declared.Opened.the-variants.{Whole}
 use Rattle.limits.specs.Limits.{mostContours, mostControlValues, mostPoints, mostWords}
@@ -253,9 +253,9 @@ module _ (h : Held) (k : Keepable h) where
       ap (wordsFit bs) layout-same
       ∙ both (both (both
       (ap isState (lies-at bs (stateWords (h .world .state)) 0 stateSize refl (sym (state-long h k fit)) (state-lies h k fit)) ∙ state-is (h .world .state))
-      (ap (allAtMost 255) (lies-at bs (h .world .gflags) (placeOf lay 6) (lay .points) (flags-at h k fit) (sym (flags-long h k fit)) (flags-lies h k fit)) ∙ flags-within (k .widths .world .gflags)))
-      (ap (allAtMost 65535) (lies-at bs (h .fixed .contours) (placeOf lay 7) (lay .contours) (ends-at h k fit) refl (ends-lies h k fit)) ∙ ends-within (k .widths .fixed .contours)))
-      (ap (allAtMost 255) (lies-at bs (h .world .tflags) (placeOf lay 12) (lay .twilight) (twilightFlags-at h k fit) (sym (twilightFlags-long h k fit)) (twilightFlags-lies h k fit)) ∙ flags-within (k .widths .world .tflags))
+      (ap (allAtMost 255) (lies-at bs (h .world .gflags) (listPlace lay 6) (lay .points) (flags-at h k fit) (sym (flags-long h k fit)) (flags-lies h k fit)) ∙ flags-within (k .widths .world .gflags)))
+      (ap (allAtMost 65535) (lies-at bs (h .fixed .contours) (listPlace lay 7) (lay .contours) (ends-at h k fit) refl (ends-lies h k fit)) ∙ ends-within (k .widths .fixed .contours)))
+      (ap (allAtMost 255) (lies-at bs (h .world .tflags) (listPlace lay 12) (lay .twilight) (twilightFlags-at h k fit) (sym (twilightFlags-long h k fit)) (twilightFlags-lies h k fit)) ∙ flags-within (k .widths .world .tflags))
 
   sum-holds : sumFits bs ≡ true
   sum-holds =

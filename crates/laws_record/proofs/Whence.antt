@@ -15,7 +15,7 @@ use Rattle.zone.specs.Sizes.{glyphFits, pairFits, placedFits, twilightFits}
 use Rattle.line.specs.Sizes.{fits, worldFits}
 use Rattle.words.proofs.Parts.{mapped-length}
 use Rattle.words.specs.Lists.{endOf, endsOf, flagOf, flagsOf, numbersOf, part}
-use Rattle.record_layout.specs.Order.{mostBytes, placeOf, recordSize}
+use Rattle.record_layout.specs.Order.{mostBytes, listPlace, recordSize}
 use Rattle.record_layout.specs.declared.Layout.{Layout}
 use Rattle.record_read.proofs.Whole.{layout-is, layout-kept, sound}
 use Rattle.record_read.specs.Format.{Held, layoutFor}
@@ -77,10 +77,10 @@ module _ (bytes : List ℕ) where
       (and-right (leb (l .points) mostPoints && leb (l .contours) mostContours && leb (l .twilight) mostPoints && leb (l .controls) mostControlValues) (leb (l .words) mostWords) e) in
       both
       (both
-      (both (eight (placeOf l 0) (placeOf l 1) (placeOf l 2) (placeOf l 3) (placeOf l 4) (placeOf l 5) (placeOf l 6) (placeOf l 7) (l .points) (l .contours) n k)
-      (five (placeOf l 8) (placeOf l 9) (placeOf l 10) (placeOf l 11) (placeOf l 12) (l .twilight) m))
-      (least (placeOf l 13) (l .controls) mostControlValues v))
-      (least (placeOf l 14) (l .words) mostWords w)
+      (both (eight (listPlace l 0) (listPlace l 1) (listPlace l 2) (listPlace l 3) (listPlace l 4) (listPlace l 5) (listPlace l 6) (listPlace l 7) (l .points) (l .contours) n k)
+      (five (listPlace l 8) (listPlace l 9) (listPlace l 10) (listPlace l 11) (listPlace l 12) (l .twilight) m))
+      (least (listPlace l 13) (l .controls) mostControlValues v))
+      (least (listPlace l 14) (l .words) mostWords w)
 
 -- what a byte string holds, where it is read
 pub record Whence (bytes : List ℕ) (h : Held) : Type 0 where

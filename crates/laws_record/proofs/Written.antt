@@ -11,7 +11,7 @@ use Rattle.state_words.proofs.Back.{read-written}
 use Rattle.words.specs.Lists.{bytesOf, endsOf, flagsOf, numbersOf, part, wordsOfNumbers, wrappingSum}
 use Rattle.words.proofs.Back.{Words}
 use Rattle.record_read.specs.Format.{Held, bodyWords, glyphWords, layoutFor, recordOf, trailerWords, twilightWords, wordsOf}
-use Rattle.record_layout.specs.Order.{placeOf}
+use Rattle.record_layout.specs.Order.{listPlace}
 use Rattle.record_read.specs.Read.{heldIn}
 use Rattle.record_layout.specs.declared.Layout.{Layout}
 use Rattle.line.specs.World.{Alike, fixed, world}
@@ -260,96 +260,96 @@ module _ (h : Held) (k : Keepable h) (fit : Words (wordsOf h)) where
   pub twilight-long : length (twilightWords h) ≡ l .twilight + (l .twilight + (l .twilight + (l .twilight + l .twilight)))
   twilight-long = joined-long (wordsOfNumbers (h .world .tox)) (wordsOfNumbers (h .world .toy) ++ (wordsOfNumbers (h .world .tx) ++ (wordsOfNumbers (h .world .ty) ++ (h .world .tflags)))) twilightOriginalX-long (joined-long (wordsOfNumbers (h .world .toy)) (wordsOfNumbers (h .world .tx) ++ (wordsOfNumbers (h .world .ty) ++ (h .world .tflags))) twilightOriginalY-long (joined-long (wordsOfNumbers (h .world .tx)) (wordsOfNumbers (h .world .ty) ++ (h .world .tflags)) twilightX-long (joined-long (wordsOfNumbers (h .world .ty)) (h .world .tflags) twilightY-long twilightFlags-long)))
 
-  unscaledX-at : placeOf l 0 ≡ g0
+  unscaledX-at : listPlace l 0 ≡ g0
   unscaledX-at = omega (arith, state-long)
 
-  unscaledY-at : placeOf l 1 ≡ g1
+  unscaledY-at : listPlace l 1 ≡ g1
   unscaledY-at = omega (arith, unscaledX-at, unscaledX-long)
 
-  originalX-at : placeOf l 2 ≡ g2
+  originalX-at : listPlace l 2 ≡ g2
   originalX-at = omega (arith, unscaledY-at, unscaledY-long)
 
-  originalY-at : placeOf l 3 ≡ g3
+  originalY-at : listPlace l 3 ≡ g3
   originalY-at = omega (arith, originalX-at, originalX-long)
 
-  currentX-at : placeOf l 4 ≡ g4
+  currentX-at : listPlace l 4 ≡ g4
   currentX-at = omega (arith, originalY-at, originalY-long)
 
-  currentY-at : placeOf l 5 ≡ g5
+  currentY-at : listPlace l 5 ≡ g5
   currentY-at = omega (arith, currentX-at, currentX-long)
 
-  pub flags-at : placeOf l 6 ≡ g6
+  pub flags-at : listPlace l 6 ≡ g6
   flags-at = omega (arith, currentY-at, currentY-long)
 
-  pub ends-at : placeOf l 7 ≡ g7
+  pub ends-at : listPlace l 7 ≡ g7
   ends-at = omega (arith, flags-at, flags-long)
 
-  twilightOriginalX-at : placeOf l 8 ≡ t0
+  twilightOriginalX-at : listPlace l 8 ≡ t0
   twilightOriginalX-at = omega (arith, unscaledX-at, state-long, glyph-long)
 
-  twilightOriginalY-at : placeOf l 9 ≡ t1
+  twilightOriginalY-at : listPlace l 9 ≡ t1
   twilightOriginalY-at = omega (arith, twilightOriginalX-at, twilightOriginalX-long)
 
-  twilightX-at : placeOf l 10 ≡ t2
+  twilightX-at : listPlace l 10 ≡ t2
   twilightX-at = omega (arith, twilightOriginalY-at, twilightOriginalY-long)
 
-  twilightY-at : placeOf l 11 ≡ t3
+  twilightY-at : listPlace l 11 ≡ t3
   twilightY-at = omega (arith, twilightX-at, twilightX-long)
 
-  pub twilightFlags-at : placeOf l 12 ≡ t4
+  pub twilightFlags-at : listPlace l 12 ≡ t4
   twilightFlags-at = omega (arith, twilightY-at, twilightY-long)
 
-  pub controls-at : placeOf l 13 ≡ r0
+  pub controls-at : listPlace l 13 ≡ r0
   controls-at = omega (arith, twilightOriginalX-at, twilight-long)
 
-  pub sheet-at : placeOf l 14 ≡ r1
+  pub sheet-at : listPlace l 14 ≡ r1
   sheet-at = omega (arith, controls-at, controls-long)
 
   -- what is read there
-  unscaledX-read : numbersOf (part b (placeOf l 0) (l .points)) ≡ h .fixed .gux
-  unscaledX-read = ap numbersOf (lies-at b (wordsOfNumbers (h .fixed .gux)) (placeOf l 0) (l .points) unscaledX-at (sym unscaledX-long) unscaledX-lies) ∙ numbers-read (k .widths .fixed .gux)
+  unscaledX-read : numbersOf (part b (listPlace l 0) (l .points)) ≡ h .fixed .gux
+  unscaledX-read = ap numbersOf (lies-at b (wordsOfNumbers (h .fixed .gux)) (listPlace l 0) (l .points) unscaledX-at (sym unscaledX-long) unscaledX-lies) ∙ numbers-read (k .widths .fixed .gux)
 
-  unscaledY-read : numbersOf (part b (placeOf l 1) (l .points)) ≡ h .fixed .guy
-  unscaledY-read = ap numbersOf (lies-at b (wordsOfNumbers (h .fixed .guy)) (placeOf l 1) (l .points) unscaledY-at (sym unscaledY-long) unscaledY-lies) ∙ numbers-read (k .widths .fixed .guy)
+  unscaledY-read : numbersOf (part b (listPlace l 1) (l .points)) ≡ h .fixed .guy
+  unscaledY-read = ap numbersOf (lies-at b (wordsOfNumbers (h .fixed .guy)) (listPlace l 1) (l .points) unscaledY-at (sym unscaledY-long) unscaledY-lies) ∙ numbers-read (k .widths .fixed .guy)
 
-  originalX-read : numbersOf (part b (placeOf l 2) (l .points)) ≡ h .fixed .gox
-  originalX-read = ap numbersOf (lies-at b (wordsOfNumbers (h .fixed .gox)) (placeOf l 2) (l .points) originalX-at (sym originalX-long) originalX-lies) ∙ numbers-read (k .widths .fixed .gox)
+  originalX-read : numbersOf (part b (listPlace l 2) (l .points)) ≡ h .fixed .gox
+  originalX-read = ap numbersOf (lies-at b (wordsOfNumbers (h .fixed .gox)) (listPlace l 2) (l .points) originalX-at (sym originalX-long) originalX-lies) ∙ numbers-read (k .widths .fixed .gox)
 
-  originalY-read : numbersOf (part b (placeOf l 3) (l .points)) ≡ h .fixed .goy
-  originalY-read = ap numbersOf (lies-at b (wordsOfNumbers (h .fixed .goy)) (placeOf l 3) (l .points) originalY-at (sym originalY-long) originalY-lies) ∙ numbers-read (k .widths .fixed .goy)
+  originalY-read : numbersOf (part b (listPlace l 3) (l .points)) ≡ h .fixed .goy
+  originalY-read = ap numbersOf (lies-at b (wordsOfNumbers (h .fixed .goy)) (listPlace l 3) (l .points) originalY-at (sym originalY-long) originalY-lies) ∙ numbers-read (k .widths .fixed .goy)
 
-  currentX-read : numbersOf (part b (placeOf l 4) (l .points)) ≡ h .world .gx
-  currentX-read = ap numbersOf (lies-at b (wordsOfNumbers (h .world .gx)) (placeOf l 4) (l .points) currentX-at (sym currentX-long) currentX-lies) ∙ numbers-read (k .widths .world .gx)
+  currentX-read : numbersOf (part b (listPlace l 4) (l .points)) ≡ h .world .gx
+  currentX-read = ap numbersOf (lies-at b (wordsOfNumbers (h .world .gx)) (listPlace l 4) (l .points) currentX-at (sym currentX-long) currentX-lies) ∙ numbers-read (k .widths .world .gx)
 
-  currentY-read : numbersOf (part b (placeOf l 5) (l .points)) ≡ h .world .gy
-  currentY-read = ap numbersOf (lies-at b (wordsOfNumbers (h .world .gy)) (placeOf l 5) (l .points) currentY-at (sym currentY-long) currentY-lies) ∙ numbers-read (k .widths .world .gy)
+  currentY-read : numbersOf (part b (listPlace l 5) (l .points)) ≡ h .world .gy
+  currentY-read = ap numbersOf (lies-at b (wordsOfNumbers (h .world .gy)) (listPlace l 5) (l .points) currentY-at (sym currentY-long) currentY-lies) ∙ numbers-read (k .widths .world .gy)
 
-  flags-read : flagsOf (part b (placeOf l 6) (l .points)) ≡ h .world .gflags
-  flags-read = ap flagsOf (lies-at b (h .world .gflags) (placeOf l 6) (l .points) flags-at (sym flags-long) flags-lies) ∙ all-flags-read (k .widths .world .gflags)
+  flags-read : flagsOf (part b (listPlace l 6) (l .points)) ≡ h .world .gflags
+  flags-read = ap flagsOf (lies-at b (h .world .gflags) (listPlace l 6) (l .points) flags-at (sym flags-long) flags-lies) ∙ all-flags-read (k .widths .world .gflags)
 
-  ends-read : endsOf (part b (placeOf l 7) (l .contours)) ≡ h .fixed .contours
-  ends-read = ap endsOf (lies-at b (h .fixed .contours) (placeOf l 7) (l .contours) ends-at (sym ends-long) ends-lies) ∙ all-ends-read (k .widths .fixed .contours)
+  ends-read : endsOf (part b (listPlace l 7) (l .contours)) ≡ h .fixed .contours
+  ends-read = ap endsOf (lies-at b (h .fixed .contours) (listPlace l 7) (l .contours) ends-at (sym ends-long) ends-lies) ∙ all-ends-read (k .widths .fixed .contours)
 
-  twilightOriginalX-read : numbersOf (part b (placeOf l 8) (l .twilight)) ≡ h .world .tox
-  twilightOriginalX-read = ap numbersOf (lies-at b (wordsOfNumbers (h .world .tox)) (placeOf l 8) (l .twilight) twilightOriginalX-at (sym twilightOriginalX-long) twilightOriginalX-lies) ∙ numbers-read (k .widths .world .tox)
+  twilightOriginalX-read : numbersOf (part b (listPlace l 8) (l .twilight)) ≡ h .world .tox
+  twilightOriginalX-read = ap numbersOf (lies-at b (wordsOfNumbers (h .world .tox)) (listPlace l 8) (l .twilight) twilightOriginalX-at (sym twilightOriginalX-long) twilightOriginalX-lies) ∙ numbers-read (k .widths .world .tox)
 
-  twilightOriginalY-read : numbersOf (part b (placeOf l 9) (l .twilight)) ≡ h .world .toy
-  twilightOriginalY-read = ap numbersOf (lies-at b (wordsOfNumbers (h .world .toy)) (placeOf l 9) (l .twilight) twilightOriginalY-at (sym twilightOriginalY-long) twilightOriginalY-lies) ∙ numbers-read (k .widths .world .toy)
+  twilightOriginalY-read : numbersOf (part b (listPlace l 9) (l .twilight)) ≡ h .world .toy
+  twilightOriginalY-read = ap numbersOf (lies-at b (wordsOfNumbers (h .world .toy)) (listPlace l 9) (l .twilight) twilightOriginalY-at (sym twilightOriginalY-long) twilightOriginalY-lies) ∙ numbers-read (k .widths .world .toy)
 
-  twilightX-read : numbersOf (part b (placeOf l 10) (l .twilight)) ≡ h .world .tx
-  twilightX-read = ap numbersOf (lies-at b (wordsOfNumbers (h .world .tx)) (placeOf l 10) (l .twilight) twilightX-at (sym twilightX-long) twilightX-lies) ∙ numbers-read (k .widths .world .tx)
+  twilightX-read : numbersOf (part b (listPlace l 10) (l .twilight)) ≡ h .world .tx
+  twilightX-read = ap numbersOf (lies-at b (wordsOfNumbers (h .world .tx)) (listPlace l 10) (l .twilight) twilightX-at (sym twilightX-long) twilightX-lies) ∙ numbers-read (k .widths .world .tx)
 
-  twilightY-read : numbersOf (part b (placeOf l 11) (l .twilight)) ≡ h .world .ty
-  twilightY-read = ap numbersOf (lies-at b (wordsOfNumbers (h .world .ty)) (placeOf l 11) (l .twilight) twilightY-at (sym twilightY-long) twilightY-lies) ∙ numbers-read (k .widths .world .ty)
+  twilightY-read : numbersOf (part b (listPlace l 11) (l .twilight)) ≡ h .world .ty
+  twilightY-read = ap numbersOf (lies-at b (wordsOfNumbers (h .world .ty)) (listPlace l 11) (l .twilight) twilightY-at (sym twilightY-long) twilightY-lies) ∙ numbers-read (k .widths .world .ty)
 
-  twilightFlags-read : flagsOf (part b (placeOf l 12) (l .twilight)) ≡ h .world .tflags
-  twilightFlags-read = ap flagsOf (lies-at b (h .world .tflags) (placeOf l 12) (l .twilight) twilightFlags-at (sym twilightFlags-long) twilightFlags-lies) ∙ all-flags-read (k .widths .world .tflags)
+  twilightFlags-read : flagsOf (part b (listPlace l 12) (l .twilight)) ≡ h .world .tflags
+  twilightFlags-read = ap flagsOf (lies-at b (h .world .tflags) (listPlace l 12) (l .twilight) twilightFlags-at (sym twilightFlags-long) twilightFlags-lies) ∙ all-flags-read (k .widths .world .tflags)
 
-  controls-read : numbersOf (part b (placeOf l 13) (l .controls)) ≡ h .fixed .controls
-  controls-read = ap numbersOf (lies-at b (wordsOfNumbers (h .fixed .controls)) (placeOf l 13) (l .controls) controls-at (sym controls-long) controls-lies) ∙ numbers-read (k .widths .fixed .controls)
+  controls-read : numbersOf (part b (listPlace l 13) (l .controls)) ≡ h .fixed .controls
+  controls-read = ap numbersOf (lies-at b (wordsOfNumbers (h .fixed .controls)) (listPlace l 13) (l .controls) controls-at (sym controls-long) controls-lies) ∙ numbers-read (k .widths .fixed .controls)
 
-  sheet-read : numbersOf (part b (placeOf l 14) (l .words)) ≡ h .sheet
-  sheet-read = ap numbersOf (lies-at b (wordsOfNumbers (h .sheet)) (placeOf l 14) (l .words) sheet-at (sym sheet-long) sheet-lies) ∙ numbers-read (k .widths .sheet)
+  sheet-read : numbersOf (part b (listPlace l 14) (l .words)) ≡ h .sheet
+  sheet-read = ap numbersOf (lies-at b (wordsOfNumbers (h .sheet)) (listPlace l 14) (l .words) sheet-at (sym sheet-long) sheet-lies) ∙ numbers-read (k .widths .sheet)
 
   state-read : stateOf (part b 0 stateSize) ≡ h .world .state
   state-read = ap stateOf (lies-at b state-ws 0 stateSize refl (sym state-long) state-lies) ∙ read-written (h .world .state) (k .widths .world .state .signed)

@@ -20,10 +20,10 @@ use Rattle.round.specs.declared.RoundMode.{RoundMode}
 use Rattle.round.proofs.Facts.{SameSide, down-rounds, grid-rounds, up-rounds}
 use Rattle.graphics.specs.declared.Vector.{Vector}
 use Rattle.graphics.specs.declared.Vectors.{Vectors}
-use Rattle.iup.specs.Iup.{Went as Walked, iupOf, past, sizesFit, triedOf, walkOf, went as walked}
+use Rattle.iup.specs.Iup.{Swept as Walked, iupOf, past, sizesFit, triedOf, walkOf, swept as walked}
 use Rattle.int.specs.Word.{abs32, add32, and32, maxZ, minZ, mul32, neg32, quot32, sub32, wrap32}
 use Rattle.flags.specs.declared.Axis.the-variants.{X}
-use Rattle.iup.specs.Contour.{along, between, contourOf, inside, points, spread, touchedOf}
+use Rattle.iup.specs.Contour.{along, between, contourOf, inside, pointsOf, spread, touchedPlaces}
 use Rattle.projection.specs.Projection.{alongOf, axisOf, fdotpOf, freedomAxisBy, notSmall, rawFdotp}
 use Rattle.moves.specs.Apply.{applyIn, applyOf}
 use Rattle.line_set.specs.Setters.{axisBy, setBy, setOf, vectorsBy}
@@ -160,7 +160,7 @@ pub record PaperNumbers : Type 0 where
   pub fresh : stateWith xAxis 0 0 0 false ≡ freshState
 
 pub numbers : PaperNumbers
-unfolding runOf onEntry entryOf fits glyphFits twilightFits pairFits placedFits usableState vectorsInRange vectorInRange replayOf stepOf onDecoded onCall decodeOf decodeBy needOf lineOf rowOf setOf setBy vectorsBy axisBy one pointOr fetchIn moveIn laidIn applyIn mdapOf mdapDistance outsideMdap fromOrigin roundingStep grid alongOf axisOf rawFdotp notSmall fetchOf applyOf moveOf stepBy freedomAxisBy iupLineOf markedFor iupOf walkOf past contourOf points touchedOf spread between along inside add32 sub32 neg32 abs32 mul32 mulDiv mulFix14 dotFix14 halfAway14 halfUp withSign wrap32 maxZ minZ keepUp keepDown padFloor padRound multipleBelow quotFloor halfGrid doubleGrid upToGrid downToGrid superBy quot32 and32 triedOf sizesFit
+unfolding runOf onEntry entryOf fits glyphFits twilightFits pairFits placedFits usableState vectorsInRange vectorInRange replayOf stepOf onDecoded onCall decodeOf decodeBy needOf lineOf rowOf setOf setBy vectorsBy axisBy one pointOr fetchIn moveIn laidIn applyIn mdapOf mdapDistance outsideMdap fromOrigin roundingStep grid alongOf axisOf rawFdotp notSmall fetchOf applyOf moveOf stepBy freedomAxisBy iupLineOf markedFor iupOf walkOf past contourOf pointsOf touchedPlaces spread between along inside add32 sub32 neg32 abs32 mul32 mulDiv mulFix14 dotFix14 halfAway14 halfUp withSign wrap32 maxZ minZ keepUp keepDown padFloor padRound multipleBelow quotFloor halfGrid doubleGrid upToGrid downToGrid superBy quot32 and32 triedOf sizesFit
 numbers = record {
   grid-halves = refl;
   grid-most = refl;

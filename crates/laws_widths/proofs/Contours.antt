@@ -11,10 +11,10 @@ use mir.Val.{SFits}
 use Rattle.int.proofs.Tests.{either}
 use Rattle.int.proofs.Wraps.{add32-fits}
 use Rattle.int.specs.Word.{eqZ}
-use Rattle.iup.specs.Contour.{Point, along, between, byTouched, contourOf, currentOf, displacement, headOr, inside, lastOf, points, shifted, spread, touchedOf}
+use Rattle.iup.specs.Contour.{Point, along, between, byTouched, contourOf, currentOf, offset, headOr, inside, lastOf, pointsOf, shiftedBy, spread, touchedPlaces}
 use Rattle.flags.specs.Axis.{touchBit}
 use Rattle.flags.specs.declared.Axis.{Axis}
-use Rattle.iup.specs.Iup.{Went, iupOf, past, walkOf}
+use Rattle.iup.specs.Iup.{Swept, iupOf, past, walkOf}
 use Rattle.iup.specs.declared.Place.{Place}
 use Rattle.words.proofs.Widths.{Every, Numbers, every-drop, every-join, every-map, every-take, no-word, one-word}
 
@@ -33,16 +33,16 @@ inside-fits low high p f = either (SFits w32) (eqZ (low .current) (high .current
 along-fits : (low high p : Place) → PlaceFits low → SFits w32 (along low high p)
 unfolding along
 along-fits low high p f =
-    either (SFits w32) (leZ (p .original) (low .original)) (add32-fits (p .original) (displacement low))
-    (either (SFits w32) (leZ (high .original) (p .original)) (add32-fits (p .original) (displacement high)) (inside-fits low high p f))
+    either (SFits w32) (leZ (p .original) (low .original)) (add32-fits (p .original) (offset low))
+    (either (SFits w32) (leZ (high .original) (p .original)) (add32-fits (p .original) (offset high)) (inside-fits low high p f))
 
 between-fits : (a b p : Place) → PlaceFits a → PlaceFits b → SFits w32 (between a b p)
 unfolding between
 between-fits a b p f g = either (SFits w32) (leZ (a .unscaled) (b .unscaled)) (along-fits a b p f) (along-fits b a p g)
 
 -- ---- a contour
-touched-fit : {ps : List Point} → Every PointFits ps → Every PlaceFits (touchedOf ps)
-unfolding touchedOf
+touched-fit : {ps : List Point} → Every PointFits ps → Every PlaceFits (touchedPlaces ps)
+unfolding touchedPlaces
 touched-fit no-word = no-word
 touched-fit (one-word {w} h f) = either (Every PlaceFits) (w .touched) (one-word h (touched-fit f)) (touched-fit f)
 
@@ -59,17 +59,17 @@ unfolding spread
 spread-fits before first b g no-word = no-word
 spread-fits before first b g (one-word {w} {ws} h f) =
     either Numbers (w .touched) (one-word h (spread-fits (w .place) first h g f))
-    (one-word (between-fits before (headOr first (touchedOf ws)) (w .place) b (head-fits first g (touched-fit f))) (spread-fits before first b g f))
+    (one-word (between-fits before (headOr first (touchedPlaces ws)) (w .place) b (head-fits first g (touched-fit f))) (spread-fits before first b g f))
 
 current-fit : {ps : List Point} → Every PointFits ps → Numbers (currentOf ps)
 current-fit f = every-map (λ (p : Point). p .place .current) (λ p h. h) f
 
-shifted-fits : (d : ℤ) (p : Point) → PointFits p → SFits w32 (shifted d p)
+shifted-fits : (d : ℤ) (p : Point) → PointFits p → SFits w32 (shiftedBy d p)
 shifted-fits d p h = either (SFits w32) (p .touched) h (add32-fits (p .place .current) d)
 
 by-touched-fits : {ps : List Point} → Every PointFits ps → {ts : List Place} → Every PlaceFits ts → Numbers (byTouched ps ts)
 by-touched-fits f no-word = current-fit f
-by-touched-fits f (one-word {w} h no-word) = every-map (shifted (displacement w)) (shifted-fits (displacement w)) f
+by-touched-fits f (one-word {w} h no-word) = every-map (shiftedBy (offset w)) (shifted-fits (offset w)) f
 by-touched-fits f (one-word {w} h (one-word {w = u} {ws = us} g k)) = spread-fits (lastOf u us) w (last-fits u g k) h f
 
 contour-fits : {ps : List Point} → Every PointFits ps → Numbers (contourOf ps)
@@ -77,8 +77,8 @@ unfolding contourOf
 contour-fits f = by-touched-fits f (touched-fit f)
 
 -- ---- the walk
-points-fit : (mask : ℕ) (fs : List ℕ) (us os : List ℤ) {cs : List ℤ} → Numbers cs → Every PointFits (points mask fs us os cs)
-unfolding points
+points-fit : (mask : ℕ) (fs : List ℕ) (us os : List ℤ) {cs : List ℤ} → Numbers cs → Every PointFits (pointsOf mask fs us os cs)
+unfolding pointsOf
 points-fit mask [] us os f = no-word
 points-fit mask (x ∷ fs) [] os f = no-word
 points-fit mask (x ∷ fs) (u ∷ us) [] f = no-word
@@ -96,5 +96,5 @@ pub iup-fits : (axis : Axis) (flags contours : List ℕ) (unscaled original : Li
     → Numbers (iupOf axis flags contours unscaled original current .current)
 unfolding iupOf
 iup-fits axis flags contours unscaled original {current} f =
-    either (λ (w : Went). Numbers (w .current)) (eqb (length current) 0 && ltb 0 (length contours)) f
+    either (λ (w : Swept). Numbers (w .current)) (eqb (length current) 0 && ltb 0 (length contours)) f
     (walk-fits (length current) 0 contours (points-fit (touchBit axis) flags unscaled original f))

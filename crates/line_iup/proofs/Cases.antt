@@ -7,7 +7,7 @@ use lib.IntN.{ℤ}
 use Rattle.answer.specs.declared.Call.{Call}
 use Rattle.graphics.specs.State.{markedX, markedY, pastBothIups, withFacts}
 use Rattle.graphics.specs.declared.GraphicsState.{GraphicsState}
-use Rattle.iup.specs.Iup.{iupOf, went}
+use Rattle.iup.specs.Iup.{iupOf, swept}
 use Rattle.line_steps.specs.Steps.{doneIn, inState}
 use Rattle.line.specs.Operands.{isOdd}
 use Rattle.flags.specs.declared.Axis.the-variants.{X, Y}
@@ -36,10 +36,10 @@ module _ (s : GraphicsState) (opcode : ℕ) where
 
 -- ---- the walk
 module _ (f : Fixed) (w : World) {x : Bool} {call : Call} where
-  pub walked-x : {xs : List ℤ} → x ≡ true → went call xs ≡ iupOf X (w .gflags) (f .contours) (f .gux) (f .gox) (w .gx) → withX w (went call xs) ≡ walkedIn f w x
+  pub walked-x : {xs : List ℤ} → x ≡ true → swept call xs ≡ iupOf X (w .gflags) (f .contours) (f .gux) (f .gox) (w .gx) → withX w (swept call xs) ≡ walkedIn f w x
   walked-x t e = ap (withX w) e ∙ sym (ap (walkedIn f w) t)
 
-  pub walked-y : {ys : List ℤ} → x ≡ false → went call ys ≡ iupOf Y (w .gflags) (f .contours) (f .guy) (f .goy) (w .gy) → withY w (went call ys) ≡ walkedIn f w x
+  pub walked-y : {ys : List ℤ} → x ≡ false → swept call ys ≡ iupOf Y (w .gflags) (f .contours) (f .guy) (f .goy) (w .gy) → withY w (swept call ys) ≡ walkedIn f w x
   walked-y t e = ap (withY w) e ∙ sym (ap (walkedIn f w) t)
 
 -- ---- the line

@@ -7,7 +7,7 @@ use mathlib.Core.List.{List}
 use lib.IntN.{ℤ}
 use Rattle.graphics.specs.State.{markedX, markedY, pastBothIups, withFacts}
 use Rattle.graphics.specs.declared.GraphicsState.{GraphicsState}
-use Rattle.iup.specs.Iup.{Went, iupOf}
+use Rattle.iup.specs.Iup.{Swept, iupOf}
 use Rattle.line_steps.specs.Steps.{doneIn, inState}
 use Rattle.line.specs.Operands.{isOdd}
 use Rattle.flags.specs.declared.Axis.the-variants.{X, Y}
@@ -21,10 +21,10 @@ markedFor s opcode =
     s
 
 -- ---- the walk on one axis
-abbrev pub withX : World → Went → Lined
+abbrev pub withX : World → Swept → Lined
 withX w r = record { call = r .answer; world = world (w .state) (r .current) (w .gy) (w .gflags) (w .tox) (w .toy) (w .tx) (w .ty) (w .tflags) }
 
-abbrev pub withY : World → Went → Lined
+abbrev pub withY : World → Swept → Lined
 withY w r = record { call = r .answer; world = world (w .state) (w .gx) (r .current) (w .gflags) (w .tox) (w .toy) (w .tx) (w .ty) (w .tflags) }
 
 abbrev pub walkedIn : Fixed → World → Bool → Lined

@@ -9,7 +9,7 @@ use lib.IntN.{ℤ}
 use Rattle.answer.specs.declared.Refusal.the-variants.{Compatibility}
 use Rattle.graphics.specs.declared.Facts.{Facts}
 use Rattle.graphics.specs.declared.Vectors.{Vectors}
-use Rattle.line_steps.specs.Steps.{displacedIn, first, looped, refusedIn, shiftPoint}
+use Rattle.line_steps.specs.Steps.{referenceIn, first, looped, refusedIn, shiftPoint}
 use Rattle.math.specs.Fixed.{mulFix14}
 use Rattle.moves.specs.Move.{zp2MoveOf}
 use Rattle.moves.specs.declared.Move.{Move}
@@ -18,7 +18,7 @@ use Rattle.line.specs.World.{Fixed, Lined, World}
 -- ---- SHP: as the reference point was. It is read first, whatever the counter is, and leaves the counter where it is refused
 unfoldable pub shpOf : Fixed → ℕ → List ℤ → World → Lined
 shpOf f opcode operands w =
-    displacedIn f opcode w λ d.
+    referenceIn f opcode w λ d.
     looped operands w (shiftPoint (zp2MoveOf (w .state .vectors) (w .state .facts) (d .dx) (d .dy) true))
 
 -- ---- SHPIX: by an amount, which is popped once and first, along the freedom vector. Under backward compatibility it is answer 13 by document 02, K1, before any operand

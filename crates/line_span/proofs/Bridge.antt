@@ -11,7 +11,7 @@ use Rattle.int.specs.Word.{indexOf}
 use Rattle.line_steps.proofs.Bridge.{zonesOf}
 use Rattle.line_steps.proofs.Zones.{shift-is, zone-each-is, zonesIn}
 use Rattle.line_steps.specs.Loop.{Zones, ended, inZone, pass, shiftUnlessIdle}
-use Rattle.line_steps.specs.Steps.{byDisplaced, displacedIn, displacement, doneIn, eachIn, shiftPoint}
+use Rattle.line_steps.specs.Steps.{byDisplaced, referenceIn, referenceMoved, doneIn, eachIn, shiftPoint}
 use Rattle.moves.specs.Displacement.{referenceOf}
 use Rattle.moves.specs.Move.{zp2MoveOf}
 use Rattle.moves.specs.declared.Displaced.the-variants.{By}
@@ -60,7 +60,7 @@ module _ (f : Fixed) (opcode : ℕ) (touches : Bool) (start end : ℕ) (w : Worl
       → ended call z ≡ spanOf (w .state .vectors) (w .state .facts) (w .state .pointers .zp2) p touches start end (f .gox) (f .goy) (w .tox) (w .toy) (zonesOf w)
       → lined (record { call = call; state = w .state }) (z .glyph .xs) (z .glyph .ys) (z .glyph .flags) (w .tox) (w .toy) (z .twilight .xs) (z .twilight .ys) (z .twilight .flags)
       ≡ spanIn f opcode touches start end w
-  unfolding spanIn displacedIn spanOf
+  unfolding spanIn referenceIn spanOf
   span-is r e =
       ap (zonesIn w) (e ∙ ap (λ (p : Reference). spanOf (w .state .vectors) (w .state .facts) (w .state .pointers .zp2) p touches start end (f .gox) (f .goy) (w .tox) (w .toy) (zonesOf w)) r)
-      ∙ by-displaced (displacement f opcode w)
+      ∙ by-displaced (referenceMoved f opcode w)

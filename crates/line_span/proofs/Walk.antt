@@ -21,31 +21,31 @@ use Rattle.moves.specs.Move.{isIdle, movedAt}
 use Rattle.moves.specs.declared.Move.{Move}
 use Rattle.zone.specs.Zone.{orAt}
 use Rattle.line_span.specs.Span.{pointsFrom}
-use Rattle.line_span.specs.Steps.{movedFrom, movedRun, row, runOf, shiftButAt, shiftSpan, shiftedFrom, shiftedRun, touchedRun}
+use Rattle.line_span.specs.Steps.{movedFrom, movedRun, inRow, atEach, shiftButAt, shiftSpan, shiftedFrom, shiftedRun, touchedRun}
 
 -- ---- one list
 module _ {A : Type 0} (f : List A → ℕ → List A) where
-  run-ended : (n at : ℕ) (l : List A) → n ≤ 0 → l ≡ runOf f n at l
-  unfolding runOf
+  run-ended : (n at : ℕ) (l : List A) → n ≤ 0 → l ≡ atEach f n at l
+  unfolding atEach
   run-ended zero at l h = refl
   run-ended (suc n) at l h = absurd (omega arith)
 
-  one-changed : (n at : ℕ) (l : List A) → 0 < n → runOf f (n - 1) (suc at) (f l at) ≡ runOf f n at l
-  unfolding runOf
+  one-changed : (n at : ℕ) (l : List A) → 0 < n → atEach f (n - 1) (suc at) (f l at) ≡ atEach f n at l
+  unfolding atEach
   one-changed zero at l h = absurd (omega arith)
   one-changed (suc n) at l h = let e : suc n - 1 ≡ n = omega arith in rw e
 
   -- what is left to change from i on
-  run-turned : (end i : ℕ) (l : List A) → i < end → {m : List A} → m ≡ f l i → runOf f (end - (i + 1)) (i + 1) m ≡ runOf f (end - i) i l
+  run-turned : (end i : ℕ) (l : List A) → i < end → {m : List A} → m ≡ f l i → atEach f (end - (i + 1)) (i + 1) m ≡ atEach f (end - i) i l
   run-turned end i l h e =
       let p : end - (i + 1) ≡ end - i - 1 = omega arith in let q : i + 1 ≡ suc i = omega arith in
-      rw (p, q) (ap (runOf f (end - i - 1) (suc i)) e ∙ one-changed (end - i) i l (omega arith))
+      rw (p, q) (ap (atEach f (end - i - 1) (suc i)) e ∙ one-changed (end - i) i l (omega arith))
 
   -- changes that change nothing
-  run-still : ((l : List A) (at : ℕ) → f l at ≡ l) → (n at : ℕ) (l : List A) → l ≡ runOf f n at l
-  unfolding runOf
+  run-still : ((l : List A) (at : ℕ) → f l at ≡ l) → (n at : ℕ) (l : List A) → l ≡ atEach f n at l
+  unfolding atEach
   run-still h zero at l = refl
-  run-still h (suc n) at l = run-still h n (suc at) l ∙ ap (runOf f n (suc at)) (sym (h l at))
+  run-still h (suc n) at l = run-still h n (suc at) l ∙ ap (atEach f n (suc at)) (sym (h l at))
 
 -- coordinates moved
 module _ (by : ℤ) (end i : ℕ) (l : List ℤ) where
@@ -125,7 +125,7 @@ module _ {S : Type 0} (f : ℕ → S → Ended S) where
       rw q (on-cut a b (suc at) next (cut a b (suc at) next (omega arith)) (f at s .left) (f at s .call))
 
   module _ (start mid end : ℕ) (h : start ≤ mid) (g : mid ≤ end) (s : S) where
-    row-cut : onward (row f mid end) (row f start mid s .left) (row f start mid s .call) ≡ row f start end s
+    row-cut : onward (inRow f mid end) (inRow f start mid s .left) (inRow f start mid s .call) ≡ inRow f start end s
     row-cut = let e : end - start ≡ (mid - start) + (end - mid) = omega arith in rw e (cut (mid - start) (end - mid) start mid (omega arith) s)
 
   -- a first step
@@ -135,19 +135,19 @@ module _ {S : Type 0} (f : ℕ → S → Ended S) where
   first-of (suc n) at s h = let e : suc n - 1 ≡ n = omega arith in rw e
 
   module _ (start end : ℕ) (s : S) (h : start < end) where
-    stepped : onward (row f (start + 1) end) (f start s .left) (f start s .call) ≡ row f start end s
+    stepped : onward (inRow f (start + 1) end) (f start s .left) (f start s .call) ≡ inRow f start end s
     stepped = on-same from (f start s .left) (f start s .call) ∙ first-of (end - start) start s (omega arith)
       where
-        from : (t : S) → row f (start + 1) end t ≡ each f (end - start - 1) (pointsFrom (suc start) (end - start - 1)) t
+        from : (t : S) → inRow f (start + 1) end t ≡ each f (end - start - 1) (pointsFrom (suc start) (end - start - 1)) t
         from t = let p : end - (start + 1) ≡ end - start - 1 = omega arith in let q : start + 1 ≡ suc start = omega arith in rw (p, q)
 
-    first-refused : {why : Refusal} → ended (Refused why) s ≡ f start s → ended (Refused why) s ≡ row f start end s
+    first-refused : {why : Refusal} → ended (Refused why) s ≡ f start s → ended (Refused why) s ≡ inRow f start end s
     unfolding onward
-    first-refused e = ap (λ (r : Ended S). onward (row f (start + 1) end) (r .left) (r .call)) e ∙ stepped
+    first-refused e = ap (λ (r : Ended S). onward (inRow f (start + 1) end) (r .left) (r .call)) e ∙ stepped
 
-    first-passed : ended Done s ≡ f start s → row f (start + 1) end s ≡ row f start end s
+    first-passed : ended Done s ≡ f start s → inRow f (start + 1) end s ≡ inRow f start end s
     unfolding onward
-    first-passed e = ap (λ (r : Ended S). onward (row f (start + 1) end) (r .left) (r .call)) e ∙ stepped
+    first-passed e = ap (λ (r : Ended S). onward (inRow f (start + 1) end) (r .left) (r .call)) e ∙ stepped
 
 -- ---- points shifted
 length-moved : (l : List ℤ) (at : ℕ) (by : ℤ) (moves : Bool) → length (movedAt l at by moves) ≡ length l
@@ -155,7 +155,7 @@ length-moved l at by true = simp length-set
 length-moved l at by false = refl
 
 length-run : (by : ℤ) (moves : Bool) (n at : ℕ) (l : List ℤ) → length (movedFrom moves by n at l) ≡ length l
-unfolding runOf
+unfolding atEach
 length-run by moves zero at l = refl
 length-run by moves (suc n) at l = length-run by moves n (suc at) (movedAt l at by moves) ∙ length-moved l at by moves
 
@@ -174,29 +174,29 @@ module _ (m : Move) where
 
   -- ---- a row
   all-there : (n at : ℕ) (p : Points) → at + n ≤ length (p .xs) → ended Done (shiftedFrom m n at p) ≡ each (shiftAt m) n (pointsFrom at n) p
-  unfolding each onward runOf
+  unfolding each onward atEach
   all-there zero at p h = refl
   all-there (suc n) at p h =
       all-there n (suc at) (moved at p) (omega (arith, length-moved (p .xs) at (m .dx) (m .«moves_x»)))
       ∙ ap (λ (e : Ended Points). onward (each (shiftAt m) n (pointsFrom (suc at) n)) (e .left) (e .call)) (there-is at p (omega arith))
 
   module _ (start end : ℕ) (p : Points) where
-    pub no-points : end ≤ start → ended Done p ≡ row (shiftAt m) start end p
+    pub no-points : end ≤ start → ended Done p ≡ inRow (shiftAt m) start end p
     no-points h = none-left (shiftAt m) (end - start) start p (omega arith)
 
     module _ (h : start < end) where
-      pub there-all : end ≤ length (p .xs) → ended Done (shiftedRun m start end p) ≡ row (shiftAt m) start end p
+      pub there-all : end ≤ length (p .xs) → ended Done (shiftedRun m start end p) ≡ inRow (shiftAt m) start end p
       there-all g = all-there (end - start) start p (omega arith)
 
-      pub out-at-once : length (p .xs) ≤ start → ended (Refused (Point start)) p ≡ row (shiftAt m) start end p
+      pub out-at-once : length (p .xs) ≤ start → ended (Refused (Point start)) p ≡ inRow (shiftAt m) start end p
       out-at-once g = first-refused (shiftAt m) start end p h (out-is start p g)
 
-    pub out-later : start < length (p .xs) → length (p .xs) < end → ended (Refused (Point (length (p .xs)))) (shiftedRun m start (length (p .xs)) p) ≡ row (shiftAt m) start end p
+    pub out-later : start < length (p .xs) → length (p .xs) < end → ended (Refused (Point (length (p .xs)))) (shiftedRun m start (length (p .xs)) p) ≡ inRow (shiftAt m) start end p
     unfolding onward
     out-later g h =
         let size = length (p .xs) in let q = shiftedRun m start size p in
         first-refused (shiftAt m) size end q h (out-is size q (omega (arith, length-run (m .dx) (m .«moves_x») (size - start) start (p .xs))))
-        ∙ ap (λ (r : Ended Points). onward (row (shiftAt m) size end) (r .left) (r .call)) (all-there (size - start) start p (omega arith))
+        ∙ ap (λ (r : Ended Points). onward (inRow (shiftAt m) size end) (r .left) (r .call)) (all-there (size - start) start p (omega arith))
         ∙ row-cut (shiftAt m) start size end (omega arith) (omega arith) p
 
 -- ---- all points but one
@@ -223,10 +223,10 @@ module _ (m : Move) (keeps : Bool) (kept : ℕ) where
 
   module _ (busy : isIdle m ≡ false) (start end : ℕ) where
     -- points of which none is kept
-    row-is : ((i : ℕ) → start ≤ i → i < end → (keeps && eqb i kept) ≡ false) → (p : Points) → row (shiftAt m) start end p ≡ row (shiftButAt m keeps kept) start end p
+    row-is : ((i : ℕ) → start ≤ i → i < end → (keeps && eqb i kept) ≡ false) → (p : Points) → inRow (shiftAt m) start end p ≡ inRow (shiftButAt m keeps kept) start end p
     row-is h p = all-same (shiftAt m) (shiftButAt m keeps kept) (end - start) start (λ i s lo hi. shifted-is i s busy (h i lo (omega (arith, lo, hi)))) p
 
-    pub none-kept : (p : Points) → (keeps && leb start kept && ltb kept end) ≡ false → row (shiftAt m) start end p ≡ shiftSpan m keeps kept start end p
+    pub none-kept : (p : Points) → (keeps && leb start kept && ltb kept end) ≡ false → inRow (shiftAt m) start end p ≡ shiftSpan m keeps kept start end p
     unfolding shiftSpan
     none-kept p e = row-is (λ i lo hi. by i lo hi keeps (eqb i kept) refl e) p
       where
@@ -239,7 +239,7 @@ module _ (m : Move) (keeps : Bool) (kept : ℕ) where
             cc
 
   module _ (busy : isIdle m ≡ false) (start end : ℕ) (p : Points) (t : (keeps && leb start kept && ltb kept end) ≡ true) {call : Call} {left : Points}
-      (before : ended call left ≡ row (shiftAt m) start kept p) where
+      (before : ended call left ≡ inRow (shiftAt m) start kept p) where
     from-start : (keeps && leb start kept) ≡ true
     from-start = and-left (keeps && leb start kept) (ltb kept end) t
 
@@ -256,17 +256,17 @@ module _ (m : Move) (keeps : Bool) (kept : ℕ) where
         by true = ne-eqb i kept h
         by false = refl
 
-    cut-out : onward (row (shiftAt m) (kept + 1) end) left call ≡ shiftSpan m keeps kept start end p
+    cut-out : onward (inRow (shiftAt m) (kept + 1) end) left call ≡ shiftSpan m keeps kept start end p
     unfolding shiftSpan
     cut-out =
-        ap (λ (r : Ended Points). onward (row (shiftAt m) (kept + 1) end) (r .left) (r .call)) (before ∙ row-is busy start kept (λ i lo hi. apart i (λ e. omega (arith, hi, e))) p)
-        ∙ on-same after (row (shiftButAt m keeps kept) start kept p .left) (row (shiftButAt m keeps kept) start kept p .call)
+        ap (λ (r : Ended Points). onward (inRow (shiftAt m) (kept + 1) end) (r .left) (r .call)) (before ∙ row-is busy start kept (λ i lo hi. apart i (λ e. omega (arith, hi, e))) p)
+        ∙ on-same after (inRow (shiftButAt m keeps kept) start kept p .left) (inRow (shiftButAt m keeps kept) start kept p .call)
         ∙ row-cut (shiftButAt m keeps kept) start kept end low (omega (arith, high)) p
       where
         itself : (keeps && eqb kept kept) ≡ true
         itself = ap (λ (b : Bool). b && eqb kept kept) (and-left keeps (leb start kept) from-start) ∙ eq-eqb kept kept refl
 
-        after : (s : Points) → row (shiftAt m) (kept + 1) end s ≡ row (shiftButAt m keeps kept) kept end s
+        after : (s : Points) → inRow (shiftAt m) (kept + 1) end s ≡ inRow (shiftButAt m keeps kept) kept end s
         after s =
             row-is busy (kept + 1) end (λ i lo hi. apart i (λ e. omega (arith, lo, e))) s
             ∙ first-passed (shiftButAt m keeps kept) kept end s high (kept-is kept s itself)
@@ -274,8 +274,8 @@ module _ (m : Move) (keeps : Bool) (kept : ℕ) where
     -- a point before the one that is kept was refused
     pub cut-refused : {why : Refusal} → call ≡ Refused why → ended (Refused why) left ≡ shiftSpan m keeps kept start end p
     unfolding onward
-    cut-refused e = ap (onward (row (shiftAt m) (kept + 1) end) left) (sym e) ∙ cut-out
+    cut-refused e = ap (onward (inRow (shiftAt m) (kept + 1) end) left) (sym e) ∙ cut-out
 
-    pub cut-done : call ≡ Done → {r : Ended Points} → r ≡ row (shiftAt m) (kept + 1) end left → r ≡ shiftSpan m keeps kept start end p
+    pub cut-done : call ≡ Done → {r : Ended Points} → r ≡ inRow (shiftAt m) (kept + 1) end left → r ≡ shiftSpan m keeps kept start end p
     unfolding onward
-    cut-done e q = q ∙ ap (onward (row (shiftAt m) (kept + 1) end) left) (sym e) ∙ cut-out
+    cut-done e q = q ∙ ap (onward (inRow (shiftAt m) (kept + 1) end) left) (sym e) ∙ cut-out

@@ -10,7 +10,7 @@ use Rattle.graphics.specs.State.{isTwilight}
 use Rattle.graphics.specs.declared.ZonePointer.the-variants.{Glyph, Twilight}
 use Rattle.graphics.specs.declared.ZonePointer.{ZonePointer}
 use Rattle.int.specs.Word.{indexOf}
-use Rattle.line_steps.specs.Steps.{displacedIn, doneIn, eachIn, shiftPoint}
+use Rattle.line_steps.specs.Steps.{referenceIn, doneIn, eachIn, shiftPoint}
 use Rattle.moves.specs.Move.{zp2MoveOf}
 use Rattle.moves.specs.declared.Move.{Move}
 use Rattle.line.specs.World.{Fixed, Lined, World}
@@ -31,6 +31,6 @@ shiftBut m keeps kept point w = cond (keeps && eqb (indexOf point) kept) (doneIn
 -- the points from start up to end, which is not one of them; the reference point is kept where it lies in the same zone
 unfoldable pub spanIn : Fixed → ℕ → Bool → ℕ → ℕ → World → Lined
 spanIn f opcode touches start end w =
-    displacedIn f opcode w λ d.
+    referenceIn f opcode w λ d.
     let m = zp2MoveOf (w .state .vectors) (w .state .facts) (d .dx) (d .dy) touches in
     eachIn (shiftBut m (sameZone (d .zone) (w .state .pointers .zp2)) (d .at)) (end - start) (pointsFrom start (end - start)) w

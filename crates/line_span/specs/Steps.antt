@@ -24,23 +24,23 @@ abbrev pub shiftButAt : Move → Bool → ℕ → ℕ → Points → Ended Point
 shiftButAt m keeps kept at p = cond (keeps && eqb at kept) (pass at p) (shiftUnlessIdle m at p)
 
 -- the points from start up to end, which is not one of them
-abbrev pub row : {S : Type 0} → (ℕ → S → Ended S) → ℕ → ℕ → S → Ended S
-row f start end s = each f (end - start) (pointsFrom start (end - start)) s
+abbrev pub inRow : {S : Type 0} → (ℕ → S → Ended S) → ℕ → ℕ → S → Ended S
+inRow f start end s = each f (end - start) (pointsFrom start (end - start)) s
 
 unfoldable pub shiftSpan : Move → Bool → ℕ → ℕ → ℕ → Points → Ended Points
-shiftSpan m keeps kept start end p = row (shiftButAt m keeps kept) start end p
+shiftSpan m keeps kept start end p = inRow (shiftButAt m keeps kept) start end p
 
 -- ---- the same list by list, where the points are all there
 -- a change at each place from `at` on, so many
-unfoldable pub runOf : {A : Type 0} → (List A → ℕ → List A) → ℕ → ℕ → List A → List A
-runOf f zero at l = l
-runOf f (suc n) at l = runOf f n (suc at) (f l at)
+unfoldable pub atEach : {A : Type 0} → (List A → ℕ → List A) → ℕ → ℕ → List A → List A
+atEach f zero at l = l
+atEach f (suc n) at l = atEach f n (suc at) (f l at)
 
 abbrev pub movedFrom : Bool → ℤ → ℕ → ℕ → List ℤ → List ℤ
-movedFrom moves by n at l = runOf (λ (m : List ℤ) (i : ℕ). movedAt m i by moves) n at l
+movedFrom moves by n at l = atEach (λ (m : List ℤ) (i : ℕ). movedAt m i by moves) n at l
 
 abbrev pub touchedFrom : ℕ → ℕ → ℕ → List ℕ → List ℕ
-touchedFrom bits n at flags = runOf (λ (m : List ℕ) (i : ℕ). orAt m i bits) n at flags
+touchedFrom bits n at flags = atEach (λ (m : List ℕ) (i : ℕ). orAt m i bits) n at flags
 
 abbrev pub shiftedFrom : Move → ℕ → ℕ → Points → Points
 shiftedFrom m n at p =

@@ -22,7 +22,7 @@ ghost use lib.ListN.{length};
 ghost use Rattle.line_steps.specs.Loop.{ended, inZone, points, shiftAt, zones};
 ghost use Rattle.moves.specs.Move.{isIdle};
 ghost use Rattle.line_span.specs.Span.{sameZone};
-ghost use Rattle.line_span.specs.Steps.{movedRun, row, shiftSpan, shiftedRun, spanOf, touchedRun};
+ghost use Rattle.line_span.specs.Steps.{movedRun, inRow, shiftSpan, shiftedRun, spanOf, touchedRun};
 
 // ---- in one zone
 // One axis's coordinates from start up to end, each moved by so much.
@@ -77,7 +77,7 @@ fn shift_run(
     flags: &mut [u8],
 ) -> Call
     requires { ⌜ (length (now ys) ≡ length (now xs)) × (length (now flags) ≡ length (now xs)) ⌝ }
-    ensures { λ r. ⌜ ended r (points (now (xs .exit)) (now (ys .exit)) (now (flags .exit))) ≡ row (shiftAt m) start end (points (now (xs .entry)) (now (ys .entry)) (now (flags .entry))) ⌝ }
+    ensures { λ r. ⌜ ended r (points (now (xs .exit)) (now (ys .exit)) (now (flags .exit))) ≡ inRow (shiftAt m) start end (points (now (xs .entry)) (now (ys .entry)) (now (flags .entry))) ⌝ }
 {
     let size = xs.len();
     if end <= start {

@@ -19,7 +19,7 @@ use Rattle.graphics.specs.declared.ZonePointer.{ZonePointer}
 use Rattle.line.specs.Line.{refusedWith}
 use Rattle.line.specs.declared.Stepped.{Stepped}
 use Rattle.moves.specs.Apply.{BothMoved, applyIn}
-use Rattle.moves.specs.Displacement.{displacedIn as Moves·displacedIn, referenceOf}
+use Rattle.moves.specs.Displacement.{displacedIn, referenceOf}
 use Rattle.moves.specs.Move.{moveOf}
 use Rattle.moves.specs.declared.Displaced.the-variants.{By}
 use Rattle.moves.specs.declared.Displaced.the-variants.{Refused as RefusedDisplacement}
@@ -33,7 +33,7 @@ use Rattle.line.specs.World.{Fixed, Lined, World, world}
 use Rattle.zone.specs.declared.Fetched.the-variants.{At}
 use Rattle.zone.specs.declared.Fetched.the-variants.{Refused as RefusedPlace}
 use Rattle.zone.specs.declared.Fetched.{Fetched}
-use Rattle.line_steps.specs.Steps.{afterMove, byDisplaced, byFetched, controlAt, displacedIn, displacement, doneIn, first, five, laidIn, madeIn, moveIn, one, passedOver, pointOr, refusedIn, two}
+use Rattle.line_steps.specs.Steps.{afterMove, byDisplaced, byFetched, controlAt, referenceIn, referenceMoved, doneIn, first, five, laidIn, madeIn, moveIn, one, passedOver, pointOr, refusedIn, two}
 
 -- ---- operands
 module _ (w : World) {r : Lined} where
@@ -135,20 +135,20 @@ module _ (w : World) {r : Lined} where
 
   -- ---- the reference point
   pub reference-out : (f : Fixed) (opcode : ℕ) (rest : Displacement → Lined) {d : Displaced} {why : Refusal}
-      → d ≡ displacement f opcode w → d ≡ RefusedDisplacement why → r ≡ refusedIn w why → r ≡ displacedIn f opcode w rest
-  unfolding displacedIn
+      → d ≡ referenceMoved f opcode w → d ≡ RefusedDisplacement why → r ≡ refusedIn w why → r ≡ referenceIn f opcode w rest
+  unfolding referenceIn
   reference-out f opcode rest e h q = q ∙ ap (byDisplaced w rest) (sym h ∙ e)
 
   pub reference-there : (f : Fixed) (opcode : ℕ) (rest : Displacement → Lined) {d : Displaced} {by : Displacement}
-      → d ≡ displacement f opcode w → d ≡ By by → r ≡ rest by → r ≡ displacedIn f opcode w rest
-  unfolding displacedIn
+      → d ≡ referenceMoved f opcode w → d ≡ By by → r ≡ rest by → r ≡ referenceIn f opcode w rest
+  unfolding referenceIn
   reference-there f opcode rest e h q = q ∙ ap (byDisplaced w rest) (sym h ∙ e)
 
 -- how far it was moved, by whatever reads it
 pub reference-is : (w : World) (f : Fixed) (opcode : ℕ) {p : Reference} {d : Displaced} → p ≡ referenceOf (w .state) opcode
-    → d ≡ Moves·displacedIn (w .state .vectors) p (f .gox) (f .goy) (w .gx) (w .gy) (w .tox) (w .toy) (w .tx) (w .ty) (p .zone) → d ≡ displacement f opcode w
+    → d ≡ displacedIn (w .state .vectors) p (f .gox) (f .goy) (w .gx) (w .gy) (w .tox) (w .toy) (w .tx) (w .ty) (p .zone) → d ≡ referenceMoved f opcode w
 reference-is w f opcode e q =
-    q ∙ ap (λ (p : Reference). Moves·displacedIn (w .state .vectors) p (f .gox) (f .goy) (w .gx) (w .gy) (w .tox) (w .toy) (w .tx) (w .ty) (p .zone)) e
+    q ∙ ap (λ (p : Reference). displacedIn (w .state .vectors) p (f .gox) (f .goy) (w .gx) (w .gy) (w .tox) (w .toy) (w .tx) (w .ty) (p .zone)) e
 
 -- ---- a twilight point made
 pub made-twilight : (w : World) (at : ℕ) {zone : ZonePointer} {place made : Vector} {tox toy tx ty : List ℤ} → place ≡ made

@@ -19,7 +19,7 @@ use Rattle.graphics.specs.declared.ZonePointer.{ZonePointer}
 use Rattle.int.specs.Word.{indexOf}
 use Rattle.line.specs.declared.Stepped.{Stepped}
 use Rattle.moves.specs.Apply.{BothMoved, applyIn}
-use Rattle.moves.specs.Displacement.{displacedIn as Moves·displacedIn, referenceOf}
+use Rattle.moves.specs.Displacement.{displacedIn, referenceOf}
 use Rattle.moves.specs.Move.{isIdle, moveOf}
 use Rattle.moves.specs.declared.Displaced.the-variants.{By}
 use Rattle.moves.specs.declared.Displaced.the-variants.{Refused as RefusedDisplacement}
@@ -142,13 +142,13 @@ byDisplaced w rest (By d) = rest d
 byDisplaced w rest (RefusedDisplacement why) = refusedIn w why
 
 -- how far it was moved: an odd opcode's is rp1 in zp0, an even one's rp2 in zp1
-abbrev pub displacement : Fixed → ℕ → World → Displaced
-displacement f opcode w =
+abbrev pub referenceMoved : Fixed → ℕ → World → Displaced
+referenceMoved f opcode w =
     let p = referenceOf (w .state) opcode in
-    Moves·displacedIn (w .state .vectors) p (f .gox) (f .goy) (w .gx) (w .gy) (w .tox) (w .toy) (w .tx) (w .ty) (p .zone)
+    displacedIn (w .state .vectors) p (f .gox) (f .goy) (w .gx) (w .gy) (w .tox) (w .toy) (w .tx) (w .ty) (p .zone)
 
-unfoldable pub displacedIn : Fixed → ℕ → World → (Displacement → Lined) → Lined
-displacedIn f opcode w rest = byDisplaced w rest (displacement f opcode w)
+unfoldable pub referenceIn : Fixed → ℕ → World → (Displacement → Lined) → Lined
+referenceIn f opcode w rest = byDisplaced w rest (referenceMoved f opcode w)
 
 -- ---- loops
 -- as many steps as the counter says, each on the next operand; the steps before a refusal stay done

@@ -13,7 +13,7 @@ use Rattle.graphics.specs.declared.Facts.{Facts}
 use Rattle.graphics.specs.declared.Vectors.{Vectors}
 use Rattle.int.specs.Word.{add32}
 use Rattle.moves.specs.Apply.{Shifted, shiftOf, Moved, applyOf}
-use Rattle.moves.specs.Move.{isNot0, stepOf, isExempt, moveOf, zp2MoveOf, movedAt}
+use Rattle.moves.specs.Move.{isNot0, stepAlong, isExempt, moveOf, zp2MoveOf, movedAt}
 use Rattle.moves.specs.declared.Move.{Move}
 use Rattle.flags.proofs.Bits.{or-keeps}
 use Rattle.flags.specs.Flag.{bit}
@@ -71,7 +71,7 @@ module _ (m : Move) (at : ℕ) (xs ys : List ℤ) where
 -- x is never moved under backward compatibility, unless docs/src's exception holds
 pub compatible-x : (v : Vectors) (f : Facts) (d : ℤ) → f .«backward_compatibility» ≡ true → isExempt v ≡ false → moveOf v f d .«moves_x» ≡ false
 unfolding moveOf
-compatible-x v f d b e = rw (b, e) (and-false (stepOf v d .«moves_x»))
+compatible-x v f d b e = rw (b, e) (and-false (stepAlong v d .«moves_x»))
 
 -- SHP's move never moves x under backward compatibility
 pub compatible-zp2 : (v : Vectors) (f : Facts) (dx dy : ℤ) (touches : Bool) → f .«backward_compatibility» ≡ true → zp2MoveOf v f dx dy touches .«moves_x» ≡ false

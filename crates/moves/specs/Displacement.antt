@@ -56,8 +56,8 @@ displacedAt v p ox oy cx cy = displacedFrom v p (fetchOf ox oy (p .at)) (fetchOf
 
 -- in the zone that the reference names
 unfoldable pub displacedIn : Vectors → Reference → List ℤ → List ℤ → List ℤ → List ℤ → List ℤ → List ℤ → List ℤ → List ℤ → ZonePointer → Displaced
-displacedIn v p gox goy gcx gcy tox toy tcx tcy Glyph = displacedAt v p gox goy gcx gcy
-displacedIn v p gox goy gcx gcy tox toy tcx tcy Twilight = displacedAt v p tox toy tcx tcy
+displacedIn v p gox goy gx gy tox toy tx ty Glyph = displacedAt v p gox goy gx gy
+displacedIn v p gox goy gx gy tox toy tx ty Twilight = displacedAt v p tox toy tx ty
 
 -- what the direct call says
 abbrev pub saidOfDisplaced : Displaced → Said

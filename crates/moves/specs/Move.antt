@@ -43,13 +43,13 @@ stepBy f fdotp d Both = record {
   touch = bitsFor (isNot0 (f .x)) (isNot0 (f .y));
 }
 
-abbrev pub stepOf : Vectors → ℤ → Move
-stepOf v d = stepBy (v .freedom) (fdotpOf v) d (freedomAxisOf v)
+abbrev pub stepAlong : Vectors → ℤ → Move
+stepAlong v d = stepBy (v .freedom) (fdotpOf v) d (freedomAxisOf v)
 
 -- ---- what holds it back
 -- the same step, not made on x or on y; the displacement and the touch bits stay
-abbrev pub held : Move → Bool → Bool → Move
-held m x y = record { «moves_x» = m .«moves_x» && not x; dx = m .dx; «moves_y» = m .«moves_y» && not y; dy = m .dy; touch = m .touch }
+abbrev pub heldBack : Move → Bool → Bool → Move
+heldBack m x y = record { «moves_x» = m .«moves_x» && not x; dx = m .dx; «moves_y» = m .«moves_y» && not y; dy = m .dy; touch = m .touch }
 
 abbrev pub isSlanted : CoordAxis → Bool
 isSlanted X = false
@@ -62,19 +62,19 @@ isExempt v = isSlanted (freedomAxisOf v) && eqZ (v .projection .y) (pos 0)
 
 -- move_point: x is held under backward compatibility, y past both IUPs
 unfoldable pub moveOf : Vectors → Facts → ℤ → Move
-moveOf v f d = held (stepOf v d) (f .«backward_compatibility» && not (isExempt v)) (pastBothIups f && not (isExempt v))
+moveOf v f d = heldBack (stepAlong v d) (f .«backward_compatibility» && not (isExempt v)) (pastBothIups f && not (isExempt v))
 
 -- move_original: nothing is held or touched
 abbrev pub untouching : Move → Move
 untouching m = record { «moves_x» = m .«moves_x»; dx = m .dx; «moves_y» = m .«moves_y»; dy = m .dy; touch = 0 }
 
 unfoldable pub originalMoveOf : Vectors → ℤ → Move
-originalMoveOf v d = untouching (stepOf v d)
+originalMoveOf v d = untouching (stepAlong v d)
 
 -- move_zp2_point: each axis that the freedom vector has a part in, by the displacement given; no exception
 unfoldable pub zp2MoveOf : Vectors → Facts → ℤ → ℤ → Bool → Move
 zp2MoveOf v f dx dy touches =
-    held
+    heldBack
     (record {
       «moves_x» = isNot0 (v .freedom .x);
       dx = dx;

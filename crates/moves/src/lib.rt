@@ -23,7 +23,7 @@ use zone::fetch;
 use zone::or_at;
 ghost use mathlib.Core.Path.{_≡_};
 ghost use lib.ListN.{length};
-ghost use Rattle.moves.specs.Move.{bitsFor, stepBy, stepOf, isSlanted, held, moveOf, originalMoveOf, zp2MoveOf, isIdle, movedAt};
+ghost use Rattle.moves.specs.Move.{bitsFor, stepBy, stepAlong, isSlanted, heldBack, moveOf, originalMoveOf, zp2MoveOf, isIdle, movedAt};
 ghost use Rattle.moves.specs.Apply.{shifted, shiftOf, moved, applyOf, shiftIn, bothShifted, applyIn, bothMoved};
 ghost use Rattle.moves.specs.Displacement.{referenceOf, displacementOf, displacedAt, displacedIn, saidOfDisplaced};
 
@@ -88,7 +88,7 @@ fn step_by(freedom: Vector, axis: CoordAxis, fdotp: i32, distance: i32) -> Move
 
 // The step that nothing holds back.
 pub fn step_of(v: Vectors, distance: i32) -> Move
-    ensures { λ r. ⌜ r ≡ stepOf v distance ⌝ }
+    ensures { λ r. ⌜ r ≡ stepAlong v distance ⌝ }
 {
     let freedom = v.freedom;
     let derived = derive(v);
@@ -110,7 +110,7 @@ fn is_slanted(axis: CoordAxis) -> bool
 impl Move {
     // The same move with x or y held fast. What is touched is touched all the same.
     pub fn held(self, x: bool, y: bool) -> Move
-        ensures { λ r. ⌜ r ≡ held self x y ⌝ }
+        ensures { λ r. ⌜ r ≡ heldBack self x y ⌝ }
     {
         Move {
             moves_x: self.moves_x & !x,
@@ -369,19 +369,19 @@ pub fn displaced_in(
     p: Reference,
     gox: &[i32],
     goy: &[i32],
-    gcx: &[i32],
-    gcy: &[i32],
+    gx: &[i32],
+    gy: &[i32],
     tox: &[i32],
     toy: &[i32],
-    tcx: &[i32],
-    tcy: &[i32],
+    tx: &[i32],
+    ty: &[i32],
 ) -> Displaced
-    requires { ⌜ (length (now goy) ≡ length (now gox)) × (length (now gcy) ≡ length (now gcx)) × (length (now toy) ≡ length (now tox)) × (length (now tcy) ≡ length (now tcx)) ⌝ }
-    ensures { λ r. ⌜ r ≡ displacedIn v p (now (gox .entry)) (now (goy .entry)) (now (gcx .entry)) (now (gcy .entry)) (now (tox .entry)) (now (toy .entry)) (now (tcx .entry)) (now (tcy .entry)) (p .zone) ⌝ }
+    requires { ⌜ (length (now goy) ≡ length (now gox)) × (length (now gy) ≡ length (now gx)) × (length (now toy) ≡ length (now tox)) × (length (now ty) ≡ length (now tx)) ⌝ }
+    ensures { λ r. ⌜ r ≡ displacedIn v p (now (gox .entry)) (now (goy .entry)) (now (gx .entry)) (now (gy .entry)) (now (tox .entry)) (now (toy .entry)) (now (tx .entry)) (now (ty .entry)) (p .zone) ⌝ }
 {
     let zone = p.zone;
     match zone {
-        ZonePointer::Glyph => displaced_at(v, p, gox, goy, gcx, gcy),
-        ZonePointer::Twilight => displaced_at(v, p, tox, toy, tcx, tcy),
+        ZonePointer::Glyph => displaced_at(v, p, gox, goy, gx, gy),
+        ZonePointer::Twilight => displaced_at(v, p, tox, toy, tx, ty),
     }
 }

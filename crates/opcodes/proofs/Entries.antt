@@ -11,7 +11,7 @@ use lib.ListN.{getD, length}
 use Rattle.graphics.proofs.Laws.{and-left, and-right}
 use Rattle.int.proofs.Tests.{either}
 use Rattle.opcodes.specs.Steps.{takesBy}
-use Rattle.opcodes.specs.Table.{AsLooped, Exactly, OneAndLooped, Row, Takes, Unknown, entryOf, has, needOf, needsFrom, needsTable, operandsOf, rowIn, rowOf, rows, unknown}
+use Rattle.opcodes.specs.Table.{AsLooped, Exactly, OneAndLooped, Row, Takes, Unknown, tableEntry, has, needOf, needsFrom, needsTable, operandsOf, rowIn, rowOf, rows, unknown}
 
 -- ---- an entry
 entries : (i n : ℕ) → length (needsFrom i n) ≡ n
@@ -50,7 +50,7 @@ plain-in (r ∷ more) t op =
     either (λ (row : Row). plain (row .takes) ≡ true) (has r op) (and-left (plain (r .takes)) (all-plain more) t)
     (plain-in more (and-right (plain (r .takes)) (all-plain more) t) op)
 
-back : (t : Takes) → plain t ≡ true → (entryOf t ≡ unknown → ⊥) → (counter : ℕ) → takesBy (entryOf t) counter ≡ operandsOf t counter
+back : (t : Takes) → plain t ≡ true → (tableEntry t ≡ unknown → ⊥) → (counter : ℕ) → takesBy (tableEntry t) counter ≡ operandsOf t counter
 back (Exactly n) p u counter = let less = ltb-true n 253 p in rw (ne-eqb n 254 (λ e. omega (arith, less, e)), ne-eqb n 253 (λ e. omega (arith, less, e)))
 back AsLooped p u counter = refl
 back OneAndLooped p u counter = refl

@@ -35,11 +35,11 @@ operandsOf Unknown counter = 0
 abbrev pub unknown : ℕ
 unknown = 255
 
-abbrev pub entryOf : Takes → ℕ
-entryOf (Exactly n) = n
-entryOf AsLooped = 254
-entryOf OneAndLooped = 253
-entryOf Unknown = unknown
+abbrev pub tableEntry : Takes → ℕ
+tableEntry (Exactly n) = n
+tableEntry AsLooped = 254
+tableEntry OneAndLooped = 253
+tableEntry Unknown = unknown
 
 -- ---- the rows
 abbrev pub Line : Type 0
@@ -94,7 +94,7 @@ unfoldable pub rowOf : ℕ → Row
 rowOf opcode = rowIn rows opcode
 
 unfoldable pub needOf : ℕ → ℕ
-needOf opcode = entryOf (rowOf opcode .takes)
+needOf opcode = tableEntry (rowOf opcode .takes)
 
 unfoldable pub lineOf : Line
 lineOf f opcode operands w = rowOf opcode .line f opcode operands w

@@ -14,7 +14,7 @@ use Rattle.int.specs.Word.{wrap32, add32, sub32, abs32, mul32, eqZ}
 use Rattle.int.proofs.Ints.{mag-add, mag-mul}
 use Rattle.int.proofs.Wraps.{wrap-id}
 use Rattle.flags.specs.declared.CoordAxis.the-variants.{X, Y}
-use Rattle.graphics.specs.State.{one, xAxis, yAxis, allAlong, inRange, vectorInRange}
+use Rattle.graphics.specs.State.{unit, xAxis, yAxis, allAlong, inRange, vectorInRange}
 use Rattle.graphics.proofs.Laws.{and-left, x-of, y-of}
 use Rattle.graphics.specs.declared.Vector.{Vector}
 use Rattle.projection.specs.declared.Derived.{Derived}
@@ -31,13 +31,13 @@ module _ (v a b : Vector) where
   along-y e = rw e
 
 -- ---- which vectors lie on an axis
-pub axis-x : (v : Vector) → v .x ≡ one → axisOf v ≡ X
+pub axis-x : (v : Vector) → v .x ≡ unit → axisOf v ≡ X
 unfolding axisOf
-axis-x v e = let t : eqZ (v .x) one ≡ true = ap (λ (z : ℤ). eqZ z one) e in rw t
+axis-x v e = let t : eqZ (v .x) unit ≡ true = ap (λ (z : ℤ). eqZ z unit) e in rw t
 
-pub axis-y : (v : Vector) → eqZ (v .x) one ≡ false → v .y ≡ one → axisOf v ≡ Y
+pub axis-y : (v : Vector) → eqZ (v .x) unit ≡ false → v .y ≡ unit → axisOf v ≡ Y
 unfolding axisOf
-axis-y v n e = let t : eqZ (v .y) one ≡ true = ap (λ (z : ℤ). eqZ z one) e in rw (n, t)
+axis-y v n e = let t : eqZ (v .y) unit ≡ true = ap (λ (z : ℤ). eqZ z unit) e in rw (n, t)
 
 pub along-x-axis : (a b : Vector) → alongOf xAxis a b ≡ sub32 (a .x) (b .x)
 along-x-axis a b = along-x xAxis a b (axis-x xAxis refl)
@@ -46,16 +46,16 @@ pub along-y-axis : (a b : Vector) → alongOf yAxis a b ≡ sub32 (a .y) (b .y)
 along-y-axis a b = along-y yAxis a b (axis-y yAxis refl refl)
 
 -- ---- all three vectors on one axis
-pub x-derived : derivedOf (allAlong xAxis) ≡ record { «projection_axis» = X; «dual_axis» = X; «freedom_axis» = X; fdotp = one }
+pub x-derived : derivedOf (allAlong xAxis) ≡ record { «projection_axis» = X; «dual_axis» = X; «freedom_axis» = X; fdotp = unit }
 unfolding axisOf rawFdotp notSmall freedomAxisBy abs32 wrap32
 x-derived = refl
 
-pub y-derived : derivedOf (allAlong yAxis) ≡ record { «projection_axis» = Y; «dual_axis» = Y; «freedom_axis» = Y; fdotp = one }
+pub y-derived : derivedOf (allAlong yAxis) ≡ record { «projection_axis» = Y; «dual_axis» = Y; «freedom_axis» = Y; fdotp = unit }
 unfolding axisOf rawFdotp notSmall freedomAxisBy abs32 wrap32
 y-derived = refl
 
 -- ---- fdotp is divided by
-large-by : (raw : ℤ) (small : Bool) → ltZ (abs32 raw) (pos 0x400) ≡ small → ltZ (abs32 (cond small one raw)) (pos 0x400) ≡ false
+large-by : (raw : ℤ) (small : Bool) → ltZ (abs32 raw) (pos 0x400) ≡ small → ltZ (abs32 (cond small unit raw)) (pos 0x400) ≡ false
 unfolding abs32 wrap32
 large-by raw true e = refl
 large-by raw false e = e

@@ -11,7 +11,7 @@ use Rattle.answer.specs.Answer.{Said, saidBy, saidDone}
 use Rattle.answer.specs.declared.Refusal.the-variants.{State}
 use Rattle.flags.specs.declared.CoordAxis.{CoordAxis}
 use Rattle.flags.specs.declared.CoordAxis.the-variants.{Both, X, Y}
-use Rattle.graphics.specs.State.{one, usableState}
+use Rattle.graphics.specs.State.{unit, usableState}
 use Rattle.graphics.specs.declared.Vector.{Vector}
 use Rattle.graphics.specs.declared.Vectors.{Vectors}
 use Rattle.graphics.specs.declared.GraphicsState.{GraphicsState}
@@ -25,22 +25,22 @@ use Rattle.projection.specs.declared.Deduced.the-variants.{Refused as Re
 -- ---- Compute_Funcs
 -- the axis that a vector lies on; x first
 unfoldable pub axisOf : Vector → CoordAxis
-axisOf v = cond (eqZ (v .x) one) X (cond (eqZ (v .y) one) Y Both)
+axisOf v = cond (eqZ (v .x) unit) X (cond (eqZ (v .y) unit) Y Both)
 
 -- fdotp of the projection vector p and the freedom vector f as it comes, rounded down
 unfoldable pub rawFdotp : Vector → Vector → ℤ
 rawFdotp p f =
-    cond (eqZ (f .x) one) (p .x)
-    (cond (eqZ (f .y) one) (p .y)
+    cond (eqZ (f .x) unit) (p .x)
+    (cond (eqZ (f .y) unit) (p .y)
     (shrZ (add32 (mul32 (p .x) (f .x)) (mul32 (p .y) (f .y))) (2 ^ 14)))
 
 -- 1 in place of an fdotp that is too small to divide by
 unfoldable pub notSmall : ℤ → ℤ
-notSmall raw = cond (ltZ (abs32 raw) (pos 0x400)) one raw
+notSmall raw = cond (ltZ (abs32 raw) (pos 0x400)) unit raw
 
 -- the axis that points move along, by fdotp as it comes
 unfoldable pub freedomAxisBy : Vector → ℤ → CoordAxis
-freedomAxisBy f raw = cond (eqZ raw one) (axisOf f) Both
+freedomAxisBy f raw = cond (eqZ raw unit) (axisOf f) Both
 
 abbrev pub fdotpOf : Vectors → ℤ
 fdotpOf v = notSmall (rawFdotp (v .projection) (v .freedom))

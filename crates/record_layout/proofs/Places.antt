@@ -7,7 +7,7 @@ use native.Mathlib.Omega.{arith}
 use borrow.Author.Tests.{leb-false, leb-true}
 use lib.Dec.{leb}
 use lib.ListN.{List·getD-eq-default}
-use Rattle.record_layout.specs.Order.{countOf, counts, placeOf}
+use Rattle.record_layout.specs.Order.{countOf, counts, listPlace}
 use Rattle.record_layout.specs.Steps.{capped}
 use Rattle.record_layout.specs.declared.Layout.{Layout}
 
@@ -47,27 +47,27 @@ module _ (l : Layout) where
   no-count k h = sym (List·getD-eq-default (counts l) 0 {n = k} h)
 
   -- ---- behind the last list
-  behind : (j : ℕ) → placeOf l (15 + j) ≡ placeOf l 15
+  behind : (j : ℕ) → listPlace l (15 + j) ≡ listPlace l 15
   behind zero = refl
   behind (suc j) =
       let e : 15 + suc j ≡ suc (15 + j) = omega arith in
       let none : 0 ≡ countOf l (15 + j) = no-count (15 + j) (omega arith) in
-      ap (placeOf l) e ∙ omega (arith, none, behind j)
+      ap (listPlace l) e ∙ omega (arith, none, behind j)
 
-  by-test : (k : ℕ) (b : Bool) → leb 15 k ≡ b → placeOf l (cond b 15 k) ≡ placeOf l k
+  by-test : (k : ℕ) (b : Bool) → leb 15 k ≡ b → listPlace l (cond b 15 k) ≡ listPlace l k
   by-test k true e =
       let h = leb-true 15 k e in
       let g : 15 + (k - 15) ≡ k = omega (arith, h) in
-      sym (behind (k - 15)) ∙ ap (placeOf l) g
+      sym (behind (k - 15)) ∙ ap (listPlace l) g
   by-test k false e = refl
 
-  capped-place : (k : ℕ) → placeOf l (capped k) ≡ placeOf l k
+  capped-place : (k : ℕ) → listPlace l (capped k) ≡ listPlace l k
   capped-place k = by-test k (leb 15 k) refl
 
 -- ---- a sum of the counts
 -- what is summed up to list i
 pub record Summed (l : Layout) (end at i : ℕ) : Type 0 where
-  pub place-is : at ≡ placeOf l i
+  pub place-is : at ≡ listPlace l i
   pub small : at < (i + 1) * 2 ^ 32
   pub within : i ≤ end
 
@@ -83,12 +83,12 @@ few-lists k = few k (leb 15 k) refl where
 pub next-place : {l : Layout} {end at i n : ℕ} → Summed l end at i → i < end → n ≡ countOf l i → n < 2 ^ 32 → Summed l end (at + n) (i + 1)
 next-place {l} {end} {at} {i} {n} s h e f =
     record {
-      place-is = ap₂ (λ (a b : ℕ). a + b) (s .place-is) e ∙ ap (placeOf l) (sym (add-one i));
+      place-is = ap₂ (λ (a b : ℕ). a + b) (s .place-is) e ∙ ap (listPlace l) (sym (add-one i));
       small = omega (arith, s .small);
       within = omega arith;
     }
 
-pub last-place : {l : Layout} {end at i : ℕ} (k : ℕ) → Summed l end at i → end ≤ i → end ≡ capped k → at ≡ placeOf l k
+pub last-place : {l : Layout} {end at i : ℕ} (k : ℕ) → Summed l end at i → end ≤ i → end ≡ capped k → at ≡ listPlace l k
 last-place {l} {end} {at} {i} k s h e =
     let g : i ≡ end = omega (arith, s .within) in
-    s .place-is ∙ ap (placeOf l) (g ∙ e) ∙ capped-place l k
+    s .place-is ∙ ap (listPlace l) (g ∙ e) ∙ capped-place l k

@@ -29,17 +29,17 @@ abbrev pub countOf : Layout → ℕ → ℕ
 countOf l k = getD (counts l) k 0
 
 -- the first word of list k: "First the state", then the lists before it
-abbrev pub placeOf : Layout → ℕ → ℕ
-placeOf l zero = l .state
-placeOf l (suc k) = placeOf l k + countOf l k
+abbrev pub listPlace : Layout → ℕ → ℕ
+listPlace l zero = l .state
+listPlace l (suc k) = listPlace l k + countOf l k
 
 -- the words of list k in the bytes of a record
 abbrev pub listIn : List ℕ → Layout → ℕ → List ℕ
-listIn bytes l k = part bytes (placeOf l k) (countOf l k)
+listIn bytes l k = part bytes (listPlace l k) (countOf l k)
 
 -- "Last a trailer of eight words", behind the fifteen lists
 abbrev pub atTrailer : Layout → ℕ
-atTrailer l = placeOf l 15
+atTrailer l = listPlace l 15
 
 -- the bytes of a record
 abbrev pub recordSize : Layout → ℕ

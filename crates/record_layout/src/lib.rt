@@ -3,7 +3,7 @@
 // A record is little-endian words: the state, fifteen lists, and a trailer of eight words. The places follow from the counts; edition, limits and order
 // stand here once, as constants and as definitions of specs/Order.antt, and nothing that reads or writes a record names a place itself.
 ghost use mathlib.Core.Path.{_≡_};
-ghost use Rattle.record_layout.specs.Order.{countOf, placeOf, atTrailer, recordSize};
+ghost use Rattle.record_layout.specs.Order.{countOf, listPlace, atTrailer, recordSize};
 ghost use Rattle.record_layout.specs.Steps.{capped};
 
 pub const EDITION: u32 = 1;
@@ -95,7 +95,7 @@ fn lists_before(k: usize) -> usize
 
 // The first word of list k: it stands behind the state and the lists before it.
 pub fn place(l: Layout, k: usize) -> usize
-    ensures { λ r. ⌜ r ≡ placeOf l k ⌝ }
+    ensures { λ r. ⌜ r ≡ listPlace l k ⌝ }
 {
     let end = lists_before(k);
     let mut at = wide(l.state);

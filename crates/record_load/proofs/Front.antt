@@ -5,7 +5,7 @@ use Prim.Native.Nat.{_≤_, ℕ}
 use native.Mathlib.Omega.{arith}
 use lib.ListN.{drop, length, take}
 use lib.Seq.{length-take-le}
-use Rattle.record_layout.specs.Order.{countOf, listIn, placeOf}
+use Rattle.record_layout.specs.Order.{countOf, listIn, listPlace}
 use Rattle.record_layout.specs.declared.Layout.{Layout}
 use Rattle.words.specs.Lists.{part}
 
@@ -15,7 +15,7 @@ lent l k list {c} {n} ec en h = sym (length-take-le n list (omega (arith, ec, en
 
 -- what was loaded, and what stands behind it
 pub loaded :
-    {A : Type 0} (bytes : List ℕ) (l : Layout) (k : ℕ) (read : List ℕ → List A) (list : List A) {c n at : ℕ} {front : List A} → c ≡ countOf l k → n ≡ c → at ≡ placeOf l k →
+    {A : Type 0} (bytes : List ℕ) (l : Layout) (k : ℕ) (read : List ℕ → List A) (list : List A) {c n at : ℕ} {front : List A} → c ≡ countOf l k → n ≡ c → at ≡ listPlace l k →
     countOf l k ≤ length list → front ≡ read (part bytes at (length (take n list))) → front ++ drop n list ≡ read (listIn bytes l k) ++ drop (countOf l k) list
 loaded bytes l k read list {c} {n} {at} ec en ea h e =
     let m : n ≡ countOf l k = en ∙ ec in

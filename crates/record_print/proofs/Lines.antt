@@ -9,41 +9,41 @@ use lib.Seq.{length-sets, sets}
 use Rattle.int.specs.Word.{ofBits}
 use Rattle.words.proofs.Parts.{left, left-all, left-next, left-none}
 use Rattle.words.specs.Lists.{flagOf, flagsOf, numbersOf, word}
-use Rattle.record_layout.specs.Order.{placeOf}
+use Rattle.record_layout.specs.Order.{listPlace}
 use Rattle.record_layout.specs.declared.Layout.{Layout}
 use Rattle.record_run.specs.declared.Replayed.{Replayed}
 use Rattle.record_print.specs.Print.{answerLine, glyphLines, pointLine, pointLines}
-use Rattle.record_print.specs.Steps.{Put, ended}
+use Rattle.record_print.specs.Steps.{Put, endedBy}
 use Rattle.record_print.specs.Text.{decimal, line, signedDecimal}
 use Rattle.record_print.proofs.Puts.{sets-join}
 
 -- ---- a line in pieces
-pub three-pieces : (a b c : List ℕ) → ended a 32 ++ (ended b 32 ++ ended c 10) ≡ line (a ∷ b ∷ c ∷ [])
-three-pieces a b c = append-assoc a (32 ∷ []) (ended b 32 ++ ended c 10) ∙ ap (λ (l : List ℕ). a ++ (32 ∷ l)) (append-assoc b (32 ∷ []) (ended c 10))
+pub three-pieces : (a b c : List ℕ) → endedBy a 32 ++ (endedBy b 32 ++ endedBy c 10) ≡ line (a ∷ b ∷ c ∷ [])
+three-pieces a b c = append-assoc a (32 ∷ []) (endedBy b 32 ++ endedBy c 10) ∙ ap (λ (l : List ℕ). a ++ (32 ∷ l)) (append-assoc b (32 ∷ []) (endedBy c 10))
 
-pub four-pieces : (a b c d : List ℕ) → ended a 32 ++ (ended b 32 ++ (ended c 32 ++ ended d 10)) ≡ line (a ∷ b ∷ c ∷ d ∷ [])
-four-pieces a b c d = append-assoc a (32 ∷ []) (ended b 32 ++ (ended c 32 ++ ended d 10)) ∙ ap (λ (l : List ℕ). a ++ (32 ∷ l)) (three-pieces b c d)
+pub four-pieces : (a b c d : List ℕ) → endedBy a 32 ++ (endedBy b 32 ++ (endedBy c 32 ++ endedBy d 10)) ≡ line (a ∷ b ∷ c ∷ d ∷ [])
+four-pieces a b c d = append-assoc a (32 ∷ []) (endedBy b 32 ++ (endedBy c 32 ++ endedBy d 10)) ∙ ap (λ (l : List ℕ). a ++ (32 ∷ l)) (three-pieces b c d)
 
-pub three-long : (a b c : List ℕ) → length (line (a ∷ b ∷ c ∷ [])) ≡ length (ended a 32) + (length (ended b 32) + length (ended c 10))
+pub three-long : (a b c : List ℕ) → length (line (a ∷ b ∷ c ∷ [])) ≡ length (endedBy a 32) + (length (endedBy b 32) + length (endedBy c 10))
 three-long a b c =
     ap length (sym (three-pieces a b c))
-    ∙ length-append (ended a 32) (ended b 32 ++ ended c 10)
-    ∙ ap (λ (n : ℕ). length (ended a 32) + n) (length-append (ended b 32) (ended c 10))
+    ∙ length-append (endedBy a 32) (endedBy b 32 ++ endedBy c 10)
+    ∙ ap (λ (n : ℕ). length (endedBy a 32) + n) (length-append (endedBy b 32) (endedBy c 10))
 
-pub four-long : (a b c d : List ℕ) → length (line (a ∷ b ∷ c ∷ d ∷ [])) ≡ length (ended a 32) + (length (ended b 32) + (length (ended c 32) + length (ended d 10)))
+pub four-long : (a b c d : List ℕ) → length (line (a ∷ b ∷ c ∷ d ∷ [])) ≡ length (endedBy a 32) + (length (endedBy b 32) + (length (endedBy c 32) + length (endedBy d 10)))
 four-long a b c d =
     ap length (sym (four-pieces a b c d))
-    ∙ length-append (ended a 32) (ended b 32 ++ (ended c 32 ++ ended d 10))
-    ∙ ap (λ (n : ℕ). length (ended a 32) + n)
-    (length-append (ended b 32) (ended c 32 ++ ended d 10) ∙ ap (λ (n : ℕ). length (ended b 32) + n) (length-append (ended c 32) (ended d 10)))
+    ∙ length-append (endedBy a 32) (endedBy b 32 ++ (endedBy c 32 ++ endedBy d 10))
+    ∙ ap (λ (n : ℕ). length (endedBy a 32) + n)
+    (length-append (endedBy b 32) (endedBy c 32 ++ endedBy d 10) ∙ ap (λ (n : ℕ). length (endedBy b 32) + n) (length-append (endedBy c 32) (endedBy d 10)))
 
 -- ---- points, from the i-th on
 abbrev pub nextLine : List ℕ → Layout → ℕ → List ℕ
-nextLine out l i = pointLine (ofBits (word out (placeOf l 4 + i))) (ofBits (word out (placeOf l 5 + i))) (flagOf (word out (placeOf l 6 + i)))
+nextLine out l i = pointLine (ofBits (word out (listPlace l 4 + i))) (ofBits (word out (listPlace l 5 + i))) (flagOf (word out (listPlace l 6 + i)))
 
 unfoldable pub linesLeft : List ℕ → Layout → ℕ → List ℕ
 linesLeft out l i =
-    pointLines (numbersOf (left out (placeOf l 4) (l .points) i)) (numbersOf (left out (placeOf l 5) (l .points) i)) (flagsOf (left out (placeOf l 6) (l .points) i))
+    pointLines (numbersOf (left out (listPlace l 4) (l .points) i)) (numbersOf (left out (listPlace l 5) (l .points) i)) (flagsOf (left out (listPlace l 6) (l .points) i))
 
 module _ (out : List ℕ) (l : Layout) where
   abbrev lines : List ℕ → List ℕ → List ℕ → List ℕ
@@ -54,15 +54,15 @@ module _ (out : List ℕ) (l : Layout) where
 
   pub all-left : glyphLines out l ≡ linesLeft out l 0
   unfolding linesLeft
-  all-left = same-lines (left-all out (placeOf l 4) (l .points)) (left-all out (placeOf l 5) (l .points)) (left-all out (placeOf l 6) (l .points))
+  all-left = same-lines (left-all out (listPlace l 4) (l .points)) (left-all out (listPlace l 5) (l .points)) (left-all out (listPlace l 6) (l .points))
 
   pub next-left : (i : ℕ) → i < l .points → linesLeft out l i ≡ nextLine out l i ++ linesLeft out l (i + 1)
   unfolding linesLeft
-  next-left i h = same-lines (left-next out (placeOf l 4) (l .points) i h) (left-next out (placeOf l 5) (l .points) i h) (left-next out (placeOf l 6) (l .points) i h)
+  next-left i h = same-lines (left-next out (listPlace l 4) (l .points) i h) (left-next out (listPlace l 5) (l .points) i h) (left-next out (listPlace l 6) (l .points) i h)
 
   pub none-left : (i : ℕ) → l .points ≤ i → linesLeft out l i ≡ []
   unfolding linesLeft
-  none-left i h = same-lines (left-none out (placeOf l 4) (l .points) i h) (left-none out (placeOf l 5) (l .points) i h) (left-none out (placeOf l 6) (l .points) i h)
+  none-left i h = same-lines (left-none out (listPlace l 4) (l .points) i h) (left-none out (listPlace l 5) (l .points) i h) (left-none out (listPlace l 6) (l .points) i h)
 
 -- ---- pieces put so far, and what is left of the text
 pub record Printing (all rest : List ℕ) (start at : ℕ) (l₀ l : List ℕ) : Type 0 where

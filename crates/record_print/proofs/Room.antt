@@ -12,7 +12,7 @@ use lib.Seq.{length-sets, length-take-le, sets-eq}
 use mir.Val.{sel}
 use Rattle.int.specs.Word.{ofBits}
 use Rattle.words.specs.Lists.{flagOf, flagsOf, numbersOf, part, word}
-use Rattle.record_layout.specs.Order.{placeOf}
+use Rattle.record_layout.specs.Order.{listPlace}
 use Rattle.record_layout.specs.declared.Layout.{Layout}
 use Rattle.record_read.proofs.Whole.{edition-state, layout-is, layout-kept, sound}
 use Rattle.record_read.specs.Read.{layoutOf, openOf, readAs}
@@ -22,14 +22,14 @@ use Rattle.record_run.specs.After.{Shelved, shelved}
 use Rattle.record_run.specs.declared.Replayed.{Replayed}
 use Rattle.record_replay.specs.Shelf.{onRead, shelfOf}
 use Rattle.record_print.specs.Print.{Front, answerLine, blank, glyphLines, pointLine, pointLines, printOf, textOf}
-use Rattle.record_print.specs.Steps.{Put, ended}
+use Rattle.record_print.specs.Steps.{Put, endedBy}
 use Rattle.record_print.specs.Text.{decimal, signedDecimal}
 use Rattle.record_print.proofs.Decimal.{digits-most}
 use Rattle.record_print.proofs.Lines.{four-long, three-long}
 use Rattle.record_print.proofs.Puts.{put-join}
 
 -- ---- a number
-one-more : (t : List ℕ) (e : ℕ) → length (ended t e) ≡ length t + 1
+one-more : (t : List ℕ) (e : ℕ) → length (endedBy t e) ≡ length t + 1
 one-more t e = length-append t (e ∷ [])
 
 signed-most : (w : ℕ) → length (signedDecimal (ofBits w)) ≤ 11
@@ -75,7 +75,7 @@ lines-most out a b c (suc n) =
     omega (arith, length-append first rest, point-most (word out a) (word out b) (word out c), lines-most out (suc a) (suc b) (suc c) n)
 
 pub glyph-most : (out : List ℕ) (l : Layout) → length (glyphLines out l) ≤ 28 * l .points
-glyph-most out l = lines-most out (placeOf l 4) (placeOf l 5) (placeOf l 6) (l .points)
+glyph-most out l = lines-most out (listPlace l 4) (listPlace l 5) (listPlace l 6) (l .points)
 
 -- a point takes seven words of a record, which has 6,110 for its lists
 pub few-points : (bytes out : List ℕ) → shelfOf bytes out .said .layout .points ≤ 872

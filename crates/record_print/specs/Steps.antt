@@ -7,8 +7,8 @@ use lib.ListN.{length}
 use lib.Seq.{sets}
 
 -- a number's text and the byte behind it
-abbrev pub ended : List ℕ → ℕ → List ℕ
-ended t end = t ++ (end ∷ [])
+abbrev pub endedBy : List ℕ → ℕ → List ℕ
+endedBy t end = t ++ (end ∷ [])
 
 -- `piece` stands at `at`, and `next` is the place behind it
 pub record Put (piece : List ℕ) (at next : ℕ) (before after : List ℕ) : Type 0 where

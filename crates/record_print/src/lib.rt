@@ -21,10 +21,10 @@ ghost use mathlib.Core.List.{_++_};
 ghost use lib.ListN.{length, drop};
 ghost use Rattle.words.specs.Lists.{word, flagOf};
 ghost use Rattle.int.specs.Word.{ofBits};
-ghost use Rattle.record_layout.specs.Order.{placeOf};
+ghost use Rattle.record_layout.specs.Order.{listPlace};
 ghost use Rattle.record_print.specs.Print.{answerLine, pointLine, glyphLines, printOf, Front};
 ghost use Rattle.record_print.specs.Text.{lastDigit, decimal, signedDecimal};
-ghost use Rattle.record_print.specs.Steps.{ended, Put};
+ghost use Rattle.record_print.specs.Steps.{endedBy, Put};
 
 // No text is longer: 872 points, each a line of 28 bytes at most, and the answer's line of 74.
 pub const TEXT_ROOM: usize = 24576;
@@ -67,8 +67,8 @@ fn put_digits(n: u64, text: &mut [u8], at: usize) -> usize
 }
 
 fn put_number(n: u64, end: u8, text: &mut [u8], at: usize) -> usize
-    requires { ⌜ at + length (ended (decimal n) end) ≤ length (now text) ⌝ }
-    ensures { λ r. ⌜ Put (ended (decimal n) end) at r (now (text .entry)) (now (text .exit)) ⌝ }
+    requires { ⌜ at + length (endedBy (decimal n) end) ≤ length (now text) ⌝ }
+    ensures { λ r. ⌜ Put (endedBy (decimal n) end) at r (now (text .entry)) (now (text .exit)) ⌝ }
 {
     let next = put_digits(n, text, at);
     text[next] = end;
@@ -76,8 +76,8 @@ fn put_number(n: u64, end: u8, text: &mut [u8], at: usize) -> usize
 }
 
 fn put_signed(x: i32, end: u8, text: &mut [u8], at: usize) -> usize
-    requires { ⌜ at + length (ended (signedDecimal x) end) ≤ length (now text) ⌝ }
-    ensures { λ r. ⌜ Put (ended (signedDecimal x) end) at r (now (text .entry)) (now (text .exit)) ⌝ }
+    requires { ⌜ at + length (endedBy (signedDecimal x) end) ≤ length (now text) ⌝ }
+    ensures { λ r. ⌜ Put (endedBy (signedDecimal x) end) at r (now (text .entry)) (now (text .exit)) ⌝ }
 {
     if non_negative(x) {
         put_number(magnitude(x), end, text, at)
@@ -100,14 +100,14 @@ fn put_answer(r: Replayed, text: &mut [u8]) -> usize
 
 // The flag of a point, the low byte of its word.
 fn flag_at(out: &[u8], l: Layout, i: usize) -> u64
-    ensures { λ r. ⌜ r ≡ flagOf (word (now (out .entry)) (placeOf l 6 + i)) ⌝ }
+    ensures { λ r. ⌜ r ≡ flagOf (word (now (out .entry)) (listPlace l 6 + i)) ⌝ }
 {
     (word(out, place(l, FLAGS), i) % 256) as u64
 }
 
 fn put_point(out: &[u8], l: Layout, i: usize, text: &mut [u8], at: usize) -> usize
-    requires { ⌜ at + length (pointLine (ofBits (word (now out) (placeOf l 4 + i))) (ofBits (word (now out) (placeOf l 5 + i))) (flagOf (word (now out) (placeOf l 6 + i)))) ≤ length (now text) ⌝ }
-    ensures { λ r. ⌜ Put (pointLine (ofBits (word (now (out .entry)) (placeOf l 4 + i))) (ofBits (word (now (out .entry)) (placeOf l 5 + i))) (flagOf (word (now (out .entry)) (placeOf l 6 + i)))) at r (now (text .entry)) (now (text .exit)) ⌝ }
+    requires { ⌜ at + length (pointLine (ofBits (word (now out) (listPlace l 4 + i))) (ofBits (word (now out) (listPlace l 5 + i))) (flagOf (word (now out) (listPlace l 6 + i)))) ≤ length (now text) ⌝ }
+    ensures { λ r. ⌜ Put (pointLine (ofBits (word (now (out .entry)) (listPlace l 4 + i))) (ofBits (word (now (out .entry)) (listPlace l 5 + i))) (flagOf (word (now (out .entry)) (listPlace l 6 + i)))) at r (now (text .entry)) (now (text .exit)) ⌝ }
 {
     let x = from_bits(word(out, place(l, CURRENT_X), i));
     let y = from_bits(word(out, place(l, CURRENT_Y), i));

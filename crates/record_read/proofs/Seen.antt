@@ -5,7 +5,7 @@ use mathlib.Core.Bool.{Bool, _&&_}
 use mathlib.Core.List.{List}
 use Prim.Native.Nat.{ℕ, _+_, _-_, _*_}
 use lib.Dec.{eqb, leb}
-use Rattle.record_layout.specs.Order.{atTrailer, countOf, edition, listIn, placeOf, trailerSize}
+use Rattle.record_layout.specs.Order.{atTrailer, countOf, edition, listIn, listPlace, trailerSize}
 use Rattle.record_layout.specs.declared.Layout.{Layout}
 use Rattle.limits.specs.Limits.{mostContours, mostControlValues, mostPoints, mostWords}
 use Rattle.state_words.specs.Words.{isState, stateSize}
@@ -32,7 +32,7 @@ pub trailer-seen :
 trailer-seen bytes l eu ee eb = rw (eu, ee, eb) refl
 
 pub list-seen :
-    (bytes : List ℕ) (l : Layout) (k most : ℕ) {at n c : ℕ} {f : Bool} → at ≡ placeOf l k → c ≡ countOf l k → n ≡ c → f ≡ allAtMost most (part bytes at n) →
+    (bytes : List ℕ) (l : Layout) (k most : ℕ) {at n c : ℕ} {f : Bool} → at ≡ listPlace l k → c ≡ countOf l k → n ≡ c → f ≡ allAtMost most (part bytes at n) →
     f ≡ allAtMost most (listIn bytes l k)
 list-seen bytes l k most ea ec en ef = rw (ef, en, ec, ea) refl
 

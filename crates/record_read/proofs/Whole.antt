@@ -12,7 +12,7 @@ use Rattle.int.specs.Word.{ofBits}
 use Rattle.state_words.specs.Words.{isState, stateSize}
 use Rattle.words.proofs.Parts.{mapped-length}
 use Rattle.words.specs.Lists.{allAtMost, endOf, part, wrappingSum}
-use Rattle.record_layout.specs.Order.{atTrailer, edition, mostBytes, placeOf, trailerSize}
+use Rattle.record_layout.specs.Order.{atTrailer, edition, mostBytes, listPlace, trailerSize}
 use Rattle.record_read.specs.Read.{countsFit, framed, heldIn, layoutOf, lengthFits, openOf, sumFits, trailerFits, trailerWord, wordCount, wordsFit}
 use Rattle.record_layout.specs.declared.Layout.{Layout}
 use Rattle.record_read.specs.Format.{layoutFor}
@@ -44,9 +44,9 @@ pub record Sound (bytes : List ℕ) (l : Layout) : Type 0 where
   pub edition-is : trailerWord bytes 5 ≡ edition
   pub back-is : trailerWord bytes 6 ≡ atTrailer l * 4
   pub state-is : isState (part bytes 0 stateSize) ≡ true
-  pub flags-are : allAtMost 255 (part bytes (placeOf l 6) (l .points)) ≡ true
-  pub ends-are : allAtMost 65535 (part bytes (placeOf l 7) (l .contours)) ≡ true
-  pub twilight-are : allAtMost 255 (part bytes (placeOf l 12) (l .twilight)) ≡ true
+  pub flags-are : allAtMost 255 (part bytes (listPlace l 6) (l .points)) ≡ true
+  pub ends-are : allAtMost 65535 (part bytes (listPlace l 7) (l .contours)) ≡ true
+  pub twilight-are : allAtMost 255 (part bytes (listPlace l 12) (l .twilight)) ≡ true
   pub sum-is : wrappingSum (part bytes 0 (wordCount bytes - 1)) ≡ trailerWord bytes 7
 
 -- four and three tests in a row
@@ -83,7 +83,7 @@ module _ (bytes : List ℕ) (l : Layout) (e : openOf bytes ≡ Whole l) where
   sound =
       let m = layoutOf bytes in
       let f = and3 {a = lengthFits bytes} {b = countsFit m} {c = trailerFits bytes m} frame-holds in
-      let w = and4 {a = isState (part bytes 0 stateSize)} {b = allAtMost 255 (part bytes (placeOf m 6) (m .points))} {c = allAtMost 65535 (part bytes (placeOf m 7) (m .contours))} {d = allAtMost 255 (part bytes (placeOf m 12) (m .twilight))} words-hold in
+      let w = and4 {a = isState (part bytes 0 stateSize)} {b = allAtMost 255 (part bytes (listPlace m 6) (m .points))} {c = allAtMost 65535 (part bytes (listPlace m 7) (m .contours))} {d = allAtMost 255 (part bytes (listPlace m 12) (m .twilight))} words-hold in
       let t = and3 {a = eqb (atTrailer m + trailerSize) (wordCount bytes)} {b = eqb (trailerWord bytes 5) edition} {c = eqb (trailerWord bytes 6) (atTrailer m * 4)} (f .2) in
       record {
         size-is = leb-true (length bytes) mostBytes (all-passed .short-enough);
@@ -107,5 +107,5 @@ same-layout e a b c d f = cc
 -- are those of its layout, where that is one of this edition
 pub layout-kept : (bytes : List ℕ) (l : Layout) → stateSize ≡ l .state → layoutFor (heldIn bytes l) ≡ l
 layout-kept bytes l e =
-    same-layout e (mapped-length ofBits bytes (placeOf l 4) (l .points)) (mapped-length endOf bytes (placeOf l 7) (l .contours))
-    (mapped-length ofBits bytes (placeOf l 10) (l .twilight)) (mapped-length ofBits bytes (placeOf l 13) (l .controls)) (mapped-length ofBits bytes (placeOf l 14) (l .words))
+    same-layout e (mapped-length ofBits bytes (listPlace l 4) (l .points)) (mapped-length endOf bytes (listPlace l 7) (l .contours))
+    (mapped-length ofBits bytes (listPlace l 10) (l .twilight)) (mapped-length ofBits bytes (listPlace l 13) (l .controls)) (mapped-length ofBits bytes (listPlace l 14) (l .words))

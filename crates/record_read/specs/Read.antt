@@ -65,10 +65,10 @@ openOf bytes =
     (cond (framed bytes && wordsFit bytes (layoutOf bytes)) (cond (sumFits bytes) (Whole (layoutOf bytes)) (Damaged Sum)) (Damaged Form))
     (Damaged TooLong)
 
-abbrev pub numberOf : Damage → ℕ
-numberOf TooLong = 17
-numberOf Form = 16
-numberOf Sum = 15
+abbrev pub damageNumber : Damage → ℕ
+damageNumber TooLong = 17
+damageNumber Form = 16
+damageNumber Sum = 15
 
 -- what the lists of a layout hold, each by its number in the record's order
 abbrev pub numbersIn : List ℕ → Layout → ℕ → List ℤ
@@ -93,7 +93,7 @@ pub data Read : Type 0 where
 
 abbrev pub readAs : List ℕ → Opened → Read
 readAs bytes (Whole l) = Kept (heldIn bytes l)
-readAs bytes (Damaged why) = Refused (numberOf why)
+readAs bytes (Damaged why) = Refused (damageNumber why)
 
 abbrev pub readOf : List ℕ → Read
 readOf bytes = readAs bytes (openOf bytes)

@@ -35,7 +35,7 @@ ghost use Rattle.state_words.specs.Words.{stateSize, stateOf, isState};
 ghost use Rattle.words.specs.Lists.{allAtMost, part};
 ghost use Rattle.record_layout.specs.Order.{trailerSize, listIn, atTrailer};
 ghost use Rattle.record_read.specs.Format.{layout};
-ghost use Rattle.record_read.specs.Read.{wordCount, trailerWord, layoutOf, lengthFits, countsFit, trailerFits, framed, wordsFit, sumFits, openOf, numberOf};
+ghost use Rattle.record_read.specs.Read.{wordCount, trailerWord, layoutOf, lengthFits, countsFit, trailerFits, framed, wordsFit, sumFits, openOf, damageNumber};
 ghost use mathlib.Core.Path.{_≡_};
 
 // Why a byte string is refused.
@@ -55,7 +55,7 @@ pub enum Opened {
 
 impl Damage {
     pub fn number(self) -> u32
-        ensures { λ r. ⌜ r ≡ numberOf self ⌝ }
+        ensures { λ r. ⌜ r ≡ damageNumber self ⌝ }
     {
         match self {
             Damage::TooLong => 17,

@@ -11,11 +11,11 @@ use Rattle.words.proofs.Parts.{mapped-length}
 use Rattle.words.specs.Lists.{endOf, endsOf, flagOf, flagsOf, numbersOf}
 use Rattle.graphics.specs.declared.GraphicsState.{GraphicsState}
 use Rattle.line.specs.World.{Fixed, World, fixed, world}
-use Rattle.record_layout.specs.Order.{countOf, listIn, placeOf}
+use Rattle.record_layout.specs.Order.{countOf, listIn, listPlace}
 use Rattle.record_layout.specs.declared.Layout.{Layout}
 use Rattle.record_read.proofs.Whole.{edition-state, layout-is, layout-kept, sound}
 use Rattle.record_read.specs.Format.{held, layoutFor}
-use Rattle.record_read.specs.Read.{fixedIn, heldIn, layoutOf, numberOf, openOf, readAs}
+use Rattle.record_read.specs.Read.{fixedIn, heldIn, layoutOf, damageNumber, openOf, readAs}
 use Rattle.record_read.specs.declared.Damage.{Damage}
 use Rattle.record_read.specs.declared.Opened.the-variants.{Damaged, Whole}
 use Rattle.record_run.specs.After.{shelved, shelvedFor}
@@ -28,13 +28,13 @@ front f rest l {n} {m} h e g = ap₂ take h e ∙ take-at f rest m g
 
 -- the front of what a list was loaded to, by its number
 pub numbers-front : (bytes : List ℕ) (l : Layout) (k : ℕ) {n : ℕ} (list z : List ℤ) → n ≡ countOf l k → list ≡ numbersOf (listIn bytes l k) ++ drop (countOf l k) z → take n list ≡ numbersOf (listIn bytes l k)
-numbers-front bytes l k list z h e = front _ _ list h e (mapped-length ofBits bytes (placeOf l k) (countOf l k))
+numbers-front bytes l k list z h e = front _ _ list h e (mapped-length ofBits bytes (listPlace l k) (countOf l k))
 
 pub flags-front : (bytes : List ℕ) (l : Layout) (k : ℕ) {n : ℕ} (list z : List ℕ) → n ≡ countOf l k → list ≡ flagsOf (listIn bytes l k) ++ drop (countOf l k) z → take n list ≡ flagsOf (listIn bytes l k)
-flags-front bytes l k list z h e = front _ _ list h e (mapped-length flagOf bytes (placeOf l k) (countOf l k))
+flags-front bytes l k list z h e = front _ _ list h e (mapped-length flagOf bytes (listPlace l k) (countOf l k))
 
 pub ends-front : (bytes : List ℕ) (l : Layout) (k : ℕ) {n : ℕ} (list z : List ℕ) → n ≡ countOf l k → list ≡ endsOf (listIn bytes l k) ++ drop (countOf l k) z → take n list ≡ endsOf (listIn bytes l k)
-ends-front bytes l k list z h e = front _ _ list h e (mapped-length endOf bytes (placeOf l k) (countOf l k))
+ends-front bytes l k list z h e = front _ _ list h e (mapped-length endOf bytes (listPlace l k) (countOf l k))
 
 pub same-world : {s s′ : GraphicsState} {gx gx′ gy gy′ : List ℤ} {gflags gflags′ : List ℕ} {tox tox′ toy toy′ tx tx′ ty ty′ : List ℤ} {tflags tflags′ : List ℕ}
     → s ≡ s′ → gx ≡ gx′ → gy ≡ gy′ → gflags ≡ gflags′ → tox ≡ tox′ → toy ≡ toy′ → tx ≡ tx′ → ty ≡ ty′ → tflags ≡ tflags′
@@ -51,7 +51,7 @@ whole-held l bytes w out e g h = ap (λ k. shelvedFor l k out) (ap₂ (λ f s. h
 
 -- ---- the verdict
 module _ (bytes out : List ℕ) where
-  pub damaged : (why : Damage) → openOf bytes ≡ Damaged why → shelved (refusedAs (numberOf why)) out ≡ shelfOf bytes out
+  pub damaged : (why : Damage) → openOf bytes ≡ Damaged why → shelved (refusedAs (damageNumber why)) out ≡ shelfOf bytes out
   unfolding shelfOf onRead
   damaged why e = sym (ap (λ o. onRead out (readAs bytes o)) e)
 

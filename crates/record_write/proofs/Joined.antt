@@ -14,7 +14,7 @@ use Rattle.words.specs.Lists.{bytesOf, part, placed, wordsOfNumbers, wrappingSu
 use Rattle.words.proofs.Sums.{written-sum}
 use Rattle.line.proofs.Alike.{fits-alike}
 use Rattle.line.specs.Sizes.{worldFits}
-use Rattle.record_layout.specs.Order.{atTrailer, placeOf, recordSize, trailerSize}
+use Rattle.record_layout.specs.Order.{atTrailer, listPlace, recordSize, trailerSize}
 use Rattle.record_layout.specs.declared.Layout.{Layout}
 use Rattle.record_read.specs.Format.{Held, bodyWords, glyphWords, layoutFor, recordOf, trailerWords, twilightWords, wordsOf}
 use Rattle.record_write.specs.Steps.{sumPlace, withCounts, withCurrents, withOriginals, withRecord, withSources, withState, withSum, withTrailer, withTwilight}
@@ -93,47 +93,47 @@ next e g = ap₂ (λ (a b : ℕ). a + b) e g
 
 -- ---- the parts of a record, each as one list
 module _ (h : Held) (l : Layout) (s : Sized h l) (bytes : List ℕ) (room : recordSize l ≤ length bytes) where
-  pub glyph-ends : placeOf l 0 + length (glyphWords h) ≡ placeOf l 8
+  pub glyph-ends : listPlace l 0 + length (glyphWords h) ≡ listPlace l 8
   glyph-ends =
       omega (arith, length-append (wordsOfNumbers (h .fixed .gux)) ((wordsOfNumbers (h .fixed .guy)) ++ ((wordsOfNumbers (h .fixed .gox)) ++ ((wordsOfNumbers (h .fixed .goy)) ++ ((wordsOfNumbers (h .world .gx)) ++ ((wordsOfNumbers (h .world .gy)) ++ ((h .world .gflags) ++ ((h .fixed .contours)))))))), length-append (wordsOfNumbers (h .fixed .guy)) ((wordsOfNumbers (h .fixed .gox)) ++ ((wordsOfNumbers (h .fixed .goy)) ++ ((wordsOfNumbers (h .world .gx)) ++ ((wordsOfNumbers (h .world .gy)) ++ ((h .world .gflags) ++ ((h .fixed .contours))))))), length-append (wordsOfNumbers (h .fixed .gox)) ((wordsOfNumbers (h .fixed .goy)) ++ ((wordsOfNumbers (h .world .gx)) ++ ((wordsOfNumbers (h .world .gy)) ++ ((h .world .gflags) ++ ((h .fixed .contours)))))), length-append (wordsOfNumbers (h .fixed .goy)) ((wordsOfNumbers (h .world .gx)) ++ ((wordsOfNumbers (h .world .gy)) ++ ((h .world .gflags) ++ ((h .fixed .contours))))), length-append (wordsOfNumbers (h .world .gx)) ((wordsOfNumbers (h .world .gy)) ++ ((h .world .gflags) ++ ((h .fixed .contours)))), length-append (wordsOfNumbers (h .world .gy)) ((h .world .gflags) ++ ((h .fixed .contours))), length-append (h .world .gflags) ((h .fixed .contours)), s .gux, s .guy, s .gox, s .goy, s .gx, s .gy, s .gflags, s .contours)
 
-  pub glyph-joined : withCurrents l (h .world .gx) (h .world .gy) (h .world .gflags) (h .fixed .contours) (withOriginals l (h .fixed .gux) (h .fixed .guy) (h .fixed .gox) (h .fixed .goy) bytes) ≡ placed (placeOf l 0) (glyphWords h) bytes
+  pub glyph-joined : withCurrents l (h .world .gx) (h .world .gy) (h .world .gflags) (h .fixed .contours) (withOriginals l (h .fixed .gux) (h .fixed .guy) (h .fixed .gox) (h .fixed .goy) bytes) ≡ placed (listPlace l 0) (glyphWords h) bytes
   unfolding withCurrents withOriginals
   glyph-joined =
-      let p1 : placeOf l 0 + length (wordsOfNumbers (h .fixed .gux)) ≡ placeOf l 1 = next refl (s .gux) in
-      let p2 : placeOf l 0 + length (wordsOfNumbers (h .fixed .gux)) + length (wordsOfNumbers (h .fixed .guy)) ≡ placeOf l 2 = next p1 (s .guy) in
-      let p3 : placeOf l 0 + length (wordsOfNumbers (h .fixed .gux)) + length (wordsOfNumbers (h .fixed .guy)) + length (wordsOfNumbers (h .fixed .gox)) ≡ placeOf l 3 = next p2 (s .gox) in
-      let p4 : placeOf l 0 + length (wordsOfNumbers (h .fixed .gux)) + length (wordsOfNumbers (h .fixed .guy)) + length (wordsOfNumbers (h .fixed .gox)) + length (wordsOfNumbers (h .fixed .goy)) ≡ placeOf l 4 = next p3 (s .goy) in
-      let p5 : placeOf l 0 + length (wordsOfNumbers (h .fixed .gux)) + length (wordsOfNumbers (h .fixed .guy)) + length (wordsOfNumbers (h .fixed .gox)) + length (wordsOfNumbers (h .fixed .goy)) + length (wordsOfNumbers (h .world .gx)) ≡ placeOf l 5 = next p4 (s .gx) in
-      let p6 : placeOf l 0 + length (wordsOfNumbers (h .fixed .gux)) + length (wordsOfNumbers (h .fixed .guy)) + length (wordsOfNumbers (h .fixed .gox)) + length (wordsOfNumbers (h .fixed .goy)) + length (wordsOfNumbers (h .world .gx)) + length (wordsOfNumbers (h .world .gy)) ≡ placeOf l 6 = next p5 (s .gy) in
-      let p7 : placeOf l 0 + length (wordsOfNumbers (h .fixed .gux)) + length (wordsOfNumbers (h .fixed .guy)) + length (wordsOfNumbers (h .fixed .gox)) + length (wordsOfNumbers (h .fixed .goy)) + length (wordsOfNumbers (h .world .gx)) + length (wordsOfNumbers (h .world .gy)) + length (h .world .gflags) ≡ placeOf l 7 = next p6 (s .gflags) in
-      let one : withCurrents l (h .world .gx) (h .world .gy) (h .world .gflags) (h .fixed .contours) (withOriginals l (h .fixed .gux) (h .fixed .guy) (h .fixed .gox) (h .fixed .goy) bytes) ≡ stacked (placeOf l 0) (wordsOfNumbers (h .fixed .gux)) ((wordsOfNumbers (h .fixed .guy)) ∷ (wordsOfNumbers (h .fixed .gox)) ∷ (wordsOfNumbers (h .fixed .goy)) ∷ (wordsOfNumbers (h .world .gx)) ∷ (wordsOfNumbers (h .world .gy)) ∷ (h .world .gflags) ∷ (h .fixed .contours) ∷ []) bytes = cc (p1, p2, p3, p4, p5, p6, p7) in
-      one ∙ stacked-flat (placeOf l 0) (wordsOfNumbers (h .fixed .gux)) ((wordsOfNumbers (h .fixed .guy)) ∷ (wordsOfNumbers (h .fixed .gox)) ∷ (wordsOfNumbers (h .fixed .goy)) ∷ (wordsOfNumbers (h .world .gx)) ∷ (wordsOfNumbers (h .world .gy)) ∷ (h .world .gflags) ∷ (h .fixed .contours) ∷ []) bytes (omega (arith, glyph-ends, room))
+      let p1 : listPlace l 0 + length (wordsOfNumbers (h .fixed .gux)) ≡ listPlace l 1 = next refl (s .gux) in
+      let p2 : listPlace l 0 + length (wordsOfNumbers (h .fixed .gux)) + length (wordsOfNumbers (h .fixed .guy)) ≡ listPlace l 2 = next p1 (s .guy) in
+      let p3 : listPlace l 0 + length (wordsOfNumbers (h .fixed .gux)) + length (wordsOfNumbers (h .fixed .guy)) + length (wordsOfNumbers (h .fixed .gox)) ≡ listPlace l 3 = next p2 (s .gox) in
+      let p4 : listPlace l 0 + length (wordsOfNumbers (h .fixed .gux)) + length (wordsOfNumbers (h .fixed .guy)) + length (wordsOfNumbers (h .fixed .gox)) + length (wordsOfNumbers (h .fixed .goy)) ≡ listPlace l 4 = next p3 (s .goy) in
+      let p5 : listPlace l 0 + length (wordsOfNumbers (h .fixed .gux)) + length (wordsOfNumbers (h .fixed .guy)) + length (wordsOfNumbers (h .fixed .gox)) + length (wordsOfNumbers (h .fixed .goy)) + length (wordsOfNumbers (h .world .gx)) ≡ listPlace l 5 = next p4 (s .gx) in
+      let p6 : listPlace l 0 + length (wordsOfNumbers (h .fixed .gux)) + length (wordsOfNumbers (h .fixed .guy)) + length (wordsOfNumbers (h .fixed .gox)) + length (wordsOfNumbers (h .fixed .goy)) + length (wordsOfNumbers (h .world .gx)) + length (wordsOfNumbers (h .world .gy)) ≡ listPlace l 6 = next p5 (s .gy) in
+      let p7 : listPlace l 0 + length (wordsOfNumbers (h .fixed .gux)) + length (wordsOfNumbers (h .fixed .guy)) + length (wordsOfNumbers (h .fixed .gox)) + length (wordsOfNumbers (h .fixed .goy)) + length (wordsOfNumbers (h .world .gx)) + length (wordsOfNumbers (h .world .gy)) + length (h .world .gflags) ≡ listPlace l 7 = next p6 (s .gflags) in
+      let one : withCurrents l (h .world .gx) (h .world .gy) (h .world .gflags) (h .fixed .contours) (withOriginals l (h .fixed .gux) (h .fixed .guy) (h .fixed .gox) (h .fixed .goy) bytes) ≡ stacked (listPlace l 0) (wordsOfNumbers (h .fixed .gux)) ((wordsOfNumbers (h .fixed .guy)) ∷ (wordsOfNumbers (h .fixed .gox)) ∷ (wordsOfNumbers (h .fixed .goy)) ∷ (wordsOfNumbers (h .world .gx)) ∷ (wordsOfNumbers (h .world .gy)) ∷ (h .world .gflags) ∷ (h .fixed .contours) ∷ []) bytes = cc (p1, p2, p3, p4, p5, p6, p7) in
+      one ∙ stacked-flat (listPlace l 0) (wordsOfNumbers (h .fixed .gux)) ((wordsOfNumbers (h .fixed .guy)) ∷ (wordsOfNumbers (h .fixed .gox)) ∷ (wordsOfNumbers (h .fixed .goy)) ∷ (wordsOfNumbers (h .world .gx)) ∷ (wordsOfNumbers (h .world .gy)) ∷ (h .world .gflags) ∷ (h .fixed .contours) ∷ []) bytes (omega (arith, glyph-ends, room))
 
-  pub twilight-ends : placeOf l 8 + length (twilightWords h) ≡ placeOf l 13
+  pub twilight-ends : listPlace l 8 + length (twilightWords h) ≡ listPlace l 13
   twilight-ends =
       omega (arith, length-append (wordsOfNumbers (h .world .tox)) ((wordsOfNumbers (h .world .toy)) ++ ((wordsOfNumbers (h .world .tx)) ++ ((wordsOfNumbers (h .world .ty)) ++ ((h .world .tflags))))), length-append (wordsOfNumbers (h .world .toy)) ((wordsOfNumbers (h .world .tx)) ++ ((wordsOfNumbers (h .world .ty)) ++ ((h .world .tflags)))), length-append (wordsOfNumbers (h .world .tx)) ((wordsOfNumbers (h .world .ty)) ++ ((h .world .tflags))), length-append (wordsOfNumbers (h .world .ty)) ((h .world .tflags)), s .tox, s .toy, s .tx, s .ty, s .tflags)
 
-  pub twilight-joined : withTwilight l (h .world .tox) (h .world .toy) (h .world .tx) (h .world .ty) (h .world .tflags) bytes ≡ placed (placeOf l 8) (twilightWords h) bytes
+  pub twilight-joined : withTwilight l (h .world .tox) (h .world .toy) (h .world .tx) (h .world .ty) (h .world .tflags) bytes ≡ placed (listPlace l 8) (twilightWords h) bytes
   unfolding withTwilight
   twilight-joined =
-      let p1 : placeOf l 8 + length (wordsOfNumbers (h .world .tox)) ≡ placeOf l 9 = next refl (s .tox) in
-      let p2 : placeOf l 8 + length (wordsOfNumbers (h .world .tox)) + length (wordsOfNumbers (h .world .toy)) ≡ placeOf l 10 = next p1 (s .toy) in
-      let p3 : placeOf l 8 + length (wordsOfNumbers (h .world .tox)) + length (wordsOfNumbers (h .world .toy)) + length (wordsOfNumbers (h .world .tx)) ≡ placeOf l 11 = next p2 (s .tx) in
-      let p4 : placeOf l 8 + length (wordsOfNumbers (h .world .tox)) + length (wordsOfNumbers (h .world .toy)) + length (wordsOfNumbers (h .world .tx)) + length (wordsOfNumbers (h .world .ty)) ≡ placeOf l 12 = next p3 (s .ty) in
-      let one : withTwilight l (h .world .tox) (h .world .toy) (h .world .tx) (h .world .ty) (h .world .tflags) bytes ≡ stacked (placeOf l 8) (wordsOfNumbers (h .world .tox)) ((wordsOfNumbers (h .world .toy)) ∷ (wordsOfNumbers (h .world .tx)) ∷ (wordsOfNumbers (h .world .ty)) ∷ (h .world .tflags) ∷ []) bytes = cc (p1, p2, p3, p4) in
-      one ∙ stacked-flat (placeOf l 8) (wordsOfNumbers (h .world .tox)) ((wordsOfNumbers (h .world .toy)) ∷ (wordsOfNumbers (h .world .tx)) ∷ (wordsOfNumbers (h .world .ty)) ∷ (h .world .tflags) ∷ []) bytes (omega (arith, twilight-ends, room))
+      let p1 : listPlace l 8 + length (wordsOfNumbers (h .world .tox)) ≡ listPlace l 9 = next refl (s .tox) in
+      let p2 : listPlace l 8 + length (wordsOfNumbers (h .world .tox)) + length (wordsOfNumbers (h .world .toy)) ≡ listPlace l 10 = next p1 (s .toy) in
+      let p3 : listPlace l 8 + length (wordsOfNumbers (h .world .tox)) + length (wordsOfNumbers (h .world .toy)) + length (wordsOfNumbers (h .world .tx)) ≡ listPlace l 11 = next p2 (s .tx) in
+      let p4 : listPlace l 8 + length (wordsOfNumbers (h .world .tox)) + length (wordsOfNumbers (h .world .toy)) + length (wordsOfNumbers (h .world .tx)) + length (wordsOfNumbers (h .world .ty)) ≡ listPlace l 12 = next p3 (s .ty) in
+      let one : withTwilight l (h .world .tox) (h .world .toy) (h .world .tx) (h .world .ty) (h .world .tflags) bytes ≡ stacked (listPlace l 8) (wordsOfNumbers (h .world .tox)) ((wordsOfNumbers (h .world .toy)) ∷ (wordsOfNumbers (h .world .tx)) ∷ (wordsOfNumbers (h .world .ty)) ∷ (h .world .tflags) ∷ []) bytes = cc (p1, p2, p3, p4) in
+      one ∙ stacked-flat (listPlace l 8) (wordsOfNumbers (h .world .tox)) ((wordsOfNumbers (h .world .toy)) ∷ (wordsOfNumbers (h .world .tx)) ∷ (wordsOfNumbers (h .world .ty)) ∷ (h .world .tflags) ∷ []) bytes (omega (arith, twilight-ends, room))
 
-  pub sources-ends : placeOf l 13 + length (wordsOfNumbers (h .fixed .controls) ++ wordsOfNumbers (h .sheet)) ≡ atTrailer l
+  pub sources-ends : listPlace l 13 + length (wordsOfNumbers (h .fixed .controls) ++ wordsOfNumbers (h .sheet)) ≡ atTrailer l
   sources-ends =
       omega (arith, length-append (wordsOfNumbers (h .fixed .controls)) ((wordsOfNumbers (h .sheet))), s .controls, s .sheet)
 
-  pub sources-joined : withSources l (h .fixed .controls) (h .sheet) bytes ≡ placed (placeOf l 13) (wordsOfNumbers (h .fixed .controls) ++ wordsOfNumbers (h .sheet)) bytes
+  pub sources-joined : withSources l (h .fixed .controls) (h .sheet) bytes ≡ placed (listPlace l 13) (wordsOfNumbers (h .fixed .controls) ++ wordsOfNumbers (h .sheet)) bytes
   unfolding withSources
   sources-joined =
-      let p1 : placeOf l 13 + length (wordsOfNumbers (h .fixed .controls)) ≡ placeOf l 14 = next refl (s .controls) in
-      let one : withSources l (h .fixed .controls) (h .sheet) bytes ≡ stacked (placeOf l 13) (wordsOfNumbers (h .fixed .controls)) ((wordsOfNumbers (h .sheet)) ∷ []) bytes = cc p1 in
-      one ∙ stacked-flat (placeOf l 13) (wordsOfNumbers (h .fixed .controls)) ((wordsOfNumbers (h .sheet)) ∷ []) bytes (omega (arith, sources-ends, room))
+      let p1 : listPlace l 13 + length (wordsOfNumbers (h .fixed .controls)) ≡ listPlace l 14 = next refl (s .controls) in
+      let one : withSources l (h .fixed .controls) (h .sheet) bytes ≡ stacked (listPlace l 13) (wordsOfNumbers (h .fixed .controls)) ((wordsOfNumbers (h .sheet)) ∷ []) bytes = cc p1 in
+      one ∙ stacked-flat (listPlace l 13) (wordsOfNumbers (h .fixed .controls)) ((wordsOfNumbers (h .sheet)) ∷ []) bytes (omega (arith, sources-ends, room))
 
 -- ---- the whole record
 module _ (h : Held) (l : Layout) (s : Sized h l) (same : l ≡ layoutFor h) (bytes : List ℕ) (room : recordSize l ≤ length bytes) where
@@ -147,19 +147,19 @@ module _ (h : Held) (l : Layout) (s : Sized h l) (same : l ≡ layoutFor h) (byt
   b0 = placed 0 state bytes
 
   abbrev b1 : List ℕ
-  b1 = placed (placeOf l 0) (glyphWords h) b0
+  b1 = placed (listPlace l 0) (glyphWords h) b0
 
   abbrev b2 : List ℕ
-  b2 = placed (placeOf l 8) (twilightWords h) b1
+  b2 = placed (listPlace l 8) (twilightWords h) b1
 
   room0 : recordSize l ≤ length b0
   room0 = omega (arith, room, placed-size 0 state bytes)
 
   room1 : recordSize l ≤ length b1
-  room1 = omega (arith, room0, placed-size (placeOf l 0) (glyphWords h) b0)
+  room1 = omega (arith, room0, placed-size (listPlace l 0) (glyphWords h) b0)
 
   room2 : recordSize l ≤ length b2
-  room2 = omega (arith, room1, placed-size (placeOf l 8) (twilightWords h) b1)
+  room2 = omega (arith, room1, placed-size (listPlace l 8) (twilightWords h) b1)
 
   abbrev before-trailer : List ℕ
   before-trailer =
@@ -183,9 +183,9 @@ module _ (h : Held) (l : Layout) (s : Sized h l) (same : l ≡ layoutFor h) (byt
 
   body-joined : before-trailer ≡ placed 0 (bodyWords h) bytes
   body-joined =
-      let p1 : 0 + length state ≡ placeOf l 0 = omega (arith, s .state) in
-      let p2 : 0 + length state + length (glyphWords h) ≡ placeOf l 8 = omega (arith, p1, glyph-ends h l s b0 room0) in
-      let p3 : 0 + length state + length (glyphWords h) + length (twilightWords h) ≡ placeOf l 13 = omega (arith, p2, twilight-ends h l s b0 room0) in
+      let p1 : 0 + length state ≡ listPlace l 0 = omega (arith, s .state) in
+      let p2 : 0 + length state + length (glyphWords h) ≡ listPlace l 8 = omega (arith, p1, glyph-ends h l s b0 room0) in
+      let p3 : 0 + length state + length (glyphWords h) + length (twilightWords h) ≡ listPlace l 13 = omega (arith, p2, twilight-ends h l s b0 room0) in
       ap (λ (b : List ℕ). withSources l (h .fixed .controls) (h .sheet) (withTwilight l (h .world .tox) (h .world .toy) (h .world .tx) (h .world .ty) (h .world .tflags) b)) (glyph-joined h l s b0 room0)
       ∙ ap (withSources l (h .fixed .controls) (h .sheet)) (twilight-joined h l s b1 room1)
       ∙ sources-joined h l s b2 room2

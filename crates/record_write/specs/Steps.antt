@@ -7,7 +7,7 @@ use Rattle.graphics.specs.declared.GraphicsState.{GraphicsState}
 use Rattle.state_words.specs.Words.{stateWords}
 use Rattle.words.specs.Lists.{part, wrappingSum, placed, wordsOfNumbers}
 use Rattle.record_layout.specs.declared.Layout.{Layout}
-use Rattle.record_layout.specs.Order.{atTrailer, placeOf}
+use Rattle.record_layout.specs.Order.{atTrailer, listPlace}
 use Rattle.record_read.specs.Format.{Held, trailerWords}
 
 -- the state's words over the first words of a byte string
@@ -30,26 +30,26 @@ withTrailer l bytes = withSum l (withCounts l bytes)
 
 -- control values, then the sheet
 unfoldable pub withSources : Layout → List ℤ → List ℤ → List ℕ → List ℕ
-withSources l controls sheet bytes = placed (placeOf l 14) (wordsOfNumbers sheet) (placed (placeOf l 13) (wordsOfNumbers controls) bytes)
+withSources l controls sheet bytes = placed (listPlace l 14) (wordsOfNumbers sheet) (placed (listPlace l 13) (wordsOfNumbers controls) bytes)
 
 -- twilight original x and y, current x and y, flags
 unfoldable pub withTwilight : Layout → List ℤ → List ℤ → List ℤ → List ℤ → List ℕ → List ℕ → List ℕ
 withTwilight l ox oy x y flags bytes =
-    placed (placeOf l 12) flags
-    (placed (placeOf l 11) (wordsOfNumbers y)
-    (placed (placeOf l 10) (wordsOfNumbers x)
-    (placed (placeOf l 9) (wordsOfNumbers oy) (placed (placeOf l 8) (wordsOfNumbers ox) bytes))))
+    placed (listPlace l 12) flags
+    (placed (listPlace l 11) (wordsOfNumbers y)
+    (placed (listPlace l 10) (wordsOfNumbers x)
+    (placed (listPlace l 9) (wordsOfNumbers oy) (placed (listPlace l 8) (wordsOfNumbers ox) bytes))))
 
 -- glyph unscaled and original x and y
 unfoldable pub withOriginals : Layout → List ℤ → List ℤ → List ℤ → List ℤ → List ℕ → List ℕ
 withOriginals l ux uy ox oy bytes =
-    placed (placeOf l 3) (wordsOfNumbers oy)
-    (placed (placeOf l 2) (wordsOfNumbers ox) (placed (placeOf l 1) (wordsOfNumbers uy) (placed (placeOf l 0) (wordsOfNumbers ux) bytes)))
+    placed (listPlace l 3) (wordsOfNumbers oy)
+    (placed (listPlace l 2) (wordsOfNumbers ox) (placed (listPlace l 1) (wordsOfNumbers uy) (placed (listPlace l 0) (wordsOfNumbers ux) bytes)))
 
 -- glyph current x and y, flags, contours
 unfoldable pub withCurrents : Layout → List ℤ → List ℤ → List ℕ → List ℕ → List ℕ → List ℕ
 withCurrents l x y flags ends bytes =
-    placed (placeOf l 7) ends (placed (placeOf l 6) flags (placed (placeOf l 5) (wordsOfNumbers y) (placed (placeOf l 4) (wordsOfNumbers x) bytes)))
+    placed (listPlace l 7) ends (placed (listPlace l 6) flags (placed (listPlace l 5) (wordsOfNumbers y) (placed (listPlace l 4) (wordsOfNumbers x) bytes)))
 
 -- the whole record, its trailer last
 unfoldable pub withRecord : Layout → Held → List ℕ → List ℕ

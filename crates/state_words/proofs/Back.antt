@@ -23,7 +23,7 @@ use Rattle.graphics.specs.declared.ZonePointer.{ZonePointer}
 use Rattle.graphics.proofs.Laws.{and-left, and-right}
 use Rattle.int.specs.Word.{bitsOf, ofBits}
 use Rattle.words.specs.Lists.{allAtMost}
-use Rattle.state_words.specs.Words.{factOf, factWord, isState, modeOf, modeWord, stateOf, stateSize, stateWords, wordAt, zoneOf, zoneWord}
+use Rattle.state_words.specs.Words.{factOf, factWord, isState, modeOf, modeWord, stateOf, stateSize, stateWords, stateWord, zoneOf, zoneWord}
 use Rattle.state_words.proofs.Parts.{at-most-nth, part-nth}
 use Rattle.state_words.proofs.Same.{same-facts, same-pointers, same-references, same-round, same-state, same-vector, same-vectors}
 
@@ -134,11 +134,11 @@ fact-written (suc (suc n)) h = absurd (omega arith)
 -- n words of ws, the first of them word k
 abbrev listed : ℕ → ℕ → List ℕ → List ℕ
 listed k zero ws = []
-listed k (suc n) ws = wordAt ws k ∷ listed (suc k) n ws
+listed k (suc n) ws = stateWord ws k ∷ listed (suc k) n ws
 
 listed-tail : (k n x : ℕ) (ws : List ℕ) → listed (suc k) n (x ∷ ws) ≡ listed k n ws
 listed-tail k zero x ws = refl
-listed-tail k (suc n) x ws = ap (λ (t : List ℕ). wordAt ws k ∷ t) (listed-tail (suc k) n x ws)
+listed-tail k (suc n) x ws = ap (λ (t : List ℕ). stateWord ws k ∷ t) (listed-tail (suc k) n x ws)
 
 listed-all : (ws : List ℕ) → listed 0 (length ws) ws ≡ ws
 listed-all [] = refl
@@ -150,46 +150,46 @@ cons e es = ap₂ (λ (x : ℕ) (xs : List ℕ). x ∷ xs) e es
 -- ---- words, read and written
 -- what `isState` says of each word
 module _ (ws : List ℕ) (e : isState ws ≡ true) where
-  all-in : eqb (length ws) stateSize && leb (wordAt ws 6) 7 && allAtMost 1 (take 8 (drop 17 ws)) ≡ true
+  all-in : eqb (length ws) stateSize && leb (stateWord ws 6) 7 && allAtMost 1 (take 8 (drop 17 ws)) ≡ true
   unfolding isState
   all-in = e
 
-  first-two : eqb (length ws) stateSize && leb (wordAt ws 6) 7 ≡ true
+  first-two : eqb (length ws) stateSize && leb (stateWord ws 6) 7 ≡ true
   first-two = and-left _ (allAtMost 1 (take 8 (drop 17 ws))) all-in
 
   pub size-is : length ws ≡ stateSize
-  size-is = eqb-true (length ws) stateSize (and-left _ (leb (wordAt ws 6) 7) first-two)
+  size-is = eqb-true (length ws) stateSize (and-left _ (leb (stateWord ws 6) 7) first-two)
 
-  mode-in : wordAt ws 6 ≤ 7
-  mode-in = leb-true (wordAt ws 6) 7 (and-right (eqb (length ws) stateSize) _ first-two)
+  mode-in : stateWord ws 6 ≤ 7
+  mode-in = leb-true (stateWord ws 6) 7 (and-right (eqb (length ws) stateSize) _ first-two)
 
-  small : (j : ℕ) → j < 8 → wordAt ws (17 + j) ≤ 1
+  small : (j : ℕ) → j < 8 → stateWord ws (17 + j) ≤ 1
   small j h =
-      let within = at-most-nth 1 (take 8 (drop 17 ws)) j (and-right (eqb (length ws) stateSize && leb (wordAt ws 6) 7) _ all-in) in
+      let within = at-most-nth 1 (take 8 (drop 17 ws)) j (and-right (eqb (length ws) stateSize && leb (stateWord ws 6) 7) _ all-in) in
       omega (arith, within, part-nth ws 17 8 j h)
 
 module _ (ws : List ℕ) (in-range : isState ws ≡ true) where
-  zone-at : (j : ℕ) → j < 8 → zoneWord (zoneOf (wordAt ws (17 + j))) ≡ wordAt ws (17 + j)
-  zone-at j h = zone-written (wordAt ws (17 + j)) (small ws in-range j h)
+  zone-at : (j : ℕ) → j < 8 → zoneWord (zoneOf (stateWord ws (17 + j))) ≡ stateWord ws (17 + j)
+  zone-at j h = zone-written (stateWord ws (17 + j)) (small ws in-range j h)
 
-  fact-at : (j : ℕ) → j < 8 → factWord (factOf (wordAt ws (17 + j))) ≡ wordAt ws (17 + j)
-  fact-at j h = fact-written (wordAt ws (17 + j)) (small ws in-range j h)
+  fact-at : (j : ℕ) → j < 8 → factWord (factOf (stateWord ws (17 + j))) ≡ stateWord ws (17 + j)
+  fact-at j h = fact-written (stateWord ws (17 + j)) (small ws in-range j h)
 
-  module _ (fit : (k : ℕ) → wordAt ws k < 2 ^ 32) where
-    num : (k : ℕ) → bitsOf (ofBits (wordAt ws k)) ≡ wordAt ws k
-    num k = word-written (wordAt ws k) (fit k)
+  module _ (fit : (k : ℕ) → stateWord ws k < 2 ^ 32) where
+    num : (k : ℕ) → bitsOf (ofBits (stateWord ws k)) ≡ stateWord ws k
+    num k = word-written (stateWord ws k) (fit k)
 
-    low : (k j : ℕ) → (wordAt ws k + wordAt ws j * 2 ^ 32) % 2 ^ 32 ≡ wordAt ws k
-    low k j = low-written (wordAt ws k) (wordAt ws j) (fit k)
+    low : (k j : ℕ) → (stateWord ws k + stateWord ws j * 2 ^ 32) % 2 ^ 32 ≡ stateWord ws k
+    low k j = low-written (stateWord ws k) (stateWord ws j) (fit k)
 
-    high : (k j : ℕ) → (wordAt ws k + wordAt ws j * 2 ^ 32) / 2 ^ 32 ≡ wordAt ws j
-    high k j = high-written (wordAt ws k) (wordAt ws j) (fit k)
+    high : (k j : ℕ) → (stateWord ws k + stateWord ws j * 2 ^ 32) / 2 ^ 32 ≡ stateWord ws j
+    high k j = high-written (stateWord ws k) (stateWord ws j) (fit k)
 
     each : stateWords (stateOf ws) ≡ listed 0 stateSize ws
     unfolding stateWords stateOf
     each =
         cons (num 0) (cons (num 1) (cons (num 2) (cons (num 3) (cons (num 4) (cons (num 5)
-        (cons (mode-written (wordAt ws 6) (mode-in ws in-range)) (cons (num 7) (cons (num 8) (cons (num 9)
+        (cons (mode-written (stateWord ws 6) (mode-in ws in-range)) (cons (num 7) (cons (num 8) (cons (num 9)
         (cons (low 10 11) (cons (high 10 11) (cons (low 12 13) (cons (high 12 13) (cons (low 14 15) (cons (high 14 15)
         (cons refl
         (cons (zone-at 0 (omega arith)) (cons (zone-at 1 (omega arith)) (cons (zone-at 2 (omega arith))

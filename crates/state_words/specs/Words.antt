@@ -79,14 +79,14 @@ written s ws = cond (eqb (length ws) stateSize) (stateWords s) ws
 
 -- ---- the state that words stand for
 -- word k; a word that is missing counts as 0
-abbrev pub wordAt : List ℕ → ℕ → ℕ
-wordAt ws k = getD ws k 0
+abbrev pub stateWord : List ℕ → ℕ → ℕ
+stateWord ws k = getD ws k 0
 
 abbrev pub numberAt : List ℕ → ℕ → ℤ
-numberAt ws k = ofBits (wordAt ws k)
+numberAt ws k = ofBits (stateWord ws k)
 
 abbrev pub longAt : List ℕ → ℕ → ℕ → ℕ
-longAt ws low high = wordAt ws low + wordAt ws high * 2 ^ 32
+longAt ws low high = stateWord ws low + stateWord ws high * 2 ^ 32
 
 abbrev pub vectorAt : List ℕ → ℕ → ℕ → Vector
 vectorAt ws x y = record { x = numberAt ws x; y = numberAt ws y }
@@ -102,15 +102,15 @@ abbrev pub factOf : ℕ → Bool
 factOf n = getD (false ∷ []) n true
 
 abbrev pub factAt : List ℕ → ℕ → Bool
-factAt ws k = factOf (wordAt ws k)
+factAt ws k = factOf (stateWord ws k)
 
 unfoldable pub stateOf : List ℕ → GraphicsState
 stateOf ws = record {
   vectors = record { projection = vectorAt ws 0 1; dual = vectorAt ws 2 3; freedom = vectorAt ws 4 5 };
-  round = record { mode = modeOf (wordAt ws 6); threshold = numberAt ws 7; phase = numberAt ws 8; period = numberAt ws 9 };
+  round = record { mode = modeOf (stateWord ws 6); threshold = numberAt ws 7; phase = numberAt ws 8; period = numberAt ws 9 };
   references = record { rp0 = longAt ws 10 11; rp1 = longAt ws 12 13; rp2 = longAt ws 14 15 };
-  «loop_counter» = wordAt ws 16;
-  pointers = record { zp0 = zoneOf (wordAt ws 17); zp1 = zoneOf (wordAt ws 18); zp2 = zoneOf (wordAt ws 19) };
+  «loop_counter» = stateWord ws 16;
+  pointers = record { zp0 = zoneOf (stateWord ws 17); zp1 = zoneOf (stateWord ws 18); zp2 = zoneOf (stateWord ws 19) };
   facts = record { «backward_compatibility» = factAt ws 20; pedantic = factAt ws 21; «native_clear_type_x» = factAt ws 22; «did_iup_x» = factAt ws 23; «did_iup_y» = factAt ws 24 };
   «cut_in» = numberAt ws 25;
 }
@@ -118,4 +118,4 @@ stateOf ws = record {
 -- ---- which words are a state: refused with 16 where not. Vectors and period are left to the run's answer 3
 -- the mode at most 7, zone pointers and facts at most 1
 unfoldable pub isState : List ℕ → Bool
-isState ws = eqb (length ws) stateSize && leb (wordAt ws 6) 7 && allAtMost 1 (take 8 (drop 17 ws))
+isState ws = eqb (length ws) stateSize && leb (stateWord ws 6) 7 && allAtMost 1 (take 8 (drop 17 ws))

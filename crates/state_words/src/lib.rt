@@ -19,7 +19,7 @@ ghost use Prim.Native.Nat.{_%_, _/_, _^_, _+_, _*_};
 ghost use lib.ListN.{getD};
 ghost use lib.Dec.{leb};
 ghost use Rattle.words.specs.Lists.{allAtMost};
-ghost use Rattle.state_words.specs.Words.{wordAt, numberAt, vectorAt, longAt, modeOf, zoneOf, factOf, modeWord, zoneWord, factWord, vectorsWords, roundWords, referencesWords, pointersWords, factsWords, wordOf, stateOf, isState, written};
+ghost use Rattle.state_words.specs.Words.{stateWord, numberAt, vectorAt, longAt, modeOf, zoneOf, factOf, modeWord, zoneWord, factWord, vectorsWords, roundWords, referencesWords, pointersWords, factsWords, wordOf, stateOf, isState, written};
 
 // How many words a state is: the one place of this number in the code.
 pub const STATE_WORDS: usize = 26;
@@ -40,7 +40,7 @@ const CUT_IN: usize = 25;
 // ---- one word
 // Word k, 0 outside.
 fn word(words: &[u32], k: usize) -> u32
-    ensures { λ r. ⌜ r ≡ wordAt (now (words .entry)) k ⌝ }
+    ensures { λ r. ⌜ r ≡ stateWord (now (words .entry)) k ⌝ }
 {
     if k < words.len() { words[k] } else { 0 }
 }
@@ -236,7 +236,7 @@ pub fn read_state(words: &[u32]) -> GraphicsState
 
 // ---- which words are a state
 fn at_most(words: &[u32], k: usize, most: u32) -> bool
-    ensures { λ r. ⌜ r ≡ leb (wordAt (now (words .entry)) k) most ⌝ }
+    ensures { λ r. ⌜ r ≡ leb (stateWord (now (words .entry)) k) most ⌝ }
 {
     word(words, k) <= most
 }

@@ -6,7 +6,7 @@ use mathlib.Core.List.{List, [], _∷_, map}
 use Prim.Native.Nat.{ℕ}
 use lib.IntN.{ℤ, pos, negℤ}
 use Rattle.round.specs.declared.RoundState.{RoundState}
-use Rattle.super_round.specs.Selector.{modeOf, periodBy, phaseBy, thresholdBy, stateBy, superOf}
+use Rattle.super_round.specs.Selector.{superMode, periodBy, phaseBy, thresholdBy, stateBy, superOf}
 
 abbrev sround : ℕ → RoundState
 sround n = superOf false (pos n)
@@ -16,7 +16,7 @@ s45round n = superOf true (pos n)
 
 -- period, phase and threshold in 26.6
 abbrev of : Bool → ℕ → ℕ → ℤ → RoundState
-of diagonal period phase threshold = record { mode = modeOf diagonal; threshold = threshold; phase = pos phase; period = pos period }
+of diagonal period phase threshold = record { mode = superMode diagonal; threshold = threshold; phase = pos phase; period = pos period }
 
 -- what a selector gives, and what it is to be
 unfoldable pub rows : List (RoundState × RoundState)

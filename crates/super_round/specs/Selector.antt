@@ -13,9 +13,9 @@ use Rattle.round.specs.declared.RoundMode.the-variants.{Super, Super45}
 use Rattle.round.specs.declared.RoundState.{RoundState}
 
 -- whether the line is S45ROUND decides the mode, and the grid's period in 2.14: a pixel, and half a diagonal of one
-abbrev pub modeOf : Bool → RoundMode
-modeOf false = Super
-modeOf true = Super45
+abbrev pub superMode : Bool → RoundMode
+superMode false = Super
+superMode true = Super45
 
 abbrev pub gridPeriod : Bool → ℕ
 gridPeriod false = 0x4000
@@ -42,7 +42,7 @@ unfoldable pub stateBy : Bool → ℕ → RoundState
 stateBy diagonal selector =
     let period : ℕ = periodBy (gridPeriod diagonal) (selector / 64) in
     record {
-      mode = modeOf diagonal;
+      mode = superMode diagonal;
       threshold = inSixtyFourths (thresholdBy period (selector % 16));
       phase = inSixtyFourths (pos (phaseBy period (selector / 16 % 4)));
       period = inSixtyFourths (pos period);

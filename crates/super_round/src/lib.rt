@@ -8,7 +8,7 @@ use round::RoundMode;
 use round::RoundState;
 ghost use mathlib.Core.Path.{_≡_};
 ghost use Prim.Native.Nat.{_≤_, _<_};
-ghost use Rattle.super_round.specs.Selector.{gridPeriod, periodBy, phaseBy, thresholdBy, inSixtyFourths, modeOf, superOf};
+ghost use Rattle.super_round.specs.Selector.{gridPeriod, periodBy, phaseBy, thresholdBy, inSixtyFourths, superMode, superOf};
 
 // S45ROUND's period is the diagonal's.
 fn grid_period(diagonal: bool) -> u32
@@ -18,7 +18,7 @@ fn grid_period(diagonal: bool) -> u32
 }
 
 fn mode_of(diagonal: bool) -> RoundMode
-    ensures { λ r. ⌜ r ≡ modeOf diagonal ⌝ }
+    ensures { λ r. ⌜ r ≡ superMode diagonal ⌝ }
 {
     if diagonal {
         RoundMode::Super45

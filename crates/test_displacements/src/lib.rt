@@ -11,52 +11,52 @@ use test_compare::Said;
 
 fn displaced_from(
     case: &[u8],
-    ox: &[i32],
-    oy: &[i32],
-    cx: &[i32],
-    cy: &[i32],
+    gox: &[i32],
+    goy: &[i32],
+    gx: &[i32],
+    gy: &[i32],
     tox: &[i32],
     toy: &[i32],
-    tcx: &[i32],
-    tcy: &[i32],
+    tx: &[i32],
+    ty: &[i32],
 ) -> Displaced {
     let opcode = word(case, 7) as usize;
-    direct_moves::try_point_displacement(state_of(case), opcode, ox, oy, cx, cy, tox, toy, tcx, tcy)
+    direct_moves::try_point_displacement(state_of(case), opcode, gox, goy, gx, gy, tox, toy, tx, ty)
 }
 
 // With the glyph's lists, the twilight zone's are read.
-fn displaced_with(case: &[u8], ox: &[i32], oy: &[i32], cx: &[i32], cy: &[i32]) -> Displaced {
+fn displaced_with(case: &[u8], gox: &[i32], goy: &[i32], gx: &[i32], gy: &[i32]) -> Displaced {
     let tox = words_of(case, 8);
     let toy = words_of(case, 9);
-    let tcx = words_of(case, 10);
-    let tcy = words_of(case, 11);
+    let tx = words_of(case, 10);
+    let ty = words_of(case, 11);
     let n8 = length_of(case, 8, 16385);
     let n9 = length_of(case, 9, 16385);
     let n10 = length_of(case, 10, 16385);
     let n11 = length_of(case, 11, 16385);
     displaced_from(
         case,
-        ox,
-        oy,
-        cx,
-        cy,
+        gox,
+        goy,
+        gx,
+        gy,
         &tox[..n8],
         &toy[..n9],
-        &tcx[..n10],
-        &tcy[..n11],
+        &tx[..n10],
+        &ty[..n11],
     )
 }
 
 fn displaced(case: &[u8]) -> Displaced {
-    let ox = words_of(case, 2);
-    let oy = words_of(case, 3);
-    let cx = words_of(case, 4);
-    let cy = words_of(case, 5);
+    let gox = words_of(case, 2);
+    let goy = words_of(case, 3);
+    let gx = words_of(case, 4);
+    let gy = words_of(case, 5);
     let n2 = length_of(case, 2, 16385);
     let n3 = length_of(case, 3, 16385);
     let n4 = length_of(case, 4, 16385);
     let n5 = length_of(case, 5, 16385);
-    displaced_with(case, &ox[..n2], &oy[..n3], &cx[..n4], &cy[..n5])
+    displaced_with(case, &gox[..n2], &goy[..n3], &gx[..n4], &gy[..n5])
 }
 
 fn of_displaced(displaced: Displaced) -> Said {

@@ -31,18 +31,18 @@ fn of_outcome(outcome: Outcome) -> Said {
 fn left_as(
     case: &[u8],
     state: GraphicsState,
-    cx: &[i32],
-    cy: &[i32],
+    gx: &[i32],
+    gy: &[i32],
     flags: &[u8],
     tox: &[i32],
     toy: &[i32],
-    tcx: &[i32],
-    tcy: &[i32],
+    tx: &[i32],
+    ty: &[i32],
     tflags: &[u8],
 ) -> Compared {
-    let glyph = compare_placed(case, 4, cx, cy, flags);
+    let glyph = compare_placed(case, 4, gx, gy, flags);
     let made = compare_pair(case, 8, tox, toy);
-    let twilight = compare_placed(case, 10, tcx, tcy, tflags);
+    let twilight = compare_placed(case, 10, tx, ty, tflags);
     glyph
         .and(made)
         .and(twilight)
@@ -52,15 +52,15 @@ fn left_as(
 // The twilight zone's lists are read here, and the run made.
 pub fn agrees_in_glyph(
     case: &[u8],
-    ux: &[i32],
-    uy: &[i32],
+    gux: &[i32],
+    guy: &[i32],
     contours: &[u16],
     controls: &[i32],
     sheet: &[i32],
-    ox: &[i32],
-    oy: &[i32],
-    cx: &mut [i32],
-    cy: &mut [i32],
+    gox: &[i32],
+    goy: &[i32],
+    gx: &mut [i32],
+    gy: &mut [i32],
     flags: &mut [u8],
 ) -> bool {
     let start = long(case, 10) as usize;
@@ -68,8 +68,8 @@ pub fn agrees_in_glyph(
     let s = state_of(case);
     let mut tox = words_of(case, 8);
     let mut toy = words_of(case, 9);
-    let mut tcx = words_of(case, 10);
-    let mut tcy = words_of(case, 11);
+    let mut tx = words_of(case, 10);
+    let mut ty = words_of(case, 11);
     let mut tflags = flags_of(case, 12);
     let n8 = length_of(case, 8, 16385);
     let n9 = length_of(case, 9, 16385);
@@ -82,31 +82,31 @@ pub fn agrees_in_glyph(
         s,
         sheet,
         controls,
-        ux,
-        uy,
-        ox,
-        oy,
-        cx,
-        cy,
+        gux,
+        guy,
+        gox,
+        goy,
+        gx,
+        gy,
         flags,
         contours,
         &mut tox[..n8],
         &mut toy[..n9],
-        &mut tcx[..n10],
-        &mut tcy[..n11],
+        &mut tx[..n10],
+        &mut ty[..n11],
         &mut tflags[..n12],
     );
     let state = outcome.state;
     let left = left_as(
         case,
         state,
-        cx,
-        cy,
+        gx,
+        gy,
         flags,
         &tox[..n8],
         &toy[..n9],
-        &tcx[..n10],
-        &tcy[..n11],
+        &tx[..n10],
+        &ty[..n11],
         &tflags[..n12],
     );
     of_outcome(outcome).agrees(left, case)

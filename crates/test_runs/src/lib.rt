@@ -11,16 +11,16 @@ use test_one_run::agrees_in_glyph;
 
 fn agrees_from(
     case: &[u8],
-    ux: &[i32],
-    uy: &[i32],
+    gux: &[i32],
+    guy: &[i32],
     contours: &[u16],
     controls: &[i32],
     sheet: &[i32],
 ) -> bool {
-    let ox = words_of(case, 2);
-    let oy = words_of(case, 3);
-    let mut cx = words_of(case, 4);
-    let mut cy = words_of(case, 5);
+    let gox = words_of(case, 2);
+    let goy = words_of(case, 3);
+    let mut gx = words_of(case, 4);
+    let mut gy = words_of(case, 5);
     let mut flags = flags_of(case, 6);
     let n2 = length_of(case, 2, 16385);
     let n3 = length_of(case, 3, 16385);
@@ -29,22 +29,22 @@ fn agrees_from(
     let n6 = length_of(case, 6, 16385);
     agrees_in_glyph(
         case,
-        ux,
-        uy,
+        gux,
+        guy,
         contours,
         controls,
         sheet,
-        &ox[..n2],
-        &oy[..n3],
-        &mut cx[..n4],
-        &mut cy[..n5],
+        &gox[..n2],
+        &goy[..n3],
+        &mut gx[..n4],
+        &mut gy[..n5],
         &mut flags[..n6],
     )
 }
 
 pub fn agrees(case: &[u8]) -> bool {
-    let ux = words_of(case, 0);
-    let uy = words_of(case, 1);
+    let gux = words_of(case, 0);
+    let guy = words_of(case, 1);
     let contours = ends_of(case, 7);
     let controls = words_of(case, 13);
     let sheet = sheet_of(case, 14);
@@ -55,8 +55,8 @@ pub fn agrees(case: &[u8]) -> bool {
     let n14 = length_of(case, 14, 65537);
     agrees_from(
         case,
-        &ux[..n0],
-        &uy[..n1],
+        &gux[..n0],
+        &guy[..n1],
         &contours[..n7],
         &controls[..n13],
         &sheet[..n14],

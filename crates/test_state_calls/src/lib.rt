@@ -21,8 +21,8 @@ use test_compare::compare_placed;
 // ---- move_original
 fn original_agrees_over(
     case: &[u8],
-    ox: &mut [i32],
-    oy: &mut [i32],
+    gox: &mut [i32],
+    goy: &mut [i32],
     tox: &mut [i32],
     toy: &mut [i32],
 ) -> bool {
@@ -30,15 +30,15 @@ fn original_agrees_over(
     let zone = zone_of(word(case, 2));
     let at = long(case, 3);
     let distance = number(case, 8);
-    let call = direct_moves::try_move_original(s, zone, at, distance, ox, oy, tox, toy);
-    let glyph = compare_pair(case, 2, ox, oy);
+    let call = direct_moves::try_move_original(s, zone, at, distance, gox, goy, tox, toy);
+    let glyph = compare_pair(case, 2, gox, goy);
     let twilight = compare_pair(case, 8, tox, toy);
     Said::of_call(call).agrees(glyph.and(twilight), case)
 }
 
 fn original_agrees(case: &[u8]) -> bool {
-    let mut ox = words_of(case, 2);
-    let mut oy = words_of(case, 3);
+    let mut gox = words_of(case, 2);
+    let mut goy = words_of(case, 3);
     let mut tox = words_of(case, 8);
     let mut toy = words_of(case, 9);
     let n2 = length_of(case, 2, 16385);
@@ -47,8 +47,8 @@ fn original_agrees(case: &[u8]) -> bool {
     let n9 = length_of(case, 9, 16385);
     original_agrees_over(
         case,
-        &mut ox[..n2],
-        &mut oy[..n3],
+        &mut gox[..n2],
+        &mut goy[..n3],
         &mut tox[..n8],
         &mut toy[..n9],
     )
@@ -57,11 +57,11 @@ fn original_agrees(case: &[u8]) -> bool {
 // ---- move_point and move_zp2_point
 fn moved(
     case: &[u8],
-    cx: &mut [i32],
-    cy: &mut [i32],
+    gx: &mut [i32],
+    gy: &mut [i32],
     flags: &mut [u8],
-    tcx: &mut [i32],
-    tcy: &mut [i32],
+    tx: &mut [i32],
+    ty: &mut [i32],
     tflags: &mut [u8],
 ) -> Call {
     let s = state_of(case);
@@ -71,33 +71,33 @@ fn moved(
     let dx = number(case, 8);
     let dy = number(case, 9);
     if word(case, KIND) == 11 {
-        direct_moves::try_move_point(s, zone, at, dx, cx, cy, flags, tcx, tcy, tflags)
+        direct_moves::try_move_point(s, zone, at, dx, gx, gy, flags, tx, ty, tflags)
     } else {
-        direct_moves::try_move_zp2_point(s, at, dx, dy, touches, cx, cy, flags, tcx, tcy, tflags)
+        direct_moves::try_move_zp2_point(s, at, dx, dy, touches, gx, gy, flags, tx, ty, tflags)
     }
 }
 
 fn move_agrees_over(
     case: &[u8],
-    cx: &mut [i32],
-    cy: &mut [i32],
+    gx: &mut [i32],
+    gy: &mut [i32],
     flags: &mut [u8],
-    tcx: &mut [i32],
-    tcy: &mut [i32],
+    tx: &mut [i32],
+    ty: &mut [i32],
     tflags: &mut [u8],
 ) -> bool {
-    let call = moved(case, cx, cy, flags, tcx, tcy, tflags);
-    let glyph = compare_placed(case, 4, cx, cy, flags);
-    let twilight = compare_placed(case, 10, tcx, tcy, tflags);
+    let call = moved(case, gx, gy, flags, tx, ty, tflags);
+    let glyph = compare_placed(case, 4, gx, gy, flags);
+    let twilight = compare_placed(case, 10, tx, ty, tflags);
     Said::of_call(call).agrees(glyph.and(twilight), case)
 }
 
 fn move_agrees(case: &[u8]) -> bool {
-    let mut cx = words_of(case, 4);
-    let mut cy = words_of(case, 5);
+    let mut gx = words_of(case, 4);
+    let mut gy = words_of(case, 5);
     let mut flags = flags_of(case, 6);
-    let mut tcx = words_of(case, 10);
-    let mut tcy = words_of(case, 11);
+    let mut tx = words_of(case, 10);
+    let mut ty = words_of(case, 11);
     let mut tflags = flags_of(case, 12);
     let n4 = length_of(case, 4, 16385);
     let n5 = length_of(case, 5, 16385);
@@ -107,11 +107,11 @@ fn move_agrees(case: &[u8]) -> bool {
     let n12 = length_of(case, 12, 16385);
     move_agrees_over(
         case,
-        &mut cx[..n4],
-        &mut cy[..n5],
+        &mut gx[..n4],
+        &mut gy[..n5],
         &mut flags[..n6],
-        &mut tcx[..n10],
-        &mut tcy[..n11],
+        &mut tx[..n10],
+        &mut ty[..n11],
         &mut tflags[..n12],
     )
 }

@@ -32,7 +32,7 @@ original-move-of-requires c κs = tt
 apply-coords-in-requires : tie.Need-apply-coords-in-requires
 apply-coords-in-requires c κs = let t : tie.After-enum-told = search in let e = t .before .before in let s = started e in
     let a = s .args in
-    pairs-lengths (now (a .gx)) (now (a .gy)) (now (a .tx)) (now (a .ty)) (begun-fits (usableState (a .s)) (e .before .pairs-fit .ensures) (e .entry .ensures) (t .enum-told .given .1))
+    pairs-lengths (now (a .gox)) (now (a .goy)) (now (a .tox)) (now (a .toy)) (begun-fits (usableState (a .s)) (e .before .pairs-fit .ensures) (e .entry .ensures) (t .enum-told .given .1))
 
 same-length : tie.Need-same-length
 same-length c = refl
@@ -48,7 +48,7 @@ same-length-4 c = refl
 
 returns : tie.Need-returns
 returns c = let b : tie.After-begun = search in let e = b .before .before in let s = started e in let a = s .args in
-    original-begun (now (a .gx)) (now (a .gy)) (now (a .tx)) (now (a .ty)) (a .s) (a .zone) (a .at) (a .distance) (e .before .pairs-fit .ensures) (e .entry .ensures) (b .begun .given .1)
+    original-begun (now (a .gox)) (now (a .goy)) (now (a .tox)) (now (a .toy)) (a .s) (a .zone) (a .at) (a .distance) (e .before .pairs-fit .ensures) (e .entry .ensures) (b .begun .given .1)
 
 same-length-5 : tie.Need-same-length-5
 same-length-5 c = let applied : tie.After-apply-coords-in = search in search (applied .apply-coords-in .kept)
@@ -66,8 +66,8 @@ returns-2 : tie.Need-returns-2
 returns-2 c = let p : tie.After-apply-coords-in = search in let m : tie.After-original-move-of = search in
     let t : tie.After-enum-told = search in let e = t .before .before in let s = started e in let a = s .args in
     p .apply-coords-in .ensures
-    ∙ ap (λ (m : Move). shiftIn m (a .at) (now (a .gx)) (now (a .gy)) (now (a .tx)) (now (a .ty)) (a .zone)) (m .original-move-of .ensures ∙ ap (originalMoveOf (a .s .vectors)) (toZ-ofZ (s .fits .distance)))
-    ∙ original-begun (now (a .gx)) (now (a .gy)) (now (a .tx)) (now (a .ty)) (a .s) (a .zone) (a .at) (a .distance) (e .before .pairs-fit .ensures) (e .entry .ensures) (t .enum-told .given .1)
+    ∙ ap (λ (m : Move). shiftIn m (a .at) (now (a .gox)) (now (a .goy)) (now (a .tox)) (now (a .toy)) (a .zone)) (m .original-move-of .ensures ∙ ap (originalMoveOf (a .s .vectors)) (toZ-ofZ (s .fits .distance)))
+    ∙ original-begun (now (a .gox)) (now (a .goy)) (now (a .tox)) (now (a .toy)) (a .s) (a .zone) (a .at) (a .distance) (e .before .pairs-fit .ensures) (e .entry .ensures) (t .enum-told .given .1)
 
 pub try-move-original-spec : {M : Type 1} → statement M
 try-move-original-spec =

@@ -27,16 +27,16 @@ reference-of-requires c κs = tt
 
 displaced-in-requires : tie.Need-displaced-in-requires
 displaced-in-requires c κs = let e = c .before .before .before in let k = e .before in let a = k .before .before .before .args in
-    both-outlines-lengths (now (a .gox)) (now (a .goy)) (now (a .gcx)) (now (a .gcy)) (now (a .tox)) (now (a .toy)) (now (a .tcx)) (now (a .tcy)) (begun-fits (usableState (a .s)) (ap₂ (λ (x y : Bool). x && y) (k .before .outline-fits .ensures) (k .outline-fits2 .ensures)) (e .entry .ensures) (c .before .enum-told .given .1))
+    both-outlines-lengths (now (a .gox)) (now (a .goy)) (now (a .gx)) (now (a .gy)) (now (a .tox)) (now (a .toy)) (now (a .tx)) (now (a .ty)) (begun-fits (usableState (a .s)) (ap₂ (λ (x y : Bool). x && y) (k .before .outline-fits .ensures) (k .outline-fits2 .ensures)) (e .entry .ensures) (c .before .enum-told .given .1))
 
 returns : tie.Need-returns
 returns c = let b = c .before in let e = b .before .before in let k = e .before in let a = k .before .before .before .args in
-    displacement-begun (now (a .gox)) (now (a .goy)) (now (a .gcx)) (now (a .gcy)) (now (a .tox)) (now (a .toy)) (now (a .tcx)) (now (a .tcy)) (a .s) (a .opcode) (k .before .outline-fits .ensures) (k .outline-fits2 .ensures) (e .entry .ensures) (b .begun .given .1) refl
+    displacement-begun (now (a .gox)) (now (a .goy)) (now (a .gx)) (now (a .gy)) (now (a .tox)) (now (a .toy)) (now (a .tx)) (now (a .ty)) (a .s) (a .opcode) (k .before .outline-fits .ensures) (k .outline-fits2 .ensures) (e .entry .ensures) (b .begun .given .1) refl
 
 returns-2 : tie.Need-returns-2
 returns-2 c = let r = c .before in let t = r .before in let e = t .before .before in let k = e .before in let a = k .before .before .before .args in
     c .displaced-in .ensures
-    ∙ displacement-begun (now (a .gox)) (now (a .goy)) (now (a .gcx)) (now (a .gcy)) (now (a .tox)) (now (a .toy)) (now (a .tcx)) (now (a .tcy)) (a .s) (a .opcode) (k .before .outline-fits .ensures) (k .outline-fits2 .ensures) (e .entry .ensures) (t .enum-told .given .1) (r .reference-of .ensures)
+    ∙ displacement-begun (now (a .gox)) (now (a .goy)) (now (a .gx)) (now (a .gy)) (now (a .tox)) (now (a .toy)) (now (a .tx)) (now (a .ty)) (a .s) (a .opcode) (k .before .outline-fits .ensures) (k .outline-fits2 .ensures) (e .entry .ensures) (t .enum-told .given .1) (r .reference-of .ensures)
 
 pub try-point-displacement-spec : {M : Type 1} → statement M
 try-point-displacement-spec =

@@ -7,7 +7,7 @@ use lib.Signed.{leZ}
 use mir.Facts.{toZ-ofZ}
 use Rattle.int.proofs.Words.{back32}
 use Rattle.int.specs.Word.{add32}
-use Rattle.iup.specs.Contour.{displacement}
+use Rattle.iup.specs.Contour.{offset}
 use Rattle.iup.specs.Parts.{insideBy, movedBy}
 use Rattle.iup.proofs.moved.Statement.{statement}
 use Rattle.iup.proofs.moved.Tie as tie
@@ -31,14 +31,14 @@ returns : tie.Need-returns
 unfolding movedBy
 returns c = let s = c .before .before .before .before in let p = s .args .low in let q = s .args .high in
     let t : leZ (s .args .original) (p .original) ≡ true = sym (ap₂ leZ (toZ-ofZ (s .fits .original)) (back32 (p .original) (c .before .before .before .struct-told .given .1 .0 .1))) ∙ sym (c .before .before .at-most .ensures) ∙ c .before .if1 .taken in
-    rw t (back32 (c .carried .result) (c .carried .ok) ∙ c .carried .ensures ∙ ap (λ (x : ℤ). add32 x (displacement p)) (toZ-ofZ (s .fits .original)))
+    rw t (back32 (c .carried .result) (c .carried .ok) ∙ c .carried .ensures ∙ ap (λ (x : ℤ). add32 x (offset p)) (toZ-ofZ (s .fits .original)))
 
 returns-2 : tie.Need-returns-2
 unfolding movedBy
 returns-2 c = let s = c .before .before .before .before .before .before .before in let p = s .args .low in let q = s .args .high in
     let t : leZ (s .args .original) (p .original) ≡ false = sym (ap₂ leZ (toZ-ofZ (s .fits .original)) (back32 (p .original) (c .before .before .before .before .before .before .struct-told .given .1 .0 .1))) ∙ sym (c .before .before .before .before .before .at-most .ensures) ∙ c .before .before .before .before .if1 .left in
     let g : leZ (q .original) (s .args .original) ≡ true = sym (ap₂ leZ (back32 (q .original) (c .before .before .before .struct-told2 .given .1 .0 .1)) (toZ-ofZ (s .fits .original))) ∙ sym (c .before .before .at-most2 .ensures) ∙ c .before .if2 .taken in
-    rw (t, g) (back32 (c .carried2 .result) (c .carried2 .ok) ∙ c .carried2 .ensures ∙ ap (λ (x : ℤ). add32 x (displacement q)) (toZ-ofZ (s .fits .original)))
+    rw (t, g) (back32 (c .carried2 .result) (c .carried2 .ok) ∙ c .carried2 .ensures ∙ ap (λ (x : ℤ). add32 x (offset q)) (toZ-ofZ (s .fits .original)))
 
 returns-3 : tie.Need-returns-3
 unfolding movedBy

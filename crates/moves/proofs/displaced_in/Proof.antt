@@ -21,13 +21,13 @@ returns : tie.Need-returns
 unfolding displacedIn
 returns c = let e = c .before in let a = e .before .before .args in
     c .displaced-at .ensures
-    ∙ sym (ap (displacedIn (a .v) (a .p) (now (a .gox)) (now (a .goy)) (now (a .gcx)) (now (a .gcy)) (now (a .tox)) (now (a .toy)) (now (a .tcx)) (now (a .tcy))) (e .enum-told .given .1))
+    ∙ sym (ap (displacedIn (a .v) (a .p) (now (a .gox)) (now (a .goy)) (now (a .gx)) (now (a .gy)) (now (a .tox)) (now (a .toy)) (now (a .tx)) (now (a .ty))) (e .enum-told .given .1))
 
 returns-2 : tie.Need-returns-2
 unfolding displacedIn
 returns-2 c = let e = c .before in let a = e .before .before .args in
     c .displaced-at2 .ensures
-    ∙ sym (ap (displacedIn (a .v) (a .p) (now (a .gox)) (now (a .goy)) (now (a .gcx)) (now (a .gcy)) (now (a .tox)) (now (a .toy)) (now (a .tcx)) (now (a .tcy))) (e .enum-told2 .given .1))
+    ∙ sym (ap (displacedIn (a .v) (a .p) (now (a .gox)) (now (a .goy)) (now (a .gx)) (now (a .gy)) (now (a .tox)) (now (a .toy)) (now (a .tx)) (now (a .ty))) (e .enum-told2 .given .1))
 
 pub displaced-in-spec : {M : Type 1} → statement M
 displaced-in-spec =

@@ -8,14 +8,14 @@ use denote.Ref.{now}
 use lib.ListN.{length}
 use Rattle.record_run.specs.declared.Replayed.{Replayed}
 use Rattle.record_print.specs.Print.{answerLine}
-use Rattle.record_print.specs.Steps.{Put, ended}
+use Rattle.record_print.specs.Steps.{Put, endedBy}
 use Rattle.record_print.specs.Text.{decimal}
 use Rattle.record_print.proofs.Lines.{four-long, four-pieces}
 use Rattle.record_print.proofs.Puts.{put-join}
 use Rattle.record_print.proofs.put_answer.Statement.{statement}
 use Rattle.record_print.proofs.put_answer.Tie as tie
 
-long : (r : Replayed) → length (answerLine r) ≡ length (ended (decimal (r .number)) 32) + (length (ended (decimal (r .place)) 32) + (length (ended (decimal (r .lines)) 32) + length (ended (decimal (r .detail)) 10)))
+long : (r : Replayed) → length (answerLine r) ≡ length (endedBy (decimal (r .number)) 32) + (length (endedBy (decimal (r .place)) 32) + (length (endedBy (decimal (r .lines)) 32) + length (endedBy (decimal (r .detail)) 10)))
 long r = four-long (decimal (r .number)) (decimal (r .place)) (decimal (r .lines)) (decimal (r .detail))
 
 cast-put-number : tie.Need-cast-put-number

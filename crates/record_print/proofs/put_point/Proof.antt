@@ -12,9 +12,9 @@ use mir.Val.{ofZ, toZ}
 use Rattle.int.proofs.Words.{back32}
 use Rattle.int.specs.Word.{ofBits}
 use Rattle.words.specs.Lists.{word}
-use Rattle.record_layout.specs.Order.{placeOf}
+use Rattle.record_layout.specs.Order.{listPlace}
 use Rattle.record_print.specs.Print.{pointLine}
-use Rattle.record_print.specs.Steps.{Put, ended}
+use Rattle.record_print.specs.Steps.{Put, endedBy}
 use Rattle.record_print.specs.Text.{decimal, signedDecimal}
 use Rattle.record_print.proofs.Lines.{nextLine, three-long, three-pieces}
 use Rattle.record_print.proofs.Puts.{put-join}
@@ -42,10 +42,10 @@ same-line c =
     let of-x = back32 (f .from-bits .result) (f .from-bits .ok) ∙ f .from-bits .ensures ∙ ap ofBits (f .before .word .ensures ∙ ap (λ (k : ℕ). word (now (a .out)) (k + a .i)) (f .before .before .place .ensures)) in
     let of-y = back32 (g .from-bits2 .result) (g .from-bits2 .ok) ∙ g .from-bits2 .ensures ∙ ap ofBits (g .before .word2 .ensures ∙ ap (λ (k : ℕ). word (now (a .out)) (k + a .i)) (g .before .before .place2 .ensures)) in
     ap₂ (λ (p q : ℤ). pointLine p q (c .flag-at .result)) of-x of-y
-    ∙ ap (pointLine (ofBits (word (now (a .out)) (placeOf (a .l) 4 + a .i))) (ofBits (word (now (a .out)) (placeOf (a .l) 5 + a .i)))) (c .flag-at .ensures)
+    ∙ ap (pointLine (ofBits (word (now (a .out)) (listPlace (a .l) 4 + a .i))) (ofBits (word (now (a .out)) (listPlace (a .l) 5 + a .i)))) (c .flag-at .ensures)
 
 -- the line's pieces are as long as the line
-long : (c : tie.After-flag-at) → length (wanted c) ≡ length (ended (signedDecimal (x c)) 32) + (length (ended (signedDecimal (y c)) 32) + length (ended (decimal (c .flag-at .result)) 10))
+long : (c : tie.After-flag-at) → length (wanted c) ≡ length (endedBy (signedDecimal (x c)) 32) + (length (endedBy (signedDecimal (y c)) 32) + length (endedBy (decimal (c .flag-at .result)) 10))
 long c = sym (ap length (same-line c)) ∙ three-long (signedDecimal (x c)) (signedDecimal (y c)) (decimal (c .flag-at .result))
 
 place-requires : tie.Need-place-requires

@@ -7,7 +7,7 @@ use borrow.Author.Needs.{needs}
 use denote.Ref.{now}
 use lib.ListN.{length, length-append, length-set, set}
 use mir.Facts.{toZ-ofZ}
-use Rattle.record_print.specs.Steps.{Put, ended}
+use Rattle.record_print.specs.Steps.{Put, endedBy}
 use Rattle.record_print.specs.Text.{signedDecimal}
 use Rattle.record_print.proofs.Puts.{a-sign, no-sign, put-join}
 use Rattle.record_print.proofs.put_signed.Statement.{statement}
@@ -25,7 +25,7 @@ put-number-requires c κs =
     let n = m .before .before in
     let s = n .before .before in
     let same = no-sign (toZ-ofZ (s .fits .x)) (n .non-negative .ensures) (m .before .if1 .taken) (m .magnitude .ensures) in
-    subst (λ (t : List ℕ). s .args .at + length (ended t (s .args .end)) ≤ length (now (s .args .text))) same (s .pre)
+    subst (λ (t : List ℕ). s .args .at + length (endedBy t (s .args .end)) ≤ length (now (s .args .text))) same (s .pre)
 
 slice-write-text : tie.Need-slice-write-text
 slice-write-text c = let s = c .before .before .before in omega (arith, s .pre, length-append (signedDecimal (s .args .x)) (s .args .end ∷ []))
@@ -42,7 +42,7 @@ put-number-requires-2 c κs =
     let n = m .before .before in
     let s = n .before .before in
     let same = a-sign (toZ-ofZ (s .fits .x)) (n .non-negative .ensures) (m .before .if1 .left) (m .magnitude2 .ensures) in
-    let room = subst (λ (t : List ℕ). s .args .at + length (ended t (s .args .end)) ≤ length (now (s .args .text))) same (s .pre) in
+    let room = subst (λ (t : List ℕ). s .args .at + length (endedBy t (s .args .end)) ≤ length (now (s .args .text))) same (s .pre) in
     omega (arith, room, length-set (now (s .args .text)) (s .args .at) 45)
 
 same-length : tie.Need-same-length
@@ -55,7 +55,7 @@ returns c =
     let n = m .before .before in
     let s = n .before .before in
     let same = no-sign (toZ-ofZ (s .fits .x)) (n .non-negative .ensures) (m .before .if1 .taken) (m .magnitude .ensures) in
-    subst (λ (t : List ℕ). Put (ended t (s .args .end)) (s .args .at) (p .put-number .result) (now (s .args .text)) (p .put-number .last .1 .1 .0)) (sym same) (p .put-number .ensures)
+    subst (λ (t : List ℕ). Put (endedBy t (s .args .end)) (s .args .at) (p .put-number .result) (now (s .args .text)) (p .put-number .last .1 .1 .0)) (sym same) (p .put-number .ensures)
 
 same-length-2 : tie.Need-same-length-2
 same-length-2 c =
@@ -71,7 +71,7 @@ returns-2 c =
     let s = n .before .before in
     let same = a-sign (toZ-ofZ (s .fits .x)) (n .non-negative .ensures) (m .before .if1 .left) (m .magnitude2 .ensures) in
     let sign : Put (45 ∷ []) (s .args .at) (s .args .at + 1) (now (s .args .text)) (set (now (s .args .text)) (s .args .at) 45) = record { behind = refl; there = refl } in
-    subst (λ (t : List ℕ). Put (ended t (s .args .end)) (s .args .at) (p .put-number2 .result) (now (s .args .text)) (p .put-number2 .last .1 .1 .0)) (sym same)
+    subst (λ (t : List ℕ). Put (endedBy t (s .args .end)) (s .args .at) (p .put-number2 .result) (now (s .args .text)) (p .put-number2 .last .1 .1 .0)) (sym same)
     (put-join sign (p .put-number2 .ensures))
 
 pub put-signed-spec : {M : Type 1} → statement M

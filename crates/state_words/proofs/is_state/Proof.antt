@@ -9,19 +9,19 @@ use denote.Ref.{now}
 use lib.Dec.{leb}
 use lib.ListN.{drop, length, take}
 use Rattle.words.specs.Lists.{allAtMost}
-use Rattle.state_words.specs.Words.{isState, stateSize, wordAt}
+use Rattle.state_words.specs.Words.{isState, stateSize, stateWord}
 use Rattle.state_words.proofs.is_state.Tie as tie
 use Rattle.state_words.proofs.is_state.Statement.{statement}
 
 -- ---- by the number of words
 too-many-or-few : (ws : List ℕ) → (length ws ≡ stateSize → ⊥) → false ≡ isState ws
 unfolding isState
-too-many-or-few ws h = sym (ap (λ (b : Bool). b && leb (wordAt ws 6) 7 && allAtMost 1 (take 8 (drop 17 ws))) (ne-eqb (length ws) stateSize h))
+too-many-or-few ws h = sym (ap (λ (b : Bool). b && leb (stateWord ws 6) 7 && allAtMost 1 (take 8 (drop 17 ws))) (ne-eqb (length ws) stateSize h))
 
-as-many : (ws : List ℕ) {a b : Bool} → length ws ≡ stateSize → a ≡ leb (wordAt ws 6) 7 → b ≡ allAtMost 1 (take 8 (drop 17 ws)) → a && b ≡ isState ws
+as-many : (ws : List ℕ) {a b : Bool} → length ws ≡ stateSize → a ≡ leb (stateWord ws 6) 7 → b ≡ allAtMost 1 (take 8 (drop 17 ws)) → a && b ≡ isState ws
 unfolding isState
 as-many ws h ea eb =
-    ap₂ (λ (x y : Bool). x && y) ea eb ∙ sym (ap (λ (b : Bool). b && leb (wordAt ws 6) 7 && allAtMost 1 (take 8 (drop 17 ws))) (eq-eqb (length ws) stateSize h))
+    ap₂ (λ (x y : Bool). x && y) ea eb ∙ sym (ap (λ (b : Bool). b && leb (stateWord ws 6) 7 && allAtMost 1 (take 8 (drop 17 ws))) (eq-eqb (length ws) stateSize h))
 
 returns : tie.Need-returns
 returns c = too-many-or-few (now (c .before .before .args .words)) (c .if1 .taken)

@@ -30,26 +30,26 @@ length-of-requires-3 c κs = search needs
 length-of-requires-4 : tie.Need-length-of-requires-4
 length-of-requires-4 c κs = search needs
 
-array-share-prefix-ox : tie.Need-array-share-prefix-ox
-array-share-prefix-ox c = search needs
+array-share-prefix-gox : tie.Need-array-share-prefix-gox
+array-share-prefix-gox c = search needs
 
 slice-aggregate-displaced-with : tie.Need-slice-aggregate-displaced-with
 slice-aggregate-displaced-with c = sym (length-take-le _ _ (omega arith))
 
-array-share-prefix-oy : tie.Need-array-share-prefix-oy
-array-share-prefix-oy c = search needs
+array-share-prefix-goy : tie.Need-array-share-prefix-goy
+array-share-prefix-goy c = search needs
 
 slice-aggregate-displaced-with-2 : tie.Need-slice-aggregate-displaced-with-2
 slice-aggregate-displaced-with-2 c = sym (length-take-le _ _ (omega arith))
 
-array-share-prefix-cx : tie.Need-array-share-prefix-cx
-array-share-prefix-cx c = search needs
+array-share-prefix-gx : tie.Need-array-share-prefix-gx
+array-share-prefix-gx c = search needs
 
 slice-aggregate-displaced-with-3 : tie.Need-slice-aggregate-displaced-with-3
 slice-aggregate-displaced-with-3 c = sym (length-take-le _ _ (omega arith))
 
-array-share-prefix-cy : tie.Need-array-share-prefix-cy
-array-share-prefix-cy c = search needs
+array-share-prefix-gy : tie.Need-array-share-prefix-gy
+array-share-prefix-gy c = search needs
 
 slice-aggregate-displaced-with-4 : tie.Need-slice-aggregate-displaced-with-4
 slice-aggregate-displaced-with-4 c = sym (length-take-le _ _ (omega arith))
@@ -72,13 +72,13 @@ displaced-spec =
     length-of-requires-2
     length-of-requires-3
     length-of-requires-4
-    array-share-prefix-ox
+    array-share-prefix-gox
     slice-aggregate-displaced-with
-    array-share-prefix-oy
+    array-share-prefix-goy
     slice-aggregate-displaced-with-2
-    array-share-prefix-cx
+    array-share-prefix-gx
     slice-aggregate-displaced-with-3
-    array-share-prefix-cy
+    array-share-prefix-gy
     slice-aggregate-displaced-with-4
     displaced-with-requires
     returns)

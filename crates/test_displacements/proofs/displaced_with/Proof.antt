@@ -42,14 +42,14 @@ array-share-prefix-toy c = search needs
 slice-aggregate-displaced-from-2 : tie.Need-slice-aggregate-displaced-from-2
 slice-aggregate-displaced-from-2 c = sym (length-take-le _ _ (omega arith))
 
-array-share-prefix-tcx : tie.Need-array-share-prefix-tcx
-array-share-prefix-tcx c = search needs
+array-share-prefix-tx : tie.Need-array-share-prefix-tx
+array-share-prefix-tx c = search needs
 
 slice-aggregate-displaced-from-3 : tie.Need-slice-aggregate-displaced-from-3
 slice-aggregate-displaced-from-3 c = sym (length-take-le _ _ (omega arith))
 
-array-share-prefix-tcy : tie.Need-array-share-prefix-tcy
-array-share-prefix-tcy c = search needs
+array-share-prefix-ty : tie.Need-array-share-prefix-ty
+array-share-prefix-ty c = search needs
 
 slice-aggregate-displaced-from-4 : tie.Need-slice-aggregate-displaced-from-4
 slice-aggregate-displaced-from-4 c = sym (length-take-le _ _ (omega arith))
@@ -76,9 +76,9 @@ displaced-with-spec =
     slice-aggregate-displaced-from
     array-share-prefix-toy
     slice-aggregate-displaced-from-2
-    array-share-prefix-tcx
+    array-share-prefix-tx
     slice-aggregate-displaced-from-3
-    array-share-prefix-tcy
+    array-share-prefix-ty
     slice-aggregate-displaced-from-4
     displaced-from-requires
     returns)

@@ -21,11 +21,11 @@ tox-left r = r .run .last .1 .1 .1 .1 .1 .1 .1 .1 .1 .1 .1 .1 .1 .0
 abbrev toy-left : tie.After-run → List ℤ
 toy-left r = r .run .last .1 .1 .1 .1 .1 .1 .1 .1 .1 .1 .1 .1 .1 .1 .0
 
-abbrev tcx-left : tie.After-run → List ℤ
-tcx-left r = r .run .last .1 .1 .1 .1 .1 .1 .1 .1 .1 .1 .1 .1 .1 .1 .1 .0
+abbrev tx-left : tie.After-run → List ℤ
+tx-left r = r .run .last .1 .1 .1 .1 .1 .1 .1 .1 .1 .1 .1 .1 .1 .1 .1 .0
 
-abbrev tcy-left : tie.After-run → List ℤ
-tcy-left r = r .run .last .1 .1 .1 .1 .1 .1 .1 .1 .1 .1 .1 .1 .1 .1 .1 .1 .0
+abbrev ty-left : tie.After-run → List ℤ
+ty-left r = r .run .last .1 .1 .1 .1 .1 .1 .1 .1 .1 .1 .1 .1 .1 .1 .1 .1 .0
 
 abbrev tflags-left : tie.After-run → List ℕ
 tflags-left r = r .run .last .1 .1 .1 .1 .1 .1 .1 .1 .1 .1 .1 .1 .1 .1 .1 .1 .1 .0
@@ -37,11 +37,11 @@ tox-kept r = r .run .kept .1 .1 .1 .1 .1 .1 .1 .1 .1 .1 .1 .1 .1 .0
 toy-kept : (r : tie.After-run) → let n : tie.After-length-of2 = search in let l : tie.After-words-of2 = search in length (toy-left r) ≡ length (take (n .length-of2 .result) (l .words-of2 .result))
 toy-kept r = r .run .kept .1 .1 .1 .1 .1 .1 .1 .1 .1 .1 .1 .1 .1 .1 .0
 
-tcx-kept : (r : tie.After-run) → let n : tie.After-length-of3 = search in let l : tie.After-words-of3 = search in length (tcx-left r) ≡ length (take (n .length-of3 .result) (l .words-of3 .result))
-tcx-kept r = r .run .kept .1 .1 .1 .1 .1 .1 .1 .1 .1 .1 .1 .1 .1 .1 .1 .0
+tx-kept : (r : tie.After-run) → let n : tie.After-length-of3 = search in let l : tie.After-words-of3 = search in length (tx-left r) ≡ length (take (n .length-of3 .result) (l .words-of3 .result))
+tx-kept r = r .run .kept .1 .1 .1 .1 .1 .1 .1 .1 .1 .1 .1 .1 .1 .1 .1 .0
 
-tcy-kept : (r : tie.After-run) → let n : tie.After-length-of4 = search in let l : tie.After-words-of4 = search in length (tcy-left r) ≡ length (take (n .length-of4 .result) (l .words-of4 .result))
-tcy-kept r = r .run .kept .1 .1 .1 .1 .1 .1 .1 .1 .1 .1 .1 .1 .1 .1 .1 .1 .0
+ty-kept : (r : tie.After-run) → let n : tie.After-length-of4 = search in let l : tie.After-words-of4 = search in length (ty-left r) ≡ length (take (n .length-of4 .result) (l .words-of4 .result))
+ty-kept r = r .run .kept .1 .1 .1 .1 .1 .1 .1 .1 .1 .1 .1 .1 .1 .1 .1 .1 .0
 
 tflags-kept : (r : tie.After-run) → let n : tie.After-length-of5 = search in let l : tie.After-flags-of = search in length (tflags-left r) ≡ length (take (n .length-of5 .result) (l .flags-of .result))
 tflags-kept r = r .run .kept .1 .1 .1 .1 .1 .1 .1 .1 .1 .1 .1 .1 .1 .1 .1 .1 .1 .0
@@ -97,14 +97,14 @@ array-borrow-prefix-toy c = let n : tie.After-length-of2 = search in let l : tie
 slice-aggregate-run-2 : tie.Need-slice-aggregate-run-2
 slice-aggregate-run-2 c = let n : tie.After-length-of2 = search in let l : tie.After-words-of2 = search in sym (length-take-le _ _ (within (n .length-of2 .ensures) (l .words-of2 .ensures)))
 
-array-borrow-prefix-tcx : tie.Need-array-borrow-prefix-tcx
-array-borrow-prefix-tcx c = let n : tie.After-length-of3 = search in let l : tie.After-words-of3 = search in within (n .length-of3 .ensures) (l .words-of3 .ensures)
+array-borrow-prefix-tx : tie.Need-array-borrow-prefix-tx
+array-borrow-prefix-tx c = let n : tie.After-length-of3 = search in let l : tie.After-words-of3 = search in within (n .length-of3 .ensures) (l .words-of3 .ensures)
 
 slice-aggregate-run-3 : tie.Need-slice-aggregate-run-3
 slice-aggregate-run-3 c = let n : tie.After-length-of3 = search in let l : tie.After-words-of3 = search in sym (length-take-le _ _ (within (n .length-of3 .ensures) (l .words-of3 .ensures)))
 
-array-borrow-prefix-tcy : tie.Need-array-borrow-prefix-tcy
-array-borrow-prefix-tcy c = let n : tie.After-length-of4 = search in let l : tie.After-words-of4 = search in within (n .length-of4 .ensures) (l .words-of4 .ensures)
+array-borrow-prefix-ty : tie.Need-array-borrow-prefix-ty
+array-borrow-prefix-ty c = let n : tie.After-length-of4 = search in let l : tie.After-words-of4 = search in within (n .length-of4 .ensures) (l .words-of4 .ensures)
 
 slice-aggregate-run-4 : tie.Need-slice-aggregate-run-4
 slice-aggregate-run-4 c = let n : tie.After-length-of4 = search in let l : tie.After-words-of4 = search in sym (length-take-le _ _ (within (n .length-of4 .ensures) (l .words-of4 .ensures)))
@@ -130,17 +130,17 @@ array-share-prefix-toy c = let r : tie.After-run = search in let n : tie.After-l
 slice-aggregate-left-as-2 : tie.Need-slice-aggregate-left-as-2
 slice-aggregate-left-as-2 c = let r : tie.After-run = search in let n : tie.After-length-of2 = search in let l : tie.After-words-of2 = search in sym (length-take-le _ _ (within (n .length-of2 .ensures) (l .words-of2 .ensures ∙ sym (same-len (n .length-of2 .result) (l .words-of2 .result) (toy-left r) (toy-kept r)))))
 
-array-share-prefix-tcx : tie.Need-array-share-prefix-tcx
-array-share-prefix-tcx c = let r : tie.After-run = search in let n : tie.After-length-of3 = search in let l : tie.After-words-of3 = search in within (n .length-of3 .ensures) (l .words-of3 .ensures ∙ sym (same-len (n .length-of3 .result) (l .words-of3 .result) (tcx-left r) (tcx-kept r)))
+array-share-prefix-tx : tie.Need-array-share-prefix-tx
+array-share-prefix-tx c = let r : tie.After-run = search in let n : tie.After-length-of3 = search in let l : tie.After-words-of3 = search in within (n .length-of3 .ensures) (l .words-of3 .ensures ∙ sym (same-len (n .length-of3 .result) (l .words-of3 .result) (tx-left r) (tx-kept r)))
 
 slice-aggregate-left-as-3 : tie.Need-slice-aggregate-left-as-3
-slice-aggregate-left-as-3 c = let r : tie.After-run = search in let n : tie.After-length-of3 = search in let l : tie.After-words-of3 = search in sym (length-take-le _ _ (within (n .length-of3 .ensures) (l .words-of3 .ensures ∙ sym (same-len (n .length-of3 .result) (l .words-of3 .result) (tcx-left r) (tcx-kept r)))))
+slice-aggregate-left-as-3 c = let r : tie.After-run = search in let n : tie.After-length-of3 = search in let l : tie.After-words-of3 = search in sym (length-take-le _ _ (within (n .length-of3 .ensures) (l .words-of3 .ensures ∙ sym (same-len (n .length-of3 .result) (l .words-of3 .result) (tx-left r) (tx-kept r)))))
 
-array-share-prefix-tcy : tie.Need-array-share-prefix-tcy
-array-share-prefix-tcy c = let r : tie.After-run = search in let n : tie.After-length-of4 = search in let l : tie.After-words-of4 = search in within (n .length-of4 .ensures) (l .words-of4 .ensures ∙ sym (same-len (n .length-of4 .result) (l .words-of4 .result) (tcy-left r) (tcy-kept r)))
+array-share-prefix-ty : tie.Need-array-share-prefix-ty
+array-share-prefix-ty c = let r : tie.After-run = search in let n : tie.After-length-of4 = search in let l : tie.After-words-of4 = search in within (n .length-of4 .ensures) (l .words-of4 .ensures ∙ sym (same-len (n .length-of4 .result) (l .words-of4 .result) (ty-left r) (ty-kept r)))
 
 slice-aggregate-left-as-4 : tie.Need-slice-aggregate-left-as-4
-slice-aggregate-left-as-4 c = let r : tie.After-run = search in let n : tie.After-length-of4 = search in let l : tie.After-words-of4 = search in sym (length-take-le _ _ (within (n .length-of4 .ensures) (l .words-of4 .ensures ∙ sym (same-len (n .length-of4 .result) (l .words-of4 .result) (tcy-left r) (tcy-kept r)))))
+slice-aggregate-left-as-4 c = let r : tie.After-run = search in let n : tie.After-length-of4 = search in let l : tie.After-words-of4 = search in sym (length-take-le _ _ (within (n .length-of4 .ensures) (l .words-of4 .ensures ∙ sym (same-len (n .length-of4 .result) (l .words-of4 .result) (ty-left r) (ty-kept r)))))
 
 array-share-prefix-tflags : tie.Need-array-share-prefix-tflags
 array-share-prefix-tflags c = let r : tie.After-run = search in let n : tie.After-length-of5 = search in let l : tie.After-flags-of = search in within (n .length-of5 .ensures) (l .flags-of .ensures ∙ sym (same-len (n .length-of5 .result) (l .flags-of .result) (tflags-left r) (tflags-kept r)))
@@ -190,9 +190,9 @@ agrees-in-glyph-spec =
     slice-aggregate-run
     array-borrow-prefix-toy
     slice-aggregate-run-2
-    array-borrow-prefix-tcx
+    array-borrow-prefix-tx
     slice-aggregate-run-3
-    array-borrow-prefix-tcy
+    array-borrow-prefix-ty
     slice-aggregate-run-4
     array-borrow-prefix-tflags
     slice-aggregate-run-5
@@ -201,9 +201,9 @@ agrees-in-glyph-spec =
     slice-aggregate-left-as
     array-share-prefix-toy
     slice-aggregate-left-as-2
-    array-share-prefix-tcx
+    array-share-prefix-tx
     slice-aggregate-left-as-3
-    array-share-prefix-tcy
+    array-share-prefix-ty
     slice-aggregate-left-as-4
     array-share-prefix-tflags
     slice-aggregate-left-as-5

@@ -36,14 +36,14 @@ length-of-requires-4 c κs = search needs
 length-of-requires-5 : tie.Need-length-of-requires-5
 length-of-requires-5 c κs = search needs
 
-array-share-prefix-ux : tie.Need-array-share-prefix-ux
-array-share-prefix-ux c = search needs
+array-share-prefix-gux : tie.Need-array-share-prefix-gux
+array-share-prefix-gux c = search needs
 
 slice-aggregate-agrees-from : tie.Need-slice-aggregate-agrees-from
 slice-aggregate-agrees-from c = sym (length-take-le _ _ (omega arith))
 
-array-share-prefix-uy : tie.Need-array-share-prefix-uy
-array-share-prefix-uy c = search needs
+array-share-prefix-guy : tie.Need-array-share-prefix-guy
+array-share-prefix-guy c = search needs
 
 slice-aggregate-agrees-from-2 : tie.Need-slice-aggregate-agrees-from-2
 slice-aggregate-agrees-from-2 c = sym (length-take-le _ _ (omega arith))
@@ -86,9 +86,9 @@ agrees-spec =
     length-of-requires-3
     length-of-requires-4
     length-of-requires-5
-    array-share-prefix-ux
+    array-share-prefix-gux
     slice-aggregate-agrees-from
-    array-share-prefix-uy
+    array-share-prefix-guy
     slice-aggregate-agrees-from-2
     array-share-prefix-contours
     slice-aggregate-agrees-from-3

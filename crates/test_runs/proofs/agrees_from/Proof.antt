@@ -36,26 +36,26 @@ length-of-requires-4 c κs = search needs
 length-of-requires-5 : tie.Need-length-of-requires-5
 length-of-requires-5 c κs = search needs
 
-array-share-prefix-ox : tie.Need-array-share-prefix-ox
-array-share-prefix-ox c = search needs
+array-share-prefix-gox : tie.Need-array-share-prefix-gox
+array-share-prefix-gox c = search needs
 
 slice-aggregate-agrees-in-glyph : tie.Need-slice-aggregate-agrees-in-glyph
 slice-aggregate-agrees-in-glyph c = sym (length-take-le _ _ (omega arith))
 
-array-share-prefix-oy : tie.Need-array-share-prefix-oy
-array-share-prefix-oy c = search needs
+array-share-prefix-goy : tie.Need-array-share-prefix-goy
+array-share-prefix-goy c = search needs
 
 slice-aggregate-agrees-in-glyph-2 : tie.Need-slice-aggregate-agrees-in-glyph-2
 slice-aggregate-agrees-in-glyph-2 c = sym (length-take-le _ _ (omega arith))
 
-array-borrow-prefix-cx : tie.Need-array-borrow-prefix-cx
-array-borrow-prefix-cx c = search needs
+array-borrow-prefix-gx : tie.Need-array-borrow-prefix-gx
+array-borrow-prefix-gx c = search needs
 
 slice-aggregate-agrees-in-glyph-3 : tie.Need-slice-aggregate-agrees-in-glyph-3
 slice-aggregate-agrees-in-glyph-3 c = sym (length-take-le _ _ (omega arith))
 
-array-borrow-prefix-cy : tie.Need-array-borrow-prefix-cy
-array-borrow-prefix-cy c = search needs
+array-borrow-prefix-gy : tie.Need-array-borrow-prefix-gy
+array-borrow-prefix-gy c = search needs
 
 slice-aggregate-agrees-in-glyph-4 : tie.Need-slice-aggregate-agrees-in-glyph-4
 slice-aggregate-agrees-in-glyph-4 c = sym (length-take-le _ _ (omega arith))
@@ -86,13 +86,13 @@ agrees-from-spec =
     length-of-requires-3
     length-of-requires-4
     length-of-requires-5
-    array-share-prefix-ox
+    array-share-prefix-gox
     slice-aggregate-agrees-in-glyph
-    array-share-prefix-oy
+    array-share-prefix-goy
     slice-aggregate-agrees-in-glyph-2
-    array-borrow-prefix-cx
+    array-borrow-prefix-gx
     slice-aggregate-agrees-in-glyph-3
-    array-borrow-prefix-cy
+    array-borrow-prefix-gy
     slice-aggregate-agrees-in-glyph-4
     array-borrow-prefix-flags
     slice-aggregate-agrees-in-glyph-5

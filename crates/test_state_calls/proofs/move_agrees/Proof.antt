@@ -42,14 +42,14 @@ length-of-requires-5 c κs = search needs
 length-of-requires-6 : tie.Need-length-of-requires-6
 length-of-requires-6 c κs = search needs
 
-array-borrow-prefix-cx : tie.Need-array-borrow-prefix-cx
-array-borrow-prefix-cx c = search needs
+array-borrow-prefix-gx : tie.Need-array-borrow-prefix-gx
+array-borrow-prefix-gx c = search needs
 
 slice-aggregate-move-agrees-over : tie.Need-slice-aggregate-move-agrees-over
 slice-aggregate-move-agrees-over c = sym (length-take-le _ _ (omega arith))
 
-array-borrow-prefix-cy : tie.Need-array-borrow-prefix-cy
-array-borrow-prefix-cy c = search needs
+array-borrow-prefix-gy : tie.Need-array-borrow-prefix-gy
+array-borrow-prefix-gy c = search needs
 
 slice-aggregate-move-agrees-over-2 : tie.Need-slice-aggregate-move-agrees-over-2
 slice-aggregate-move-agrees-over-2 c = sym (length-take-le _ _ (omega arith))
@@ -60,14 +60,14 @@ array-borrow-prefix-flags c = search needs
 slice-aggregate-move-agrees-over-3 : tie.Need-slice-aggregate-move-agrees-over-3
 slice-aggregate-move-agrees-over-3 c = sym (length-take-le _ _ (omega arith))
 
-array-borrow-prefix-tcx : tie.Need-array-borrow-prefix-tcx
-array-borrow-prefix-tcx c = search needs
+array-borrow-prefix-tx : tie.Need-array-borrow-prefix-tx
+array-borrow-prefix-tx c = search needs
 
 slice-aggregate-move-agrees-over-4 : tie.Need-slice-aggregate-move-agrees-over-4
 slice-aggregate-move-agrees-over-4 c = sym (length-take-le _ _ (omega arith))
 
-array-borrow-prefix-tcy : tie.Need-array-borrow-prefix-tcy
-array-borrow-prefix-tcy c = search needs
+array-borrow-prefix-ty : tie.Need-array-borrow-prefix-ty
+array-borrow-prefix-ty c = search needs
 
 slice-aggregate-move-agrees-over-5 : tie.Need-slice-aggregate-move-agrees-over-5
 slice-aggregate-move-agrees-over-5 c = sym (length-take-le _ _ (omega arith))
@@ -100,15 +100,15 @@ move-agrees-spec =
     length-of-requires-4
     length-of-requires-5
     length-of-requires-6
-    array-borrow-prefix-cx
+    array-borrow-prefix-gx
     slice-aggregate-move-agrees-over
-    array-borrow-prefix-cy
+    array-borrow-prefix-gy
     slice-aggregate-move-agrees-over-2
     array-borrow-prefix-flags
     slice-aggregate-move-agrees-over-3
-    array-borrow-prefix-tcx
+    array-borrow-prefix-tx
     slice-aggregate-move-agrees-over-4
-    array-borrow-prefix-tcy
+    array-borrow-prefix-ty
     slice-aggregate-move-agrees-over-5
     array-borrow-prefix-tflags
     slice-aggregate-move-agrees-over-6

@@ -30,14 +30,14 @@ length-of-requires-3 c κs = search needs
 length-of-requires-4 : tie.Need-length-of-requires-4
 length-of-requires-4 c κs = search needs
 
-array-borrow-prefix-ox : tie.Need-array-borrow-prefix-ox
-array-borrow-prefix-ox c = search needs
+array-borrow-prefix-gox : tie.Need-array-borrow-prefix-gox
+array-borrow-prefix-gox c = search needs
 
 slice-aggregate-original-agrees-over : tie.Need-slice-aggregate-original-agrees-over
 slice-aggregate-original-agrees-over c = sym (length-take-le _ _ (omega arith))
 
-array-borrow-prefix-oy : tie.Need-array-borrow-prefix-oy
-array-borrow-prefix-oy c = search needs
+array-borrow-prefix-goy : tie.Need-array-borrow-prefix-goy
+array-borrow-prefix-goy c = search needs
 
 slice-aggregate-original-agrees-over-2 : tie.Need-slice-aggregate-original-agrees-over-2
 slice-aggregate-original-agrees-over-2 c = sym (length-take-le _ _ (omega arith))
@@ -72,9 +72,9 @@ original-agrees-spec =
     length-of-requires-2
     length-of-requires-3
     length-of-requires-4
-    array-borrow-prefix-ox
+    array-borrow-prefix-gox
     slice-aggregate-original-agrees-over
-    array-borrow-prefix-oy
+    array-borrow-prefix-goy
     slice-aggregate-original-agrees-over-2
     array-borrow-prefix-tox
     slice-aggregate-original-agrees-over-3
