@@ -47,8 +47,14 @@ enum taleviqa_state_word {
     TALEVIQA_DID_IUP_X = 23,
     TALEVIQA_DID_IUP_Y = 24,
     TALEVIQA_CUT_IN = 25, /* control value cut-in, in 64ths of a pixel */
-    TALEVIQA_STATE_WORDS = 26
+    TALEVIQA_WRAPPED_ROUNDINGS = 26, /* roundings of MDAP[1] and MIAP[1] that went past 32 bits on their way; stops at 4294967295 */
+    /* How many words a state has, no more and no fewer. A caller that was built when the state had 26, without the count of wrapped roundings, is
+     * refused with 16 on every call: nothing is changed but the answer, until it is built with this header. */
+    TALEVIQA_STATE_WORDS = 27
 };
+
+/* The edition of the record that holds these words; edition 1 has all but the last, which is then 0. */
+enum { TALEVIQA_RECORD_EDITION = 2 };
 
 enum taleviqa_round_mode {
     TALEVIQA_GRID = 0,
@@ -63,7 +69,7 @@ enum taleviqa_round_mode {
 
 /* The state that a glyph starts with: uint32_t state[TALEVIQA_STATE_WORDS] = TALEVIQA_FRESH_STATE; */
 #define TALEVIQA_FRESH_STATE \
-    { 0x4000, 0, 0x4000, 0, 0x4000, 0, TALEVIQA_GRID, 0, 0, 64, 0, 0, 0, 0, 0, 0, 1, 1, 1, 1, 0, 0, 0, 0, 0, 68 }
+    { 0x4000, 0, 0x4000, 0, 0x4000, 0, TALEVIQA_GRID, 0, 0, 64, 0, 0, 0, 0, 0, 0, 1, 1, 1, 1, 0, 0, 0, 0, 0, 68, 0 }
 
 /* What the call says: the places of the answer. */
 enum taleviqa_answer_word {

@@ -1,5 +1,6 @@
 //! Lays out the Rust's module tree in OUT_DIR: the files of docs/src as they
-//! are, the missing ones from shims/, and the one patch in engine/mod.rs.
+//! are, the missing ones from shims/, and the two patches: one in engine/mod.rs,
+//! and a line in round.rs that reports each rounding and changes nothing.
 
 use std::{
     env, fs,
@@ -31,6 +32,19 @@ const OWN_RULE: &str = "        self.cleartype.is_native_enhanced()
 /// The host's value decides alone.
 const HOST_RULE: &str = "        self.cleartype.is_native_enhanced()\n";
 
+/// How the Rust's rounding ends.
+const ROUNDED: &str = "            Off => distance,
+        };
+        F26Dot6::from_bits(result)
+";
+
+/// The same, with the call and its number told to the door.
+const ROUNDED_AND_TOLD: &str = "            Off => distance,
+        };
+        super::engine::door::tell(self, distance, result);
+        F26Dot6::from_bits(result)
+";
+
 /// Lets the driver reach the engine's private fields; nothing above it changes.
 const DOOR: &str = "\npub mod door;\n";
 
@@ -39,7 +53,17 @@ fn main() {
     let out = PathBuf::from(env::var("OUT_DIR").unwrap()).join("hint");
     copy_rust_files(&hint, &out);
     copy_rust_files(&hint.join("engine"), &out.join("engine"));
-    patch_engine(&out.join("engine/mod.rs"));
+    patch(
+        &out.join("engine/mod.rs"),
+        "the rule for native ClearType x",
+        [OWN_RULE, HOST_RULE],
+    );
+    append(&out.join("engine/mod.rs"), DOOR);
+    patch(
+        &out.join("round.rs"),
+        "the end of the rounding",
+        [ROUNDED, ROUNDED_AND_TOLD],
+    );
     refuse_known_shims(&hint);
     for name in SHIMS {
         add_shim(name, &out.join(name));
@@ -74,12 +98,17 @@ fn copy_rust_files(from: &Path, to: &Path) {
     }
 }
 
-fn patch_engine(path: &Path) {
+fn patch(path: &Path, what: &str, [old, new]: [&str; 2]) {
     let text = fs::read_to_string(path).unwrap();
-    if text.matches(OWN_RULE).count() != 1 {
-        panic!("engine/mod.rs no longer has the rule for native ClearType x that is patched");
+    if text.matches(old).count() != 1 {
+        panic!("{} no longer has {what} that is patched", path.display());
     }
-    fs::write(path, text.replace(OWN_RULE, HOST_RULE) + DOOR).unwrap();
+    fs::write(path, text.replace(old, new)).unwrap();
+}
+
+fn append(path: &Path, more: &str) {
+    let text = fs::read_to_string(path).unwrap();
+    fs::write(path, text + more).unwrap();
 }
 
 fn add_shim(name: &str, to: &Path) {

@@ -4,9 +4,10 @@ import struct
 
 from .calls import Bad
 
-STATE_WORDS = 26
+# words of state by edition; the second has the count of wrapped roundings as its last one
+STATE_WORDS = {1: 26, 2: 27}
+EDITION = 2  # the one that is written
 TRAILER_WORDS = 8
-EDITION = 1
 MOST_BYTES = 24 * 1024
 # one byte more than a record may have, so that a longer one is seen to be too long
 READ_BYTES = MOST_BYTES + 1
@@ -32,7 +33,7 @@ MEANINGS = {
     12: "a contour that zp2's zone doesn't have; the detail is its number. Correct the SHC line, or clear the fact pedantic: then such a line does nothing",
     13: "SHPIX under backward compatibility. Take the line out, or clear that fact",
     15: "the record is refused: its sum is not that of its words, so something in it has changed",
-    16: "the record is refused: its length, its trailer or a word is out of range, so this is no record of edition 1 or it is damaged",
+    16: "the record is refused: its length, its trailer or a word is out of range, so this is no record of edition 1 or 2, or it is damaged",
     17: "the record is refused: it has more than 24 KiB",
 }
 
@@ -63,7 +64,7 @@ def fresh():
     """What a record holds of a glyph that starts: the fresh state, no points and an empty sheet."""
     return {
         "vectors": [16384, 0] * 3, "round": [0, 0, 0, 64], "references": [0, 0, 0], "loop": 1, "pointers": [1, 1, 1],
-        "facts": [0] * 5, "cut-in": 68, **{name: [] for name in LISTS},
+        "facts": [0] * 5, "cut-in": 68, "wrapped": 0, "edition": EDITION, **{name: [] for name in LISTS},
     }
 
 
@@ -71,11 +72,12 @@ def to_bytes(held):
     words = held["vectors"] + held["round"]
     for reference in held["references"]:
         words += [reference & 0xFFFFFFFF, reference >> 32]
-    words = words + [held["loop"]] + held["pointers"] + held["facts"] + [held["cut-in"]]
+    words = words + [held["loop"]] + held["pointers"] + held["facts"] + [held["cut-in"], held["wrapped"]]
+    words = words[: STATE_WORDS[held["edition"]]]
     for name in LISTS:
         words = words + held[name]
     back = 4 * len(words)
-    words += [len(held["x"]), len(held["contours"]), len(held["tx"]), len(held["controls"]), len(held["sheet"]), EDITION, back]
+    words += [len(held["x"]), len(held["contours"]), len(held["tx"]), len(held["controls"]), len(held["sheet"]), held["edition"], back]
     words = [bits(word) for word in words]
     words.append(bits(sum(words)))
     return struct.pack(f"<{len(words)}I", *words)
@@ -85,23 +87,25 @@ def from_bytes(data):
     """What a record holds; Refused in the order 17, 16, 15."""
     if len(data) > MOST_BYTES:
         raise Refused(17, "above 24 KiB")
-    if len(data) % 4 or len(data) < 4 * (STATE_WORDS + TRAILER_WORDS):
+    if len(data) % 4 or len(data) < 4 * (STATE_WORDS[1] + TRAILER_WORDS):
         raise Refused(16, "no whole number of words, or too few")
     words = list(struct.unpack(f"<{len(data) // 4}I", data))
     n, contours, m, controls, sheet, edition, back, total = words[-TRAILER_WORDS:]
     sizes = [n] * 7 + [contours] + [m] * 5 + [controls, sheet]
+    if edition not in STATE_WORDS:
+        raise Refused(16, f"edition {edition}, and 1 and 2 are known")
+    at = STATE_WORDS[edition]
     if contours > MOST_CONTOURS:
         raise Refused(16, f"{contours} contours, and at most {MOST_CONTOURS} may be")
-    if STATE_WORDS + sum(sizes) + TRAILER_WORDS != len(words) or edition != EDITION or back != 4 * (len(words) - TRAILER_WORDS):
-        raise Refused(16, "the trailer's counts, edition or way back are not those of the record")
+    if at + sum(sizes) + TRAILER_WORDS != len(words) or back != 4 * (len(words) - TRAILER_WORDS):
+        raise Refused(16, "the trailer's counts or way back are not those of the record")
     if words[6] > 7 or max(words[17:25]) > 1:
         raise Refused(16, "a round mode above 7, or a zone pointer or fact above 1")
     held = {
         "vectors": [signed(word) for word in words[0:6]], "round": [words[6]] + [signed(word) for word in words[7:10]],
         "references": [words[k] + (words[k + 1] << 32) for k in (10, 12, 14)], "loop": words[16],
-        "pointers": words[17:20], "facts": words[20:25], "cut-in": signed(words[25]),
+        "pointers": words[17:20], "facts": words[20:25], "cut-in": signed(words[25]), "wrapped": (words[26:at] or [0])[0], "edition": edition,
     }
-    at = STATE_WORDS
     for name, size in zip(LISTS, sizes):
         own = words[at : at + size]
         held[name] = own if name in UNSIGNED else [signed(word) for word in own]
@@ -137,7 +141,28 @@ def answer_in(data, printed):
     return answer
 
 
+def newest_bytes(data):
+    """How many bytes a record has in the newest edition: one of an older edition gains the words of the state that it hasn't."""
+    edition = int.from_bytes(data[-12:-8], "little")
+    return len(data) + 4 * (STATE_WORDS[EDITION] - STATE_WORDS.get(edition, STATE_WORDS[EDITION]))
+
+
+def rewritten_bytes(data):
+    """How many bytes are written of a record: none where that would be above 24 KiB."""
+    size = newest_bytes(data)
+    return size if size <= MOST_BYTES else 0
+
+
+def no_room(data):
+    """Why nothing is written of a record that is not refused."""
+    return (
+        f"nothing is written: in edition {EDITION} the record would have {newest_bytes(data)} bytes, and at most {MOST_BYTES} may be. "
+        "bin/replay prints its points; to write it, take a word out of its sheet, its control values or its contours"
+    )
+
+
 def hold_rewritten(data, written):
-    """A record that is written has as many bytes as the one that was read."""
-    if len(written) != len(data):
-        raise Bad(f"the record is cut short, or another's: {len(written)} bytes were written, and the record has {len(data)}")
+    """A record that is written has as many bytes as the one that was read, but for what its edition adds."""
+    wanted = rewritten_bytes(data)
+    if len(written) != wanted:
+        raise Bad(f"the record is cut short, or another's: {len(written)} bytes were written, and it has {wanted}")

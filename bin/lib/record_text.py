@@ -66,7 +66,9 @@ def opcode_of(text):
 
 
 def read_line(held, word, rest):
-    if word == "vectors":
+    if word == "edition":
+        held["edition"] = numbers(rest, "edition N", min(record.STATE_WORDS), record.EDITION)[0]
+    elif word == "vectors":
         counted(rest, "vectors projection X Y dual X Y freedom X Y")
         held["vectors"] = [number(rest[k]) for k in (1, 2, 4, 5, 7, 8)]
     elif word == "round":
@@ -84,6 +86,8 @@ def read_line(held, word, rest):
             held["facts"][one_of(text, FACTS, "fact")] = 1
     elif word == "cut-in":
         held["cut-in"] = numbers(rest, "cut-in N")[0]
+    elif word == "wrapped-roundings":
+        held["wrapped"] = numbers(rest, "wrapped-roundings N", 0, 2**32 - 1)[0]
     elif word == "point":
         counted(rest, "point UX UY OX OY X Y FLAG")
         for name, text in zip(LISTS[:6], rest):
@@ -129,6 +133,8 @@ def make(data):
                 raise Bad(f"line {place}: {bad}") from None
     if not said:
         raise Bad("the text is empty, and no record is made of that")
+    if held["edition"] == 1 and held["wrapped"]:
+        raise Bad("a record of edition 1 has no count of wrapped roundings")
     made = record.to_bytes(held)
     if len(made) > record.MOST_BYTES:
         raise Bad(f"the record would have {len(made)} bytes, and at most {record.MOST_BYTES} may be")
@@ -157,6 +163,7 @@ def show(data):
     held = record.from_bytes(data)
     v, r = held["vectors"], held["round"]
     lines = [
+        f"edition {held['edition']}",
         f"vectors projection {v[0]} {v[1]} dual {v[2]} {v[3]} freedom {v[4]} {v[5]}",
         f"round {MODES[r[0]]} threshold {r[1]} phase {r[2]} period {r[3]}",
         "references " + " ".join(str(reference) for reference in held["references"]),
@@ -165,6 +172,8 @@ def show(data):
         " ".join(["facts"] + [name for name, yes in zip(FACTS, held["facts"]) if yes]),
         f"cut-in {held['cut-in']}",
     ]
+    if held["edition"] > 1:
+        lines.append(f"wrapped-roundings {held['wrapped']}")
     lines += ["point " + " ".join(str(held[name][k]) for name in LISTS[:7]) for k in range(len(held["x"]))]
     if held["contours"]:
         lines.append("contours " + " ".join(str(end) for end in held["contours"]))

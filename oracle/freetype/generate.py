@@ -82,7 +82,7 @@ class Maker:
         facts = [int(self.chance(times)) for times in (2, 2, 6, 3, 3)]
         loop = random.choice([1, 1, 1, 2, 3, 0])
         cut_in = self.number(random.choice([5, 200]))
-        words = [*projection, *dual, *freedom, *self.rounding(), *halves, loop, *zones, *facts, cut_in]
+        words = [*projection, *dual, *freedom, *self.rounding(), *halves, loop, *zones, *facts, cut_in, 0]
         return [word % 2**32 for word in words]
 
     def lists(self, counts, reach):

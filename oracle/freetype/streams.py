@@ -7,10 +7,12 @@ import subprocess
 HERE = pathlib.Path(__file__).resolve().parent
 ORACLE = HERE.parent
 MASK = 0xFFFFFFFF
-FRESH = [16384, 0] * 3 + [0, 0, 0, 64] + [0] * 6 + [1] + [1] * 3 + [0] * 5 + [68]
+FRESH = [16384, 0] * 3 + [0, 0, 0, 64] + [0] * 6 + [1] + [1] * 3 + [0] * 5 + [68, 0]
 STATE_NAMES = (["projection x", "projection y", "dual x", "dual y", "freedom x", "freedom y", "mode", "threshold",
                 "phase", "period", "rp0", "rp0 high", "rp1", "rp1 high", "rp2", "rp2 high", "loop", "zp0", "zp1",
-                "zp2", "compatible", "pedantic", "native", "x done", "y done", "cut-in"])
+                "zp2", "compatible", "pedantic", "native", "x done", "y done", "cut-in", "wrapped"])
+# FreeType has no count of wrapped roundings: it is the one word that isn't compared.
+WRAPPED = STATE_NAMES.index("wrapped")
 LIST_NAMES = ["unscaled x", "unscaled y", "original x", "original y", "x", "y", "flags", "contours",
               "twilight original x", "twilight original y", "twilight x", "twilight y", "twilight flags", "values",
               "sheet"]
@@ -36,11 +38,11 @@ class Case:
     def line_after(self, outcome):
         """The next line alone, from where the outcome left the world."""
         words = outcome.world(self)
-        lists, place = [], 26
+        lists, place = [], len(STATE_NAMES)
         for one in self.lists:
             lists.append(words[place:place + len(one)])
             place += len(one)
-        return Case(words[:26], lists, start=outcome.place, budget=1)
+        return Case(words[:len(STATE_NAMES)], lists, start=outcome.place, budget=1)
 
     def text(self):
         names = {name: word for name, word in zip(STATE_NAMES, self.state)}
@@ -83,8 +85,11 @@ def alike(case, one, other):
     def shown(outcome):
         named = outcome.number not in (7, 8)
         return outcome.number if named else 7, outcome.detail if named or case.kind else 0
+    def left(outcome):
+        words = outcome.world(case)
+        return words[:WRAPPED] + words[WRAPPED + 1:]
     same = (one.place, one.lines, one.value) == (other.place, other.lines, other.value)
-    return same and shown(one) == shown(other) and one.world(case) == other.world(case)
+    return same and shown(one) == shown(other) and left(one) == left(other)
 
 
 def rust():

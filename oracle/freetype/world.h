@@ -1,4 +1,4 @@
-/* A case's world: 26 words of state and fifteen lists, in one row of words. */
+/* A case's world: 27 words of state and fifteen lists, in one row of words. */
 #ifndef WORLD_H
 #define WORLD_H
 
@@ -6,7 +6,7 @@
 #include <stdint.h>
 
 enum {
-    STATE_WORDS = 26,
+    STATE_WORDS = 27,
     LIST_COUNT = 15,
     MOST_POINTS = 16384,
     MOST_CONTOURS = 4096,
@@ -30,7 +30,8 @@ enum {
     PEDANTIC = 21,
     X_DONE = 23,
     Y_DONE = 24,
-    CUT_IN = 25
+    CUT_IN = 25,
+    WRAPPED = 26 /* FreeType has no such count: it stays as it is */
 };
 
 /* The lists; a list of y stands right after its list of x. */

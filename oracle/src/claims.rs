@@ -3,6 +3,7 @@
 
 mod selectors;
 mod shifts;
+mod wraps;
 
 use crate::{
     case::Case,
@@ -35,6 +36,7 @@ pub fn check_all() -> bool {
     direct_calls(&mut claims);
     shifts::check(&mut claims);
     selectors::check(&mut claims);
+    wraps::check(&mut claims);
     budgets_add_up(&mut claims);
     println!("{} claims, {} fail", claims.count, claims.failed);
     claims.failed == 0

@@ -14,6 +14,7 @@ use crate::{
 };
 use std::{
     io::{Read, Write},
+    ops::Range,
     process::{Command, Stdio},
 };
 
@@ -48,7 +49,11 @@ pub fn compare(stream: Stream, count: usize, seed: u64, program: &str) -> Result
                 let cases: Vec<Case> = (0..batch).map(|_| any_case(&mut random)).collect();
                 compare_cases(&cases, program)?
             }
-            Stream::Math => compare_math(&mut random, batch, program)?,
+            Stream::Math => compare_math(&mut random, batch, program, math_rows::OUTCOME)?,
+            Stream::Results => {
+                let said = math_rows::ANSWER_AND_RESULT;
+                compare_math(&mut random, batch, program, said)?
+            }
             Stream::Projection => compare_projection(&mut random, batch, program)?,
         };
         differences.extend(found);
@@ -120,17 +125,21 @@ fn compare_math(
     random: &mut Random,
     count: usize,
     program: &str,
+    said: Range<usize>,
 ) -> Result<Vec<Difference>, String> {
-    let rows: Vec<MathRow> = (0..count).map(|_| math_rows::random_row(random)).collect();
+    let random_row = |_| {
+        if said == math_rows::OUTCOME {
+            math_rows::random_row(random)
+        } else {
+            math_rows::row_without_trap(random)
+        }
+    };
+    let rows: Vec<MathRow> = (0..count).map(random_row).collect();
     let blank = |row: &MathRow| blanked(row.words().to_vec(), math_rows::OUTCOME);
     let given: Vec<u32> = rows.iter().flat_map(blank).collect();
     let wanted = rows.iter().map(|row| {
         let size = row.weight();
-        (
-            size,
-            row.to_string(),
-            row.words()[math_rows::OUTCOME].to_vec(),
-        )
+        (size, row.to_string(), row.words()[said.clone()].to_vec())
     });
     compare_rows(wanted.collect(), &ask(program, &given)?)
 }
@@ -186,7 +195,7 @@ fn signed(words: &[u32]) -> Vec<i32> {
     words.iter().map(|word| *word as i32).collect()
 }
 
-fn blanked(mut row: Vec<u32>, outcome: std::ops::Range<usize>) -> Vec<u32> {
+fn blanked(mut row: Vec<u32>, outcome: Range<usize>) -> Vec<u32> {
     row[outcome].fill(0);
     row
 }

@@ -22,25 +22,28 @@ mod replay;
 mod sample;
 mod scene;
 mod serve;
+mod shadow;
 mod show;
 mod shrink;
 mod vectors;
 mod words;
 mod world;
+mod wraps;
 
 use serve::Stream;
 use std::{io::Write, path::Path, process::ExitCode};
 
 const USAGE: &str = "\
 usage: oracle/run COMMAND
-  sample FOLDER            write the ten sample files, the same bytes every time
+  sample FOLDER            write the eleven sample files, the same bytes every time
   check FOLDER             make them again and compare with the folder's
   show FILE                print a sample file as text
   coverage N SEED          make N cases, count what came up, fail if a kind is missing
   coverage FOLDER          count what a sample holds, fail if a kind is missing
   claims                   run document 01's numbers and the findings
-  compare [--math|--projection] N SEED PROGRAM
-                           run the Rust and a program, print differences
+  compare [--math|--results|--projection] N SEED PROGRAM
+                           run the Rust and a program, print differences; --results
+                           is math without the word that says whether a rounding wrapped
   stream N SEED            write the fixed cases and N random ones, with the Rust's outcomes
   serve cases|math|projection         answer a stream from standard input
   serve-wrongly cases|math|projection the same with one answer wrong
@@ -71,6 +74,7 @@ fn command(arguments: &[&str]) -> Result<bool, String> {
         ["coverage", count, seed] => Ok(coverage::of_random(count_of(count)?, number(seed)?)),
         ["claims"] => Ok(claims::check_all()),
         ["compare", "--math", rest @ ..] => compare(Stream::Math, rest),
+        ["compare", "--results", rest @ ..] => compare(Stream::Results, rest),
         ["compare", "--projection", rest @ ..] => compare(Stream::Projection, rest),
         ["compare", rest @ ..] => compare(Stream::Cases, rest),
         ["stream", count, seed] => write_stream(count_of(count)?, number(seed)?).map(|()| true),
@@ -136,8 +140,8 @@ fn show_file(file: &str) -> Result<(), String> {
 
 fn write_record(file: &str) -> Result<(), String> {
     let world = generate::whole_run_of_01().world;
-    let bytes = words::to_bytes(&record::write(&world));
-    std::fs::write(file, bytes).map_err(|error| format!("{file}: {error}"))
+    let record = record::write(&world).ok_or("the record would be too long")?;
+    std::fs::write(file, words::to_bytes(&record)).map_err(|error| format!("{file}: {error}"))
 }
 
 /// Runs a record; document 02's start and budget unless others are given.

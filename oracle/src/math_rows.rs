@@ -3,12 +3,17 @@
 use crate::{
     numbers::{any_word, corners, everyday, mixed, near_corner},
     random::Random,
+    shadow, wraps,
 };
-use reference::door::{self, Rounding};
+use reference::door::{self, Rounded, Rounding};
+use std::ops::Range;
 
 pub const ROW_WORDS: usize = 8;
-/// Where a row's outcome stands: the answer and the result.
-pub const OUTCOME: std::ops::Range<usize> = 6..8;
+/// Where a row's outcome stands: whether a rounding wrapped, the answer and the
+/// result.
+pub const OUTCOME: Range<usize> = 5..8;
+/// What of it a program has that knows nothing of wrapping.
+pub const ANSWER_AND_RESULT: Range<usize> = 6..8;
 
 const FLOOR: u32 = 0;
 const ROUND: u32 = 1;
@@ -59,16 +64,10 @@ const HELPERS: [&str; 8] = [
     "div",
     "mul_div",
 ];
-const MODE_NAMES: [&str; 8] = [
-    "Grid",
-    "HalfGrid",
-    "DoubleGrid",
-    "DownToGrid",
-    "UpToGrid",
-    "Off",
-    "Super",
-    "Super45",
-];
+
+/// Roundings of each kind of wrap, and of any wild ones, in the sample.
+const WRAPS_EACH: usize = 8;
+const WILD_ROWS: usize = 500;
 
 /// Seed of the rows that no corner fixes.
 const SEED: u64 = 0x6D61_7468;
@@ -79,9 +78,10 @@ pub struct MathRow {
     pub arguments: [i32; 4],
 }
 
-/// The answer's number, and the result where it is 0.
+/// Whether a rounding wrapped, the answer's number, and the result where it is 0.
 #[derive(Copy, Clone, PartialEq, Eq, Debug)]
 pub struct MathOutcome {
+    pub wrapped: bool,
     pub answer: u32,
     pub result: i32,
 }
@@ -108,16 +108,34 @@ impl MathRow {
             MUL_DIV => door::mul_div(a, b, c),
             _ => return self.rounded(),
         };
-        MathOutcome { answer: 0, result }
+        MathOutcome {
+            wrapped: false,
+            answer: 0,
+            result,
+        }
     }
 
     fn rounded(&self) -> MathOutcome {
-        let [distance, threshold, phase, period] = self.arguments;
-        if self.op == SUPER45 && period == 0 {
-            return MathOutcome {
+        match self.rounding() {
+            Some(rounded) => MathOutcome {
+                wrapped: shadow::wrapped(&rounded),
+                answer: 0,
+                result: rounded.result,
+            },
+            None => MathOutcome {
+                wrapped: false,
                 answer: 3,
                 result: 0,
-            };
+            },
+        }
+    }
+
+    /// The Rust's rounding that the row asks for; none for a division by 0 and
+    /// for the ops that don't round.
+    pub fn rounding(&self) -> Option<Rounded> {
+        let [distance, threshold, phase, period] = self.arguments;
+        if self.op < MODES || self.op == SUPER45 && period == 0 {
+            return None;
         }
         let rounding = Rounding {
             mode: self.op - MODES,
@@ -125,25 +143,17 @@ impl MathRow {
             phase,
             period,
         };
-        MathOutcome {
-            answer: 0,
-            result: door::round_distance(rounding, distance),
-        }
+        let (_, told) = door::with_roundings(|| door::round_distance(rounding, distance));
+        let [rounded] = told[..] else {
+            panic!("one rounding was asked for, and round.rs tells of {told:?}");
+        };
+        Some(rounded)
     }
 
     pub fn words(&self) -> [u32; ROW_WORDS] {
         let [a, b, c, d] = self.arguments.map(|argument| argument as u32);
-        let outcome = self.outcome();
-        [
-            self.op,
-            a,
-            b,
-            c,
-            d,
-            0,
-            outcome.answer,
-            outcome.result as u32,
-        ]
+        let [wrapped, answer, result] = self.outcome().words();
+        [self.op, a, b, c, d, wrapped, answer, result]
     }
 
     pub fn from_words(words: &[u32]) -> Self {
@@ -155,7 +165,7 @@ impl MathRow {
         if self.op < MODES {
             HELPERS[self.op as usize]
         } else {
-            MODE_NAMES[(self.op - MODES) as usize]
+            shadow::MODES[(self.op - MODES) as usize]
         }
     }
 
@@ -183,9 +193,24 @@ impl std::fmt::Display for MathRow {
     }
 }
 
+impl MathOutcome {
+    fn words(&self) -> [u32; 3] {
+        [u32::from(self.wrapped), self.answer, self.result as u32]
+    }
+
+    pub fn of_words(words: &[u32]) -> Self {
+        Self {
+            wrapped: words[0] != 0,
+            answer: words[1],
+            result: words[2] as i32,
+        }
+    }
+}
+
 impl std::fmt::Display for MathOutcome {
     fn fmt(&self, f: &mut std::fmt::Formatter) -> std::fmt::Result {
-        write!(f, "answer {} result {}", self.answer, self.result)
+        let wrapped = if self.wrapped { ", wrapped" } else { "" };
+        write!(f, "answer {} result {}{wrapped}", self.answer, self.result)
     }
 }
 
@@ -233,8 +258,10 @@ pub fn sample() -> Vec<MathRow> {
     rows.extend(rounded_to_zero());
     rows.extend(wrapped_sums());
     let mut random = Random::new(SEED);
-    rows.extend((0..700).map(|_| random_row(&mut random)));
+    rows.extend((0..700).map(|_| plain_row(&mut random)));
     rows.extend(square_grid());
+    rows.extend(of_each_wrap());
+    rows.extend((0..WILD_ROWS).map(|_| wild_row(&mut random)));
     without_repeats(rows)
 }
 
@@ -363,6 +390,18 @@ fn wrapped_sums() -> Vec<MathRow> {
     rows
 }
 
+/// Each mode and sign with each set of operations that go past 32 bits, and
+/// near misses.
+fn of_each_wrap() -> Vec<MathRow> {
+    let asked = |rounded: &Rounded| {
+        let by = rounded.rounding;
+        let arguments = [rounded.distance, by.threshold, by.phase, by.period];
+        MathRow::new(MODES + by.mode, arguments)
+    };
+    let roundings = [wraps::of_each_kind(WRAPS_EACH), wraps::near_misses()].concat();
+    roundings.iter().map(asked).collect()
+}
+
 /// Distance, threshold, phase and period: as SROUND makes them, or wild.
 fn rounding_arguments(random: &mut Random) -> [i32; 4] {
     let distance = mixed(random);
@@ -376,8 +415,33 @@ fn rounding_arguments(random: &mut Random) -> [i32; 4] {
     }
 }
 
-/// A random row of any op, for samples and comparisons alike.
+/// A random row of any op, a wild rounding now and then, for comparisons.
 pub fn random_row(random: &mut Random) -> MathRow {
+    if random.once_in(4) {
+        wild_row(random)
+    } else {
+        plain_row(random)
+    }
+}
+
+/// The same for a program that may stop at -2^31 divided by -1.
+pub fn row_without_trap(random: &mut Random) -> MathRow {
+    loop {
+        let row = random_row(random);
+        if row.op != SUPER45 || row.arguments[3] != -1 {
+            return row;
+        }
+    }
+}
+
+/// A rounding whose numbers are likely to wrap.
+fn wild_row(random: &mut Random) -> MathRow {
+    let by = wraps::wild_rounding(random);
+    let arguments = [wraps::wild(random), by.threshold, by.phase, by.period];
+    MathRow::new(MODES + by.mode, arguments)
+}
+
+fn plain_row(random: &mut Random) -> MathRow {
     if random.flip() {
         let mode = random.below(8) as u32;
         return MathRow::new(MODES + mode, rounding_arguments(random));

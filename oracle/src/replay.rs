@@ -4,12 +4,27 @@ use crate::{
     answer::{self, Answer},
     apart, entry,
     opcodes::{row_of, Row},
+    shadow,
     world::World,
 };
-use reference::door::Machine;
+use reference::door::{with_roundings, Machine, Rounded};
+
+/// A line that was reached: its opcode, whether it was done, the Rust's
+/// roundings on the way, and the count of wrapped ones before and after it.
+pub struct Step {
+    pub opcode: u8,
+    pub done: bool,
+    pub roundings: Vec<Rounded>,
+    pub counts: [u32; 2],
+}
 
 /// Runs a sheet from a place for at most so many lines.
 pub fn run(world: &mut World, start: u64, budget: u64) -> Answer {
+    watched(world, start, budget, |_| {})
+}
+
+/// The same, telling of each line that was asked of the Rust.
+pub fn watched(world: &mut World, start: u64, budget: u64, mut watch: impl FnMut(Step)) -> Answer {
     let at_entry = |number| Answer {
         number,
         place: start,
@@ -28,15 +43,27 @@ pub fn run(world: &mut World, start: u64, budget: u64) -> Answer {
     }
     let mut buffers = world.buffers();
     let mut state = world.state.clone();
+    let mut count = state.wrapped_roundings;
     let answer = buffers.with_machine(&mut state, |machine| {
-        run_lines(machine, &sheet, start as usize, budget)
+        let mut line = |words: &[i32]| run_line(machine, words, &mut count, &mut watch);
+        run_lines(&mut line, &sheet, start as usize, budget)
     });
+    state.wrapped_roundings = count;
     world.state = state;
     world.keep(&buffers);
     answer
 }
 
-fn run_lines(machine: &mut Machine, sheet: &[i32], start: usize, budget: u64) -> Answer {
+/// What a line says: how many words it has, or the number and detail of its
+/// refusal.
+type Said = Result<usize, (u32, u64)>;
+
+fn run_lines(
+    run_line: &mut impl FnMut(&[i32]) -> Said,
+    sheet: &[i32],
+    start: usize,
+    budget: u64,
+) -> Answer {
     let mut place = start;
     let mut lines = 0;
     let (number, detail) = loop {
@@ -46,7 +73,7 @@ fn run_lines(machine: &mut Machine, sheet: &[i32], start: usize, budget: u64) ->
         if lines == budget {
             break (answer::BUDGET, 0);
         }
-        match run_line(machine, &sheet[place..]) {
+        match run_line(&sheet[place..]) {
             Ok(words) => place += words,
             Err(refusal) => break refusal,
         }
@@ -60,17 +87,34 @@ fn run_lines(machine: &mut Machine, sheet: &[i32], start: usize, budget: u64) ->
     }
 }
 
-/// Runs the line at the head of the words and says how many it has, or the
-/// number and detail of its refusal.
-fn run_line(machine: &mut Machine, words: &[i32]) -> Result<usize, (u32, u64)> {
+/// Runs the line at the head of the words. One that is done adds its wrapped
+/// roundings to the count, which stops at its end; another leaves it.
+fn run_line(
+    machine: &mut Machine,
+    words: &[i32],
+    count: &mut u32,
+    watch: &mut impl FnMut(Step),
+) -> Said {
     let (opcode, row, operands) = line_of(words).ok_or((answer::LINE, 0))?;
     if operands.len() as u64 > row.most_operands(machine.loop_counter()) {
         return Err((answer::TOO_MANY, 0));
     }
-    match apart::decided(machine, opcode, operands) {
-        Some(decided) => decided?,
-        None => by_the_rust(machine, opcode, operands)?,
+    let (said, roundings) = match apart::decided(machine, opcode, operands) {
+        Some(decided) => (decided, Vec::new()),
+        None => with_roundings(|| by_the_rust(machine, opcode, operands)),
+    };
+    let before = *count;
+    if said.is_ok() {
+        let wrapped = roundings.iter().filter(|one| shadow::wrapped(one)).count();
+        *count = before.saturating_add(wrapped as u32);
     }
+    watch(Step {
+        opcode,
+        done: said.is_ok(),
+        roundings,
+        counts: [before, *count],
+    });
+    said?;
     Ok(2 + operands.len())
 }
 

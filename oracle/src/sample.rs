@@ -1,4 +1,4 @@
-//! The committed sample: ten files, the same bytes every time.
+//! The committed sample: eleven files, the same bytes every time.
 
 use crate::{
     case::Case,
@@ -6,9 +6,10 @@ use crate::{
     direct::Call,
     generate::{
         every_length, every_limit, every_opcode, every_selector, every_setter, every_shift,
-        far_calls, far_references, iup_case, length_case, limit_cases, line_case, long_iup_case,
-        long_iup_shift_case, rounds_by_every_selector, run_case, runs_of_01, selector_counts,
-        selector_run_case, shift_case, shift_run_case, turns, zone_case,
+        every_wrap, far_calls, far_references, iup_case, length_case, limit_cases, line_case,
+        long_iup_case, long_iup_shift_case, rounds_by_every_selector, run_case, runs_of_01,
+        selector_counts, selector_run_case, shift_case, shift_run_case, turns, wrap_case,
+        zone_case,
     },
     math_rows, notable,
     opcodes::{rows_of, Family},
@@ -16,6 +17,7 @@ use crate::{
     random::Random,
     words,
     world::MOST_POINTS,
+    wraps,
 };
 use std::path::Path;
 
@@ -27,6 +29,7 @@ const SHIFTS_SEED: u64 = 0x7368_6966;
 const SELECTORS_SEED: u64 = 0x7365_6C65;
 const LENGTHS_SEED: u64 = 0x6C65_6E67;
 const TURNS_SEED: u64 = 0x7475_726E;
+const WRAPS_SEED: u64 = 0x7772_6170;
 const ZONE_CASES: usize = 5_000;
 const IUP_CASES: usize = 3_400;
 const LINES_EACH: usize = 480;
@@ -36,8 +39,10 @@ const SHIFT_RUN_CASES: usize = 240;
 const SELECTORS_EACH: usize = 100;
 const SELECTOR_RUN_CASES: usize = 240;
 const LENGTH_CASES: usize = 400;
+const WRAP_CASES: usize = 600;
+const COUNTED_CALLS: usize = 60;
 
-const NAMES: [&str; 10] = [
+const NAMES: [&str; 11] = [
     "math",
     "projection",
     "zone",
@@ -48,9 +53,10 @@ const NAMES: [&str; 10] = [
     "selectors",
     "lengths",
     "turns",
+    "wraps",
 ];
 
-/// Writes the ten files into a folder and says how large each is.
+/// Writes the eleven files into a folder and says how large each is.
 pub fn write(folder: &Path) -> Result<(), String> {
     std::fs::create_dir_all(folder).map_err(|error| error.to_string())?;
     for name in NAMES {
@@ -112,7 +118,7 @@ fn make(name: &str) -> (usize, Vec<u32>) {
     }
 }
 
-/// The cases of one of the eight files that hold cases.
+/// The cases of one of the nine files that hold cases.
 fn cases_of(name: &str) -> Vec<Case> {
     match name {
         "zone" => zone_cases(),
@@ -122,6 +128,7 @@ fn cases_of(name: &str) -> Vec<Case> {
         "shifts" => shifts(),
         "selectors" => selectors(),
         "lengths" => lengths(),
+        "wraps" => wraps(),
         _ => turns_and_far_indices(),
     }
 }
@@ -210,6 +217,21 @@ fn turns_and_far_indices() -> Vec<Case> {
     let mut cases = turns();
     cases.extend(far_calls(&mut random));
     cases.extend(far_references());
+    cases
+}
+
+/// Each kind of wrapped rounding, then random runs that round wild numbers, then
+/// direct calls, which keep whatever count they are given.
+fn wraps() -> Vec<Case> {
+    let mut random = Random::new(WRAPS_SEED);
+    let mut cases = every_wrap();
+    let mut counted = |case: fn(&mut Random) -> Case| {
+        let mut case = case(&mut random);
+        case.world.state.wrapped_roundings = wraps::count(&mut random);
+        case
+    };
+    cases.extend((0..WRAP_CASES).map(|_| counted(wrap_case)));
+    cases.extend((0..COUNTED_CALLS).map(|_| counted(zone_case)));
     cases
 }
 

@@ -7,12 +7,15 @@ use crate::{
     projection_rows::{self, ProjectionRow},
     words,
 };
+use std::ops::Range;
 
 /// What a stream holds.
 #[derive(Copy, Clone, PartialEq, Eq, Debug)]
 pub enum Stream {
     Cases,
     Math,
+    /// Math for a program that knows nothing of wrapping.
+    Results,
     Projection,
 }
 
@@ -21,6 +24,7 @@ impl Stream {
         match name {
             "cases" => Some(Self::Cases),
             "math" => Some(Self::Math),
+            "results" => Some(Self::Results),
             "projection" => Some(Self::Projection),
             _ => None,
         }
@@ -53,13 +57,8 @@ fn answers(stream: Stream, given: &[u32]) -> Result<Vec<u32>, String> {
                 .flat_map(|outcome: Outcome| outcome.words())
                 .collect())
         }
-        Stream::Math => {
-            let rows = given.chunks_exact(math_rows::ROW_WORDS);
-            let outcomes = rows.map(|row| MathRow::from_words(row).words());
-            Ok(outcomes
-                .flat_map(|row| row[math_rows::OUTCOME].to_vec())
-                .collect())
-        }
+        Stream::Math => Ok(math_answers(given, math_rows::OUTCOME)),
+        Stream::Results => Ok(math_answers(given, math_rows::ANSWER_AND_RESULT)),
         Stream::Projection => {
             let rows = given.chunks_exact(projection_rows::ROW_WORDS);
             let outcomes = rows.map(|row| ProjectionRow::from_words(row).words());
@@ -68,4 +67,12 @@ fn answers(stream: Stream, given: &[u32]) -> Result<Vec<u32>, String> {
                 .collect())
         }
     }
+}
+
+fn math_answers(given: &[u32], said: Range<usize>) -> Vec<u32> {
+    let rows = given.chunks_exact(math_rows::ROW_WORDS);
+    let outcomes = rows.map(|row| MathRow::from_words(row).words());
+    outcomes
+        .flat_map(|row| row[said.clone()].to_vec())
+        .collect()
 }

@@ -3,11 +3,13 @@
 use crate::{
     case::{read_stream, Case, Outcome},
     direct::Call,
-    math_rows::{self, MathRow},
+    math_rows::{self, MathOutcome, MathRow},
     opcodes::name_of,
     projection_rows::{self, ProjectionRow},
     words::joined,
-    world::{fresh_state, state_words, World, LIST_NAMES, SHEET, STATE_NAMES},
+    world::{
+        fresh_state, is_unsigned, state_words, World, LIST_NAMES, SHEET, STATE_NAMES, STATE_WORDS,
+    },
 };
 
 /// Lists longer than this are cut in what is shown.
@@ -20,8 +22,8 @@ pub fn math(words: &[u32]) -> Result<String, String> {
         if !given.is_known() {
             return Err(format!("row {number}: no op {}", row[0]));
         }
-        let result = row[7] as i32;
-        text += &format!("{number}: {given} -> answer {} result {result}\n", row[6]);
+        let outcome = MathOutcome::of_words(&row[math_rows::OUTCOME]);
+        text += &format!("{number}: {given} -> {outcome}\n");
     }
     Ok(text)
 }
@@ -97,9 +99,9 @@ fn state_text(world: &World) -> String {
     }
 }
 
-/// A state word as the number it is: the loop counter has no sign.
+/// A word of state or lists as the number it is: counts have no sign.
 fn state_number(place: usize, word: u32) -> i64 {
-    if STATE_NAMES[place] == "loop" {
+    if place < STATE_WORDS && is_unsigned(place) {
         i64::from(word)
     } else {
         i64::from(word as i32)
@@ -140,7 +142,8 @@ pub fn outcome_text(case: &Case, outcome: &Outcome) -> String {
     let mut text = format!("answer {}, value {value:?}", outcome.returned.answer);
     for (index, word) in outcome.changes.iter().take(SHOWN) {
         let name = case.world.word_name(*index as usize);
-        text += &format!("; {name} = {}", *word as i32);
+        let number = state_number(*index as usize, *word);
+        text += &format!("; {name} = {number}");
     }
     if outcome.changes.len() > SHOWN {
         text += &format!("; and {} more changes", outcome.changes.len() - SHOWN);

@@ -3,7 +3,7 @@
 use crate::words::{halves, joined};
 use reference::door::{Buffers, Outline, Pair, Rounding, State};
 
-pub const STATE_WORDS: usize = 26;
+pub const STATE_WORDS: usize = 27;
 pub const LIST_COUNT: usize = 15;
 
 /// The lists' places in the order of the record of document 02. A list of y
@@ -75,6 +75,7 @@ pub fn fresh_state() -> State {
         x_interpolated: false,
         y_interpolated: false,
         cut_in: 68,
+        wrapped_roundings: 0,
     }
 }
 
@@ -104,6 +105,7 @@ pub fn state_words(state: &State) -> [u32; STATE_WORDS] {
         *word = u32::from(fact);
     }
     words[25] = state.cut_in as u32;
+    words[26] = state.wrapped_roundings;
     words
 }
 
@@ -134,6 +136,7 @@ pub fn state_of(words: &[u32]) -> Result<State, String> {
         x_interpolated: words[23] == 1,
         y_interpolated: words[24] == 1,
         cut_in: number(25),
+        wrapped_roundings: words[26],
     })
 }
 
@@ -165,7 +168,13 @@ pub const STATE_NAMES: [&str; STATE_WORDS] = [
     "x interpolated",
     "y interpolated",
     "cut-in",
+    "wrapped roundings",
 ];
+
+/// True of the state's words that have no sign.
+pub fn is_unsigned(place: usize) -> bool {
+    matches!(STATE_NAMES[place], "loop" | "wrapped roundings")
+}
 
 impl World {
     pub fn points(&self) -> usize {

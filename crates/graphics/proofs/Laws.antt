@@ -7,7 +7,7 @@ use Prim.Native.Nat.{ℕ}
 use Rattle.round.specs.Round.{usable, usableBy}
 use Rattle.round.specs.declared.RoundMode.{RoundMode}
 use Rattle.round.specs.declared.RoundState.{RoundState}
-use Rattle.graphics.specs.State.{xAxis, yAxis, inRange, vectorInRange, vectorsInRange, usableState, freshState, withReferences, withLoopCounter, withPointers, withFacts, withVectors, withRound, allAlong, measuredAlong, movedAlong, inMode}
+use Rattle.graphics.specs.State.{xAxis, yAxis, inRange, vectorInRange, vectorsInRange, usableState, freshState, withReferences, withLoopCounter, withPointers, withFacts, withVectors, withRound, allAlong, measuredAlong, movedAlong, inMode, withRounding}
 use Rattle.graphics.specs.declared.Vector.{Vector}
 use Rattle.graphics.specs.declared.References.{References}
 use Rattle.graphics.specs.declared.ZonePointers.{ZonePointers}
@@ -53,6 +53,10 @@ usable-references s p = refl
 pub usable-loop : (s : GraphicsState) (count : ℕ) → usableState (withLoopCounter s count) ≡ usableState s
 unfolding usableState
 usable-loop s count = refl
+
+pub usable-rounding : (wrapped : Bool) (s : GraphicsState) → usableState (withRounding wrapped s) ≡ usableState s
+unfolding usableState withRounding
+usable-rounding wrapped s = refl
 
 pub usable-pointers : (s : GraphicsState) (p : ZonePointers) → usableState (withPointers s p) ≡ usableState s
 unfolding usableState

@@ -3,7 +3,7 @@
 -- 2.13.3 keeps beside it (ttinterp.c: backward_compatibility, pedantic_hinting, iupx_called, iupy_called), and native ClearType x, which the host
 -- gives. Document 01 gives a vector's range and the state that a glyph starts with. Assumes nothing.
 use mathlib.Core.Bool.{Bool, true, false, _&&_}
-use Prim.Native.Nat.{ℕ}
+use Prim.Native.Nat.{ℕ, suc, min}
 use lib.IntN.{ℤ, pos, negℤ}
 use lib.Signed.{leZ}
 use Rattle.round.specs.Round.{usable}
@@ -17,6 +17,7 @@ use Rattle.graphics.specs.declared.ZonePointer.the-variants.{Twilight, G
 use Rattle.graphics.specs.declared.References.{References}
 use Rattle.graphics.specs.declared.ZonePointers.{ZonePointers}
 use Rattle.graphics.specs.declared.Facts.{Facts}
+use Rattle.graphics.specs.declared.Tallies.{Tallies}
 use Rattle.graphics.specs.declared.GraphicsState.{GraphicsState}
 
 -- ---- the parts
@@ -110,25 +111,40 @@ freshState = record {
   references = record { rp0 = 0; rp1 = 0; rp2 = 0 };
   «loop_counter» = 1;
   pointers = allZones Glyph;
-  «cut_in» = pos 68;
+  measures = record { «cut_in» = pos 68 };
   facts = allNo;
+  tallies = record { «wrapped_roundings» = 0 };
 }
 
 -- ---- one group set, every other kept
 abbrev pub withVectors : GraphicsState → Vectors → GraphicsState
-withVectors s v = record { vectors = v; round = s .round; references = s .references; «loop_counter» = s .«loop_counter»; pointers = s .pointers; «cut_in» = s .«cut_in»; facts = s .facts }
+withVectors s v = record { vectors = v; round = s .round; references = s .references; «loop_counter» = s .«loop_counter»; pointers = s .pointers; measures = s .measures; facts = s .facts; tallies = s .tallies }
 
 abbrev pub withRound : GraphicsState → RoundState → GraphicsState
-withRound s r = record { vectors = s .vectors; round = r; references = s .references; «loop_counter» = s .«loop_counter»; pointers = s .pointers; «cut_in» = s .«cut_in»; facts = s .facts }
+withRound s r = record { vectors = s .vectors; round = r; references = s .references; «loop_counter» = s .«loop_counter»; pointers = s .pointers; measures = s .measures; facts = s .facts; tallies = s .tallies }
 
 abbrev pub withReferences : GraphicsState → References → GraphicsState
-withReferences s p = record { vectors = s .vectors; round = s .round; references = p; «loop_counter» = s .«loop_counter»; pointers = s .pointers; «cut_in» = s .«cut_in»; facts = s .facts }
+withReferences s p = record { vectors = s .vectors; round = s .round; references = p; «loop_counter» = s .«loop_counter»; pointers = s .pointers; measures = s .measures; facts = s .facts; tallies = s .tallies }
 
 abbrev pub withLoopCounter : GraphicsState → ℕ → GraphicsState
-withLoopCounter s count = record { vectors = s .vectors; round = s .round; references = s .references; «loop_counter» = count; pointers = s .pointers; «cut_in» = s .«cut_in»; facts = s .facts }
+withLoopCounter s count = record { vectors = s .vectors; round = s .round; references = s .references; «loop_counter» = count; pointers = s .pointers; measures = s .measures; facts = s .facts; tallies = s .tallies }
 
 abbrev pub withPointers : GraphicsState → ZonePointers → GraphicsState
-withPointers s p = record { vectors = s .vectors; round = s .round; references = s .references; «loop_counter» = s .«loop_counter»; pointers = p; «cut_in» = s .«cut_in»; facts = s .facts }
+withPointers s p = record { vectors = s .vectors; round = s .round; references = s .references; «loop_counter» = s .«loop_counter»; pointers = p; measures = s .measures; facts = s .facts; tallies = s .tallies }
 
 abbrev pub withFacts : GraphicsState → Facts → GraphicsState
-withFacts s f = record { vectors = s .vectors; round = s .round; references = s .references; «loop_counter» = s .«loop_counter»; pointers = s .pointers; «cut_in» = s .«cut_in»; facts = f }
+withFacts s f = record { vectors = s .vectors; round = s .round; references = s .references; «loop_counter» = s .«loop_counter»; pointers = s .pointers; measures = s .measures; facts = f; tallies = s .tallies }
+
+abbrev pub withTallies : GraphicsState → Tallies → GraphicsState
+withTallies s t = record { vectors = s .vectors; round = s .round; references = s .references; «loop_counter» = s .«loop_counter»; pointers = s .pointers; measures = s .measures; facts = s .facts; tallies = t }
+
+-- ---- document 02, K5: a rounding that went past 32 bits is counted, as far as 4,294,967,295
+abbrev pub oneMore : ℕ → ℕ
+oneMore n = min (suc n) 4294967295
+
+abbrev pub countedIn : Bool → Tallies → Tallies
+countedIn false t = t
+countedIn true t = record { «wrapped_roundings» = oneMore (t .«wrapped_roundings») }
+
+unfoldable pub withRounding : Bool → GraphicsState → GraphicsState
+withRounding wrapped s = withTallies s (countedIn wrapped (s .tallies))

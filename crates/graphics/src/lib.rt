@@ -7,7 +7,7 @@ use int::within;
 use round::RoundMode;
 use round::RoundState;
 ghost use mathlib.Core.Path.{_≡_};
-ghost use Rattle.graphics.specs.State.{xAxis, yAxis, allAlong, measuredAlong, movedAlong, inMode, rp0At, rp1At, rp2At, isTwilight, allZones, zp0In, zp1In, zp2In, allNo, markedX, markedY, pastBothIups, vectorInRange, vectorsInRange, usableState, freshState, withVectors, withRound, withReferences, withLoopCounter, withPointers, withFacts};
+ghost use Rattle.graphics.specs.State.{xAxis, yAxis, allAlong, measuredAlong, movedAlong, inMode, rp0At, rp1At, rp2At, isTwilight, allZones, zp0In, zp1In, zp2In, allNo, markedX, markedY, pastBothIups, vectorInRange, vectorsInRange, usableState, freshState, withVectors, withRound, withReferences, withLoopCounter, withPointers, withFacts, oneMore, countedIn, withRounding};
 
 // 1 as a 2.14 number: a vector on an axis has it, and no component lies beyond it.
 pub const ONE: i32 = 0x4000;
@@ -190,16 +190,50 @@ impl Facts {
     }
 }
 
-// A field that a later line needs goes to the end, so that what doesn't read it stays as it is.
+// The distances that lines measure by.
+pub struct Measures {
+    // Control value cut-in.
+    pub cut_in: i32,
+}
+
+// What is counted since the state was made.
+pub struct Tallies {
+    // Roundings in which some operation went past 32 bits.
+    pub wrapped_roundings: u32,
+}
+
+// A count goes as far as 32 bits do.
+fn one_more(n: u32) -> u32
+    ensures { λ r. ⌜ r ≡ oneMore n ⌝ }
+{
+    if n < 4294967295 { n + 1 } else { n }
+}
+
+impl Tallies {
+    // A rounding counted, where it went past 32 bits.
+    pub fn with_rounding(self, wrapped: bool) -> Tallies
+        ensures { λ r. ⌜ r ≡ countedIn wrapped self ⌝ }
+    {
+        if wrapped {
+            Tallies {
+                wrapped_roundings: one_more(self.wrapped_roundings),
+            }
+        } else {
+            self
+        }
+    }
+}
+
+// What a later line needs goes to a group, so that what doesn't read it stays as it is.
 pub struct GraphicsState {
     pub vectors: Vectors,
     pub round: RoundState,
     pub references: References,
     pub loop_counter: u32,
     pub pointers: ZonePointers,
-    // Control value cut-in.
-    pub cut_in: i32,
+    pub measures: Measures,
     pub facts: Facts,
+    pub tallies: Tallies,
 }
 
 impl GraphicsState {
@@ -222,8 +256,11 @@ impl GraphicsState {
             references,
             loop_counter: 1,
             pointers,
-            cut_in: 68,
+            measures: Measures { cut_in: 68 },
             facts,
+            tallies: Tallies {
+                wrapped_roundings: 0,
+            },
         }
     }
 
@@ -352,6 +389,14 @@ impl GraphicsState {
         ensures { λ r. ⌜ r ≡ withFacts self (markedY (self .facts)) ⌝ }
     {
         self.facts.did_iup_y = true;
+        self
+    }
+
+    // A rounding counted, where it went past 32 bits.
+    pub fn with_rounding(mut self, wrapped: bool) -> GraphicsState
+        ensures { λ r. ⌜ r ≡ withRounding wrapped self ⌝ }
+    {
+        self.tallies = self.tallies.with_rounding(wrapped);
         self
     }
 }

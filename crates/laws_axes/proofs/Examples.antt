@@ -12,8 +12,8 @@ use Rattle.line_miap.specs.Miap.{miapOf}
 use Rattle.line_mdap.specs.Mdap.{mdapDistance, mdapOf, outsideMdap, roundingStep}
 use Rattle.line_iup.specs.Iup.{iupLineOf, markedFor}
 use Rattle.line_isect.specs.Isect.{isectOf, putTouched}
-use Rattle.line_steps.specs.Numbers.{fromOrigin}
-use Rattle.line_steps.specs.Steps.{controlAt, five as takeFive, laidIn, madeIn, moveIn, one, pointOr, two}
+use Rattle.line_steps.specs.Numbers.{fromOrigin, stepFrom}
+use Rattle.line_steps.specs.Steps.{controlAt, five as takeFive, laidIn, madeIn, moveIn, one, pointOr, roundedMoveIn, two}
 use Rattle.line.specs.Places.{fetchIn}
 use Rattle.opcodes.specs.Table.{lineOf, needOf, rowOf}
 use Rattle.flags.specs.Flag.{bit}
@@ -27,7 +27,7 @@ use Rattle.laws_axes.specs.Reached.{afterCall, linesReached, none, reach
 use Rattle.flags.specs.declared.Axis.{Axis}
 use Rattle.flags.specs.declared.Axis.the-variants.{X, Y}
 use Rattle.int.specs.Word.{abs32, add32, maxZ, minZ, mul32, neg32, quot32, sub32, wrap32}
-use Rattle.graphics.specs.State.{allAlong, freshState, usableState, vectorInRange, vectorsInRange, withVectors, yAxis}
+use Rattle.graphics.specs.State.{allAlong, freshState, usableState, vectorInRange, vectorsInRange, withRounding, withVectors, yAxis}
 use Rattle.projection.specs.Projection.{alongOf, axisOf, freedomAxisBy, notSmall, rawFdotp}
 use Rattle.moves.specs.Apply.{applyIn, applyOf}
 use Rattle.line_set.specs.Setters.{axisBy, setBy, setOf, vectorsBy}
@@ -36,8 +36,9 @@ use Rattle.crossing.specs.Crossing.{crossOf, crossingOf, dotOf, meet, middleBy,
 use Rattle.opcodes.specs.Decode.{decodeBy, decodeOf}
 use Rattle.zone.specs.Zone.{fetchOf}
 use Rattle.zone.specs.Sizes.{glyphFits, pairFits, placedFits, twilightFits}
-use Rattle.round.specs.Round.{grid, keepDown, keepUp, quotFloor}
-use Rattle.math.specs.Fixed.{halfUp, mulDiv, multipleBelow, padFloor, padRound, withSign}
+use Rattle.round.specs.Round.{grid, inward, outward}
+use Rattle.round.specs.Tracked.{negated, past as pastBits, plus}
+use Rattle.math.specs.Fixed.{halfUp, mulDiv, multipleBelow, withSign}
 use Rattle.iup.specs.Iup.{iupOf, past, walkOf}
 use Rattle.laws_axes.specs.Axes.{interpolatesAcross, mixes}
 use Rattle.moves.specs.Move.{moveOf, stepBy}
@@ -97,7 +98,7 @@ abbrev moving : List ℤ
 moving = pos 47 ∷ pos 1 ∷ pos 0 ∷ pos 48 ∷ pos 0 ∷ pos 49 ∷ pos 0 ∷ []
 
 pub reaches : (a : Axis) → linesReached (glyph a here) moving 3 0 (begun a here) ≡ 47 ∷ 48 ∷ 49 ∷ []
-unfolding linesReached reachedOnEntry reachedFrom afterCall entryOf fits glyphFits twilightFits pairFits placedFits usableState vectorsInRange vectorInRange stepOf onDecoded decodeOf decodeBy needOf lineOf rowOf setOf one two takeFive controlAt pointOr fetchIn madeIn moveIn laidIn applyIn putTouched outsideMdap mdapOf mdapDistance fromOrigin roundingStep grid alongOf axisOf rawFdotp notSmall fetchOf applyOf moveOf stepBy freedomAxisBy add32 sub32 neg32 abs32 wrap32 maxZ minZ keepUp keepDown padFloor padRound multipleBelow quotFloor markedFor iupLineOf iupOf walkOf past contourOf pointsOf touchedPlaces
+unfolding linesReached reachedOnEntry reachedFrom afterCall entryOf fits glyphFits twilightFits pairFits placedFits usableState vectorsInRange vectorInRange stepOf onDecoded decodeOf decodeBy needOf lineOf rowOf setOf one two takeFive controlAt pointOr fetchIn madeIn moveIn laidIn applyIn putTouched outsideMdap mdapOf mdapDistance fromOrigin roundingStep grid alongOf axisOf rawFdotp notSmall fetchOf applyOf moveOf stepBy freedomAxisBy add32 sub32 neg32 abs32 wrap32 maxZ minZ multipleBelow inward outward plus negated pastBits roundedMoveIn stepFrom withRounding markedFor iupLineOf iupOf walkOf past contourOf pointsOf touchedPlaces
 reaches X = refl
 reaches Y = refl
 
@@ -121,7 +122,7 @@ pub rise-alike :
     (a : Axis)
     → (coordinates a (runOf (glyph a here) moving 3 0 (begun a here) .world) ≡ raised)
     × (coordinates a (runOf (glyph a there) moving 3 0 (begun a there) .world) ≡ raised)
-unfolding runOf runOnEntry entryOf fits glyphFits twilightFits pairFits placedFits usableState vectorsInRange vectorInRange replayOf stepOf onDecoded onCall decodeOf decodeBy needOf lineOf rowOf setOf one two takeFive controlAt pointOr fetchIn madeIn moveIn laidIn applyIn putTouched outsideMdap mdapOf mdapDistance fromOrigin roundingStep grid alongOf axisOf rawFdotp notSmall fetchOf applyOf moveOf stepBy freedomAxisBy add32 sub32 neg32 abs32 wrap32 maxZ minZ keepUp keepDown padFloor padRound multipleBelow quotFloor markedFor iupLineOf iupOf walkOf past contourOf pointsOf touchedPlaces
+unfolding runOf runOnEntry entryOf fits glyphFits twilightFits pairFits placedFits usableState vectorsInRange vectorInRange replayOf stepOf onDecoded onCall decodeOf decodeBy needOf lineOf rowOf setOf one two takeFive controlAt pointOr fetchIn madeIn moveIn laidIn applyIn putTouched outsideMdap mdapOf mdapDistance fromOrigin roundingStep grid alongOf axisOf rawFdotp notSmall fetchOf applyOf moveOf stepBy freedomAxisBy add32 sub32 neg32 abs32 wrap32 maxZ minZ multipleBelow inward outward plus negated pastBits roundedMoveIn stepFrom withRounding markedFor iupLineOf iupOf walkOf past contourOf pointsOf touchedPlaces
 rise-alike X = (refl, refl)
 rise-alike Y = (refl, refl)
 
@@ -132,7 +133,7 @@ refusing = pos 47 ∷ pos 1 ∷ pos 0 ∷ pos 63 ∷ pos 2 ∷ pos 5 ∷ pos 0 �
 
 -- the refused line is reached
 pub reaches-refused : linesReached (held here heights) refusing 9 0 (start here heights) ≡ 47 ∷ 63 ∷ []
-unfolding linesReached reachedOnEntry reachedFrom afterCall entryOf fits glyphFits twilightFits pairFits placedFits usableState vectorsInRange vectorInRange stepOf onDecoded decodeOf decodeBy needOf lineOf rowOf setOf one two takeFive controlAt pointOr fetchIn madeIn moveIn laidIn applyIn putTouched outsideMdap miapOf mdapOf mdapDistance fromOrigin roundingStep grid alongOf axisOf rawFdotp notSmall fetchOf applyOf moveOf stepBy freedomAxisBy add32 sub32 neg32 abs32 wrap32 maxZ minZ keepUp keepDown padFloor padRound multipleBelow quotFloor
+unfolding linesReached reachedOnEntry reachedFrom afterCall entryOf fits glyphFits twilightFits pairFits placedFits usableState vectorsInRange vectorInRange stepOf onDecoded decodeOf decodeBy needOf lineOf rowOf setOf one two takeFive controlAt pointOr fetchIn madeIn moveIn laidIn applyIn putTouched outsideMdap miapOf mdapOf mdapDistance fromOrigin roundingStep grid alongOf axisOf rawFdotp notSmall fetchOf applyOf moveOf stepBy freedomAxisBy add32 sub32 neg32 abs32 wrap32 maxZ minZ multipleBelow inward outward plus negated pastBits roundedMoveIn stepFrom withRounding
 reaches-refused = refl
 
 pub refused-alike : SameVertically (runOf (held here heights) refusing 9 0 (start here heights)) (runOf (held there heights) refusing 9 0 (start there heights))
@@ -147,7 +148,7 @@ RefusedSecond r =
 
 pub refused-second :
     RefusedSecond (runOf (held here heights) refusing 9 0 (start here heights)) × RefusedSecond (runOf (held there heights) refusing 9 0 (start there heights))
-unfolding runOf runOnEntry entryOf fits glyphFits twilightFits pairFits placedFits usableState vectorsInRange vectorInRange replayOf stepOf onDecoded onCall decodeOf decodeBy needOf lineOf rowOf setOf one two takeFive controlAt pointOr fetchIn madeIn moveIn laidIn applyIn putTouched outsideMdap miapOf mdapOf mdapDistance fromOrigin roundingStep grid alongOf axisOf rawFdotp notSmall fetchOf applyOf moveOf stepBy freedomAxisBy add32 sub32 neg32 abs32 wrap32 maxZ minZ keepUp keepDown padFloor padRound multipleBelow quotFloor
+unfolding runOf runOnEntry entryOf fits glyphFits twilightFits pairFits placedFits usableState vectorsInRange vectorInRange replayOf stepOf onDecoded onCall decodeOf decodeBy needOf lineOf rowOf setOf one two takeFive controlAt pointOr fetchIn madeIn moveIn laidIn applyIn putTouched outsideMdap miapOf mdapOf mdapDistance fromOrigin roundingStep grid alongOf axisOf rawFdotp notSmall fetchOf applyOf moveOf stepBy freedomAxisBy add32 sub32 neg32 abs32 wrap32 maxZ minZ multipleBelow inward outward plus negated pastBits roundedMoveIn stepFrom withRounding
 refused-second = ((refl, refl, refl, refl), (refl, refl, refl, refl))
 
 -- ---- what stays across the axis
@@ -160,14 +161,14 @@ abbrev marked : World
 marked = started vertical here heights (3 ∷ 1 ∷ 2 ∷ 0 ∷ 1 ∷ [])
 
 pub reaches-rising : linesReached (held here heights) rising 2 0 marked ≡ 47 ∷ 48 ∷ []
-unfolding linesReached reachedOnEntry reachedFrom afterCall entryOf fits glyphFits twilightFits pairFits placedFits usableState vectorsInRange vectorInRange stepOf onDecoded decodeOf decodeBy needOf lineOf rowOf setOf one two takeFive controlAt pointOr fetchIn madeIn moveIn laidIn applyIn putTouched outsideMdap mdapOf mdapDistance fromOrigin roundingStep grid alongOf axisOf rawFdotp notSmall fetchOf applyOf moveOf stepBy freedomAxisBy add32 sub32 neg32 abs32 wrap32 maxZ minZ keepUp keepDown padFloor padRound multipleBelow quotFloor markedFor iupLineOf iupOf walkOf past contourOf pointsOf touchedPlaces
+unfolding linesReached reachedOnEntry reachedFrom afterCall entryOf fits glyphFits twilightFits pairFits placedFits usableState vectorsInRange vectorInRange stepOf onDecoded decodeOf decodeBy needOf lineOf rowOf setOf one two takeFive controlAt pointOr fetchIn madeIn moveIn laidIn applyIn putTouched outsideMdap mdapOf mdapDistance fromOrigin roundingStep grid alongOf axisOf rawFdotp notSmall fetchOf applyOf moveOf stepBy freedomAxisBy add32 sub32 neg32 abs32 wrap32 maxZ minZ multipleBelow inward outward plus negated pastBits roundedMoveIn stepFrom withRounding markedFor iupLineOf iupOf walkOf past contourOf pointsOf touchedPlaces
 reaches-rising = refl
 
 -- every point rises, and point 0 is touched in y
 pub rises :
     (runOf (held here heights) rising 2 0 marked .world .gy ≡ raised)
     × (runOf (held here heights) rising 2 0 marked .world .gflags ≡ 7 ∷ 1 ∷ 2 ∷ 0 ∷ 1 ∷ [])
-unfolding runOf runOnEntry entryOf fits glyphFits twilightFits pairFits placedFits usableState vectorsInRange vectorInRange replayOf stepOf onDecoded onCall decodeOf decodeBy needOf lineOf rowOf setOf one two takeFive controlAt pointOr fetchIn madeIn moveIn laidIn applyIn putTouched outsideMdap mdapOf mdapDistance fromOrigin roundingStep grid alongOf axisOf rawFdotp notSmall fetchOf applyOf moveOf stepBy freedomAxisBy add32 sub32 neg32 abs32 wrap32 maxZ minZ keepUp keepDown padFloor padRound multipleBelow quotFloor markedFor iupLineOf iupOf walkOf past contourOf pointsOf touchedPlaces
+unfolding runOf runOnEntry entryOf fits glyphFits twilightFits pairFits placedFits usableState vectorsInRange vectorInRange replayOf stepOf onDecoded onCall decodeOf decodeBy needOf lineOf rowOf setOf one two takeFive controlAt pointOr fetchIn madeIn moveIn laidIn applyIn putTouched outsideMdap mdapOf mdapDistance fromOrigin roundingStep grid alongOf axisOf rawFdotp notSmall fetchOf applyOf moveOf stepBy freedomAxisBy add32 sub32 neg32 abs32 wrap32 maxZ minZ multipleBelow inward outward plus negated pastBits roundedMoveIn stepFrom withRounding markedFor iupLineOf iupOf walkOf past contourOf pointsOf touchedPlaces
 rises = (refl, refl)
 
 pub stays-across :
@@ -239,5 +240,5 @@ pub differs-by-turning :
     ∷ height4 (runOf (held (upright (pos 40)) heights) turning 2 0 (start (upright (pos 40)) heights))
     ∷ []
     ≡ heights ∷ five (pos 64) (pos 100) (pos 0) (pos 64) (pos 0) ∷ []
-unfolding runOf runOnEntry entryOf fits glyphFits twilightFits pairFits placedFits usableState vectorsInRange vectorInRange replayOf stepOf onDecoded onCall decodeOf decodeBy needOf lineOf rowOf setOf one two takeFive controlAt pointOr fetchIn madeIn moveIn laidIn applyIn putTouched outsideMdap setBy vectorsBy axisBy mdapOf mdapDistance fromOrigin roundingStep grid alongOf axisOf rawFdotp notSmall fetchOf applyOf moveOf stepBy freedomAxisBy add32 sub32 neg32 abs32 mul32 mulDiv halfUp withSign wrap32 maxZ minZ keepUp keepDown padFloor padRound multipleBelow quotFloor
+unfolding runOf runOnEntry entryOf fits glyphFits twilightFits pairFits placedFits usableState vectorsInRange vectorInRange replayOf stepOf onDecoded onCall decodeOf decodeBy needOf lineOf rowOf setOf one two takeFive controlAt pointOr fetchIn madeIn moveIn laidIn applyIn putTouched outsideMdap setBy vectorsBy axisBy mdapOf mdapDistance fromOrigin roundingStep grid alongOf axisOf rawFdotp notSmall fetchOf applyOf moveOf stepBy freedomAxisBy add32 sub32 neg32 abs32 mul32 mulDiv halfUp withSign wrap32 maxZ minZ multipleBelow inward outward plus negated pastBits roundedMoveIn stepFrom withRounding
 differs-by-turning = refl

@@ -18,7 +18,7 @@ use Rattle.laws_axes.specs.Axes.{Still, Straight, across, markAcross, ma
 use Rattle.flags.specs.declared.Axis.the-variants.{X, Y}
 use Rattle.flags.specs.declared.Axis.{Axis}
 use Rattle.graphics.proofs.Laws.{and-left}
-use Rattle.graphics.specs.State.{pastBothIups}
+use Rattle.graphics.specs.State.{pastBothIups, withRounding}
 use Rattle.graphics.specs.declared.GraphicsState.{GraphicsState}
 use Rattle.graphics.specs.declared.Vector.{Vector}
 use Rattle.graphics.specs.declared.Vectors.{Vectors}
@@ -49,6 +49,7 @@ after-held s op at = either (λ (t : GraphicsState). t .vectors ≡ s .vectors) 
 
 -- along the axis where they were
 pub stays-straight : (a : Axis) (u : World) → Stays (u .state) (λ _. Unit {0}) (λ (w : World). Straight a (u .state) → Straight a (w .state))
+unfolding withRounding
 stays-straight a u = let s = u .state in record {
   by-distance = λ zone d at w k. k;
   by-shift = λ zone dx dy touches at w k. k;
@@ -59,6 +60,7 @@ stays-straight a u = let s = u .state in record {
   both-set = λ at w r k. k;
   three-set = λ op at w r e k h. after-held s op at ∙ h;
   counted = λ w k. k;
+  rounded = λ wrapped w k. k;
 }
 
 marked-held : (s : GraphicsState) (op : ℕ) → markedFor s op .vectors ≡ s .vectors
@@ -152,6 +154,7 @@ stays-still a u s e = record {
   both-set = λ at w r k. k;
   three-set = λ op at w r g k. k;
   counted = λ w k. k;
+  rounded = λ wrapped w k. k;
 }
 
 -- ---- IUP along the axis

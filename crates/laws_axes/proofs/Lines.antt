@@ -7,6 +7,8 @@ use mathlib.Core.Path.{_≡_, ap, ap₂, refl, sym, _∙_}
 use lib.Dec.{eqb, ltb}
 use lib.IntN.{ℤ, pos}
 use lib.ListN.{length, length-set, set}
+use Rattle.round.specs.Tracked.{given}
+use Rattle.round.specs.declared.Tracked.{Tracked}
 use Rattle.answer.specs.declared.Refusal.the-variants.{Compatibility, Contour}
 use Rattle.answer.specs.declared.Refusal.the-variants.{ZonePointer as BadZone}
 use Rattle.answer.specs.declared.Refusal.{Refusal}
@@ -35,7 +37,7 @@ use Rattle.line_shc_shz.specs.Shc.{pointAfter, shcOf, shzOf}
 use Rattle.line_span.specs.Span.{pointsFrom, sameZone, shiftBut, spanIn}
 use Rattle.line_shift.specs.Shift.{pixelMove, shpOf, shpixOf}
 use Rattle.line_steps.specs.Numbers.{fromOrigin}
-use Rattle.line_steps.specs.Steps.{byDisplaced, referenceIn, referenceMoved, doneIn, inState, laidIn, looped, madeIn, moveIn, onBoth, one, passedOver, pointOr, refusedIn, shiftPoint, two}
+use Rattle.line_steps.specs.Steps.{byDisplaced, referenceIn, referenceMoved, doneIn, inState, laidIn, looped, madeIn, moveIn, onBoth, one, passedOver, pointOr, refusedIn, roundedMoveIn, shiftPoint, two}
 use Rattle.moves.specs.Displacement.{referenceOf}
 use Rattle.moves.specs.Move.{isIdle, moveOf, originalMoveOf, zp2MoveOf}
 use Rattle.moves.specs.declared.Displaced.the-variants.{By}
@@ -48,7 +50,7 @@ use Rattle.line.specs.Places.{sizeOf}
 use Rattle.projection.specs.Projection.{projectOf}
 use Rattle.line.specs.World.{Fixed, Lined, World, world}
 use Rattle.zone.specs.Zone.{flipOf, placeOf}
-use Rattle.laws_axes.proofs.Steps.{Alike, Same, control-seen, done-seen, each-seen, first-seen, flags-seen, from-origin-seen, laid-seen, looped-seen, made-seen, move-seen, one-seen, passed-seen, point-seen, refused-seen, state-seen, two-seen, world-again}
+use Rattle.laws_axes.proofs.Steps.{Alike, Same, control-seen, done-seen, each-seen, first-seen, flags-seen, from-origin-seen, laid-seen, looped-seen, made-seen, move-seen, one-seen, passed-seen, point-seen, refused-seen, rounded-seen, state-seen, two-seen, world-again}
 use Rattle.laws_axes.proofs.Walk.{across, wentLevel}
 
 -- a line that sees nothing across the axis
@@ -68,7 +70,7 @@ mdap-distance-seen : (a : Axis) (w : World) → Straight a (w .state) → (round
     → mdapDistance rounds (w .state .round) (w .state .vectors) p ≡ mdapDistance rounds (w .state .round) (w .state .vectors) q
 unfolding mdapDistance
 mdap-distance-seen a w straight rounds p q h =
-    ap (λ (d : ℤ). cond rounds (roundingStep (w .state .round) d) (pos 0)) (from-origin-seen a (w .state .vectors) straight p q h)
+    ap (λ (d : ℤ). cond rounds (roundingStep (w .state .round) d) (given (pos 0))) (from-origin-seen a (w .state .vectors) straight p q h)
 
 outside-seen : (a : Axis) (at : ℕ) (w : World) (why : Refusal) → Same a (outsideMdap at (worldSeen a w) why) (outsideMdap at w why)
 unfolding outsideMdap
@@ -85,8 +87,8 @@ mdap-seen a f op operands w straight =
     let at = indexOf point in
     let end : World → Lined = λ v. doneIn (onBoth at v) in
     point-seen a _ _ _ _ (outside-seen a at w)
-    (λ p q h. ap (λ (d : ℤ). linedSeen a (moveIn zone d at (worldSeen a w) end)) (mdap-distance-seen a w straight (roundsIn w op) p q h)
-    ∙ move-seen a end end (both-set-seen a at) zone (mdapDistance (roundsIn w op) (s .round) (s .vectors) q) at same)
+    (λ p q h. ap (λ (d : Tracked). linedSeen a (roundedMoveIn zone d at (worldSeen a w) end)) (mdap-distance-seen a w straight (roundsIn w op) p q h)
+    ∙ rounded-seen a end end (both-set-seen a at) zone (mdapDistance (roundsIn w op) (s .round) (s .vectors) q) at same)
     zone at same
 
 -- ---- a twilight point made, at places that look alike
@@ -119,11 +121,11 @@ miap-seen a f op operands w straight =
     let at = indexOf point in
     let place = controlPlace (s .vectors .freedom) control in
     let made = made-seen a at place zone same in
-    let distance : ℤ → ℤ = λ own. miapDistance (isOdd op) (s .facts .«native_clear_type_x») (s .round) (s .«cut_in») control own in
+    let distance : ℤ → Tracked = λ own. miapDistance (isOdd op) (s .facts .«native_clear_type_x») (s .round) (s .measures .«cut_in») control own in
     let end : World → Lined = λ v. doneIn (onBoth at v) in
     point-seen a _ _ _ _ (refused-seen a made)
-    (λ p q h. ap (λ (own : ℤ). linedSeen a (moveIn zone (distance own) at (madeIn at place (worldSeen a w) zone) end)) (from-origin-seen a (s .vectors) straight p q h)
-    ∙ move-seen a end end (both-set-seen a at) zone (distance (fromOrigin (s .vectors) q)) at made)
+    (λ p q h. ap (λ (own : ℤ). linedSeen a (roundedMoveIn zone (distance own) at (madeIn at place (worldSeen a w) zone) end)) (from-origin-seen a (s .vectors) straight p q h)
+    ∙ rounded-seen a end end (both-set-seen a at) zone (distance (fromOrigin (s .vectors) q)) at made)
     zone at made
 
 -- ---- MSIRP

@@ -8,6 +8,7 @@ use native.Mathlib.Omega.{arith}
 use lib.Dec.{ltb}
 use lib.IntN.{ℤ, pos}
 use lib.ListN.{getD, length, set}
+use Rattle.round.specs.declared.Tracked.{Tracked}
 use Rattle.answer.specs.declared.Call.the-variants.{Done, Refused}
 use Rattle.answer.specs.declared.Call.{Call}
 use Rattle.answer.specs.declared.Refusal.the-variants.{ControlValue, Missing}
@@ -23,7 +24,7 @@ use Rattle.graphics.specs.declared.Vectors.{Vectors}
 use Rattle.graphics.specs.declared.ZonePointer.the-variants.{Glyph, Twilight}
 use Rattle.graphics.specs.declared.ZonePointer.{ZonePointer}
 use Rattle.line_steps.specs.Numbers.{fromOrigin, origin}
-use Rattle.line_steps.specs.Steps.{byCall, byDisplaced, byFetched, controlAt, referenceIn, referenceMoved, doneIn, eachIn, first, flagsIn, inState, laidIn, looped, madeIn, moveIn, one, passedOver, pointOr, refusedIn, shiftPoint, two, withPoints}
+use Rattle.line_steps.specs.Steps.{byCall, byDisplaced, byFetched, controlAt, referenceIn, referenceMoved, doneIn, eachIn, first, flagsIn, inState, laidIn, looped, madeIn, moveIn, one, passedOver, pointOr, refusedIn, roundedIn, roundedMoveIn, shiftPoint, two, withPoints}
 use Rattle.moves.specs.Apply.{Moved, applyIn, applyOf}
 use Rattle.moves.specs.Move.{moveOf}
 use Rattle.moves.specs.declared.Move.{Move}
@@ -165,6 +166,15 @@ module _ (a : Axis) (rest rest' : World → Lined) (there : (v w : World) → Al
       (sym (applied-level a zone (moveOf (v .state .vectors) (v .state .facts) d) at v)
       ∙ ap (λ (u : World). linedSeen a (moved u)) (e .seen)
       ∙ applied-level a zone (moveOf (w .state .vectors) (w .state .facts) d) at w)
+
+-- by a rounded distance
+module _ (a : Axis) (rest rest' : World → Lined) (h : (v w : World) → Alike a v w → Same a (rest v) (rest' w)) where
+  pub rounded-seen : (zone : ZonePointer) (d : Tracked) (at : ℕ) {v w : World} → Alike a v w → Same a (roundedMoveIn zone d at v rest) (roundedMoveIn zone d at w rest')
+  unfolding roundedMoveIn
+  rounded-seen zone d at =
+      move-seen a (λ (v : World). rest (roundedIn (d .wrapped) v)) (λ (v : World). rest' (roundedIn (d .wrapped) v))
+      (λ v w e. h (roundedIn (d .wrapped) v) (roundedIn (d .wrapped) w) (record { seen = ap (λ (u : World). roundedIn (d .wrapped) u) (e .seen) }))
+      zone (d .word) at
 
 pub done-seen : (a : Axis) (v w : World) → Alike a v w → Same a (doneIn v) (doneIn w)
 done-seen a v w e = ap doneIn (e .seen)

@@ -6,7 +6,7 @@ use mathlib.Core.Path.{_≡_, refl, sym, _∙_}
 use lib.Bits.{bitOr, bitXor}
 use lib.IntN.{ℤ}
 use lib.ListN.{length, length-set}
-use Rattle.graphics.specs.State.{pastBothIups, withLoopCounter}
+use Rattle.graphics.specs.State.{pastBothIups, withLoopCounter, withRounding}
 use Rattle.graphics.specs.declared.GraphicsState.{GraphicsState}
 use Rattle.graphics.specs.declared.Vector.{Vector}
 use Rattle.graphics.specs.declared.ZonePointer.the-variants.{Glyph, Twilight}
@@ -89,6 +89,7 @@ module _ (u : World) where
     both-set = λ at w r k. in-state-kept w (bothAt at (w .state)) k;
     three-set = λ op at w r e k. in-state-kept w (referencesAfter s op at) k;
     counted = λ w k. in-state-kept w (withLoopCounter (w .state) 1) k;
+    rounded = λ wrapped w k. in-state-kept w (withRounding wrapped (w .state)) k;
   }
 
 -- ---- the lines that do something else

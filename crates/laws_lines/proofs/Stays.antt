@@ -7,6 +7,7 @@ use mathlib.Core.Path.{_≡_, ap, refl, subst, sym, _∙_}
 use lib.Dec.{eqb, ltb}
 use lib.IntN.{ℤ, pos}
 use lib.ListN.{getD, length}
+use Rattle.round.specs.declared.Tracked.{Tracked}
 use Rattle.answer.specs.declared.Call.the-variants.{Done, Refused}
 use Rattle.answer.specs.declared.Call.{Call}
 use Rattle.answer.specs.declared.Refusal.the-variants.{Contour}
@@ -30,7 +31,7 @@ use Rattle.line_msirp.specs.Msirp.{bothThere, madePlace, msirpOf, referencesAft
 use Rattle.line_shc_shz.specs.Shc.{shcOf, shzOf}
 use Rattle.line_span.specs.Span.{pointsFrom, sameZone, shiftBut, spanIn}
 use Rattle.line_shift.specs.Shift.{shpOf, shpixOf}
-use Rattle.line_steps.specs.Steps.{byCall, byDisplaced, byFetched, controlAt, referenceIn, referenceMoved, doneIn, eachIn, first, five, flagsIn, inState, laidIn, looped, madeIn, moveIn, onBoth, one, passedOver, pointOr, shiftPoint, two, withPoints}
+use Rattle.line_steps.specs.Steps.{byCall, byDisplaced, byFetched, controlAt, referenceIn, referenceMoved, doneIn, eachIn, first, five, flagsIn, inState, laidIn, looped, madeIn, moveIn, onBoth, one, passedOver, pointOr, shiftPoint, two, withPoints, roundedIn, roundedMoveIn}
 use Rattle.math.specs.Fixed.{mulFix14}
 use Rattle.moves.specs.Apply.{applyIn}
 use Rattle.moves.specs.Move.{isIdle, moveOf, zp2MoveOf}
@@ -70,6 +71,8 @@ pub record Stays (s : GraphicsState) (Refers : ℕ → Type 0) (P : World → Ty
   pub both-set : (at : ℕ) (w : World) → Refers at → P w → P (onBoth at w)
   pub three-set : (op at : ℕ) (w : World) → Refers at → w .state ≡ s → P w → P (inState w (referencesAfter s op at))
   pub counted : (w : World) → P w → P (inState w (withLoopCounter (w .state) 1))
+  -- a rounding that went past 32 bits, or not
+  pub rounded : (wrapped : Bool) (w : World) → P w → P (roundedIn wrapped w)
 
 -- ---- the steps of a line: what is left where they go on and where they don't
 module _ (P : World → Type 0) where
@@ -192,6 +195,12 @@ module _ {Refers : ℕ → Type 0} {P : World → Type 0} (f : Fixed) (op : ℕ)
       let k = stays .by-distance zone d at v (q .1) in
       subst (λ (m : Move). Left P (laidIn zone m at v rest)) (sym same) (laid-stays P zone (moveOf (s .vectors) (s .facts) d) at v rest k (h (laid zone (moveOf (s .vectors) (s .facts) d) at v) (q .0, k)))
 
+  -- by a rounded distance
+  rounded-stays : (zone : ZonePointer) (d : Tracked) (at : ℕ) (v : World) (rest : World → Lined) → Q v → ((u : World) → P u → Left P (rest u))
+      → Left P (roundedMoveIn zone d at v rest)
+  unfolding roundedMoveIn
+  rounded-stays zone d at v rest q h = moved-stays zone (d .word) at v _ q λ u k. h (roundedIn (d .wrapped) u) (stays .rounded (d .wrapped) u (k .1))
+
   looped-stays : (step : ℤ → World → Lined) → ((z : ℤ) (v : World) → Q v → Left Q (step z v)) → (all : List ℤ) → Left P (looped all w step)
   looped-stays step h all =
       let l = eachIn step (s .«loop_counter») all w in
@@ -204,7 +213,7 @@ module _ {Refers : ℕ → Type 0} {P : World → Type 0} (f : Fixed) (op : ℕ)
         one-stays P Operand operands w _ o p λ point refers.
         let at = indexOf point in
         point-stays P (s .pointers .zp0) at w _ _ (λ why. either (Left P) (s .facts .pedantic) p (stays .both-set at w refers p)) λ place.
-        moved-stays (s .pointers .zp0) _ at w _ (refl, p) λ v q. stays .both-set at v refers (q .1)
+        rounded-stays (s .pointers .zp0) _ at w _ (refl, p) λ v q. stays .both-set at v refers q
 
     pub miap-stays : Left P (miapOf f op operands w)
     unfolding miapOf
@@ -216,7 +225,7 @@ module _ {Refers : ℕ → Type 0} {P : World → Type 0} (f : Fixed) (op : ℕ)
         let place = controlPlace (s .vectors .freedom) control in
         let m = stays .by-control control at zone w p in
         point-stays P zone at (madeIn at place w zone) _ _ (λ why. m) λ own.
-        moved-stays zone _ at (madeIn at place w zone) _ (made-state at place w zone, m) λ v q. stays .both-set at v refers (q .1)
+        rounded-stays zone _ at (madeIn at place w zone) _ (made-state at place w zone, m) λ v q. stays .both-set at v refers q
 
     both-there-stays : (at : ℕ) (rest : Lined) → Left P rest → (zone : ZonePointer) → Left P (bothThere at w rest zone)
     unfolding bothThere

@@ -7,7 +7,7 @@ use mathlib.Core.Path.{_≡_, ap, refl, _∙_}
 use lib.Dec.{eqb, ltb}
 use lib.IntN.{pos, ℤ}
 use lib.Signed.{nonNeg}
-use Rattle.graphics.proofs.Laws.{usable-all-vectors, usable-facts, usable-freedom-vector, usable-loop, usable-pointers, usable-projection-vectors, usable-references, usable-round, usable-round-mode, x-in-range, y-in-range}
+use Rattle.graphics.proofs.Laws.{usable-all-vectors, usable-facts, usable-freedom-vector, usable-loop, usable-pointers, usable-projection-vectors, usable-references, usable-round, usable-round-mode, x-in-range, y-in-range, usable-rounding}
 use Rattle.graphics.specs.State.{pastBothIups, usableState, vectorInRange}
 use Rattle.graphics.specs.declared.GraphicsState.{GraphicsState}
 use Rattle.graphics.specs.declared.Vector.{Vector}
@@ -118,6 +118,7 @@ stays-usable u = let s = u .state in record {
   both-set = λ at w r k h. usable-references (w .state) _ ∙ k h;
   three-set = λ op at w r e k h. after-usable s op at ∙ h;
   counted = λ w k h. usable-loop (w .state) 1 ∙ k h;
+  rounded = λ wrapped w k h. usable-rounding wrapped (w .state) ∙ k h;
 }
 
 isect-same : (f : Fixed) (op : ℕ) (operands : List ℤ) (w : World) → UsableAs (w .state) (isectOf f op operands w .world)

@@ -38,10 +38,11 @@ use Rattle.exports.specs.Call.{Left, callOf, left}
 use Rattle.record_read.specs.Format.{held}
 use Rattle.record_read.specs.Read.{openOf}
 use Rattle.record_read.specs.declared.Opened.{Opened}
+use Rattle.record_layout.specs.Order.{mostBytes}
 use Rattle.record_write.specs.Written.{Wrote, writeOf, wrote}
 use Rattle.record_run.specs.After.{Shelved, shelved}
 use Rattle.record_run.specs.declared.Replayed.{Replayed}
-use Rattle.record_replay.specs.Shelf.{shelfOf}
+use Rattle.record_replay.specs.Shelf.{shelfOf, shelfWithin}
 use Rattle.record_print.specs.Print.{Front, printOf}
 
 -- ---- the law
@@ -122,19 +123,23 @@ module _ (start budget : ℕ) (sheet controls gux guy gox goy gx gy : List ℤ) 
         one-part (λ (x : Left). x .tflags) p q,
       )
 
-  pub write-has-one-outcome : (s : GraphicsState) (out : List ℕ) (r₁ : ℕ) (out₁ : List ℕ) (r₂ : ℕ) (out₂ : List ℕ)
-      → wrote r₁ out₁ ≡ writeOf (held (fixed controls gux guy gox goy contours) sheet (world s gx gy gflags tox toy tx ty tflags)) out
-      → wrote r₂ out₂ ≡ writeOf (held (fixed controls gux guy gox goy contours) sheet (world s gx gy gflags tox toy tx ty tflags)) out
+  pub write-has-one-outcome : (most : ℕ) (s : GraphicsState) (out : List ℕ) (r₁ : ℕ) (out₁ : List ℕ) (r₂ : ℕ) (out₂ : List ℕ)
+      → wrote r₁ out₁ ≡ writeOf most (held (fixed controls gux guy gox goy contours) sheet (world s gx gy gflags tox toy tx ty tflags)) out
+      → wrote r₂ out₂ ≡ writeOf most (held (fixed controls gux guy gox goy contours) sheet (world s gx gy gflags tox toy tx ty tflags)) out
       → (r₁ ≡ r₂) × (out₁ ≡ out₂)
-  write-has-one-outcome s out r₁ out₁ r₂ out₂ p q = (one-part (λ (x : Wrote). x .size) p q, one-part (λ (x : Wrote). x .bytes) p q)
+  write-has-one-outcome most s out r₁ out₁ r₂ out₂ p q = (one-part (λ (x : Wrote). x .size) p q, one-part (λ (x : Wrote). x .bytes) p q)
 
 -- ---- bytes and words
 pub open-has-one-outcome : (bytes : List ℕ) (r₁ r₂ : Opened) → r₁ ≡ openOf bytes → r₂ ≡ openOf bytes → r₁ ≡ r₂
 open-has-one-outcome bytes r₁ r₂ p q = one-outcome p q
 
+pub replay-within-has-one-outcome : (most : ℕ) (bytes out : List ℕ) (r₁ : Replayed) (out₁ : List ℕ) (r₂ : Replayed) (out₂ : List ℕ)
+    → shelved r₁ out₁ ≡ shelfWithin most bytes out → shelved r₂ out₂ ≡ shelfWithin most bytes out → (r₁ ≡ r₂) × (out₁ ≡ out₂)
+replay-within-has-one-outcome most bytes out r₁ out₁ r₂ out₂ p q = (one-part (λ (x : Shelved). x .said) p q, one-part (λ (x : Shelved). x .out) p q)
+
 pub replay-has-one-outcome : (bytes out : List ℕ) (r₁ : Replayed) (out₁ : List ℕ) (r₂ : Replayed) (out₂ : List ℕ)
     → shelved r₁ out₁ ≡ shelfOf bytes out → shelved r₂ out₂ ≡ shelfOf bytes out → (r₁ ≡ r₂) × (out₁ ≡ out₂)
-replay-has-one-outcome bytes out r₁ out₁ r₂ out₂ p q = (one-part (λ (x : Shelved). x .said) p q, one-part (λ (x : Shelved). x .out) p q)
+replay-has-one-outcome bytes out r₁ out₁ r₂ out₂ p q = replay-within-has-one-outcome mostBytes bytes out r₁ out₁ r₂ out₂ p q
 
 pub print-has-one-outcome : (bytes text : List ℕ) (r₁ : ℕ) (text₁ : List ℕ) (r₂ : ℕ) (text₂ : List ℕ)
     → r₁ ≡ length (printOf bytes) → Front r₁ text₁ → text₁ ≡ printOf bytes ++ drop r₁ text

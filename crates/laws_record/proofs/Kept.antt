@@ -1,9 +1,11 @@
--- A record that is read is written as the same bytes: `written-as-read` holds of every byte string that `readOf` keeps. Assumes nothing.
-use mathlib.Core.List.{List, [], _++_}
+-- What is read is written again: `words-kept` holds of every byte string that `readOf` keeps, whatever its edition: the state's words, completed where the
+-- edition is older, and all that stood between them and the trailer. Of the newest edition it is the same bytes: `written-as-read`. Assumes nothing.
+use mathlib.Core.List.{List, [], _++_, append-nil}
 use mathlib.Core.Path.{_∙_, _≡_, ap, ap₂, refl, sym}
 use Prim.Native.Nat.{_%_, _*_, _+_, _-_, _<_, _^_, suc, ℕ}
 use native.Mathlib.Omega.{arith}
-use lib.ListN.{getD, length}
+use lib.ListN.{drop, getD, length}
+use Rattle.graphics.specs.State.{freshState}
 use Rattle.int.specs.Word.{ofBits}
 use Rattle.state_words.specs.Words.{stateOf, stateSize, stateWords}
 use Rattle.state_words.proofs.Back.{cons, written-read}
@@ -11,13 +13,24 @@ use Rattle.words.specs.Lists.{bytesOf, endOf, numbersOf, part, word, wordsOfNum
 use Rattle.words.proofs.Back.{Bytes, bytes-back, part-fits, part-join, word-fits}
 use Rattle.words.proofs.Parts.{mapped-length}
 use Rattle.record_read.specs.Format.{Held, bodyWords, glyphWords, layoutFor, recordOf, trailerWords, twilightWords, wordsOf}
-use Rattle.record_read.specs.Read.{Kept, heldIn, layoutOf, openOf, readAs, readOf, trailerWord, wordCount}
-use Rattle.record_layout.specs.Order.{atTrailer, listPlace}
+use Rattle.record_read.specs.Read.{Kept, heldIn, keptBy, keptIn, layoutOf, openOf, readAs, readOf, stateIn, trailerWord, wordCount}
+use Rattle.record_layout.specs.Order.{atTrailer, edition, listPlace, trailerSize}
 use Rattle.record_layout.specs.declared.Layout.{Layout}
 use Rattle.record_read.specs.declared.Opened.{Opened}
 use Rattle.record_read.specs.declared.Opened.the-variants.{Whole, Damaged}
+use Rattle.laws_record.proofs.States.{state-words}
+use Rattle.laws_record.proofs.Whence.{refused-or-kept}
 use Rattle.laws_record.proofs.Values.{ends-back, flags-back, numbers-back, words-at}
 use Rattle.record_read.proofs.Whole.{Sound, layout-is, sound}
+
+-- ---- the state's words, by edition
+all-kept : (bytes : List ℕ) → trailerWord bytes 5 ≡ edition → stateIn bytes ≡ part bytes 0 stateSize
+unfolding stateWords
+all-kept bytes e = ap (λ (k : ℕ). part bytes 0 (keptBy k) ++ drop (keptBy k) (stateWords freshState)) e ∙ append-nil (part bytes 0 stateSize)
+
+no-count : (bytes : List ℕ) → trailerWord bytes 5 ≡ 1 → stateOf (stateIn bytes) .tallies .«wrapped_roundings» ≡ 0
+unfolding stateOf stateWords
+no-count bytes e = ap (λ (k : ℕ). getD (part bytes 0 (keptBy k) ++ drop (keptBy k) (stateWords freshState)) 26 0) e
 
 zero-on : (k : ℕ) → k ≡ 0 + k
 zero-on k = omega arith
@@ -78,86 +91,108 @@ module _ (bytes : List ℕ) (f : Bytes bytes) where
     rest-is : wordsOfNumbers (h .fixed .controls) ++ wordsOfNumbers (h .sheet) ≡ at (listPlace l 13) (l .controls + l .words)
     rest-is = cat (listPlace l 13) (l .controls) (l .words) (numbers (listPlace l 13) (l .controls)) (numbers (listPlace l 14) (l .words))
 
-    fit-state : (k : ℕ) → getD (at 0 stateSize) k 0 < 2 ^ 32
-    fit-state k = words-at (at 0 stateSize) k (part-fits bytes 0 stateSize f)
+    state-back : stateWords (stateOf (stateIn bytes)) ≡ stateIn bytes
+    state-back = written-read (stateIn bytes) (s .state-is) (λ k. words-at (stateIn bytes) k (state-words bytes f))
 
-    state-back : stateWords (stateOf (at 0 stateSize)) ≡ at 0 stateSize
-    state-back = written-read (at 0 stateSize) (s .state-is) fit-state
+    -- the lists, from the state to the trailer
+    lists-are : glyphWords h ++ (twilightWords h ++ (wordsOfNumbers (h .fixed .controls) ++ wordsOfNumbers (h .sheet))) ≡ at (l .state) (atTrailer l - l .state)
+    lists-are =
+        let b : listPlace l 8 ≡ l .state + glyph-size = omega arith in
+        let d : listPlace l 13 ≡ l .state + glyph-size + twilight-size = omega arith in
+        let all : glyph-size + (twilight-size + rest-size) ≡ atTrailer l - l .state = omega arith in
+        cat (l .state) glyph-size (twilight-size + rest-size) glyph-is
+        (cat (l .state + glyph-size) twilight-size rest-size (twilight-is ∙ ap (λ (k : ℕ). at k twilight-size) b) (rest-is ∙ ap (λ (k : ℕ). at k rest-size) d))
+        ∙ ap (at (l .state)) all
 
-    body-is : bodyWords h ≡ at 0 (atTrailer l)
-    body-is =
-        let a : listPlace l 0 ≡ 0 + stateSize = omega arith in
-        let b : listPlace l 8 ≡ 0 + stateSize + glyph-size = omega arith in
-        let d : listPlace l 13 ≡ 0 + stateSize + glyph-size + twilight-size = omega arith in
-        let all : stateSize + (glyph-size + (twilight-size + rest-size)) ≡ atTrailer l = omega arith in
-        cat 0 stateSize (glyph-size + (twilight-size + rest-size)) state-back
-        (cat (0 + stateSize) glyph-size (twilight-size + rest-size) (glyph-is ∙ ap (λ (k : ℕ). at k glyph-size) a)
-        (cat (0 + stateSize + glyph-size) twilight-size rest-size (twilight-is ∙ ap (λ (k : ℕ). at k twilight-size) b) (rest-is ∙ ap (λ (k : ℕ). at k rest-size) d)))
-        ∙ ap (at 0) all
+    body-kept : bodyWords h ≡ stateIn bytes ++ at (keptIn bytes) (wordCount bytes - trailerSize - keptIn bytes)
+    body-kept =
+        let e : atTrailer l - l .state ≡ wordCount bytes - trailerSize - keptIn bytes = omega (arith, s .adds-up) in
+        ap₂ (λ (a b : List ℕ). a ++ b) state-back (lists-are ∙ ap (at (keptIn bytes)) e)
 
-    -- ---- the trailer
-    place : (k j : ℕ) → wordCount bytes - 8 + k ≡ j → trailerWord bytes k ≡ word bytes j
-    place k j e = ap (word bytes) e
+    -- ---- of the newest edition
+    module _ (newest : trailerWord bytes 5 ≡ edition) where
+      all-words : l .state ≡ stateSize
+      all-words = ap keptBy newest
 
-    abbrev t : ℕ
-    t = atTrailer l
+      body-is : bodyWords h ≡ at 0 (atTrailer l)
+      body-is =
+          let all : stateSize + (atTrailer l - l .state) ≡ atTrailer l = omega (arith, all-words) in
+          cat 0 stateSize (atTrailer l - l .state) (state-back ∙ all-kept bytes newest) (lists-are ∙ ap (λ (j : ℕ). at j (atTrailer l - l .state)) all-words)
+          ∙ ap (at 0) all
 
-    points-are : length (h .world .gx) ≡ n
-    points-are = mapped-length ofBits bytes (listPlace l 4) n
+      -- ---- the trailer
+      place : (k j : ℕ) → wordCount bytes - 8 + k ≡ j → trailerWord bytes k ≡ word bytes j
+      place k j e = ap (word bytes) e
 
-    contours-are : length (h .fixed .contours) ≡ c
-    contours-are = mapped-length endOf bytes (listPlace l 7) c
+      abbrev t : ℕ
+      t = atTrailer l
 
-    twilight-are : length (h .world .tx) ≡ m
-    twilight-are = mapped-length ofBits bytes (listPlace l 10) m
+      points-are : length (h .world .gx) ≡ n
+      points-are = mapped-length ofBits bytes (listPlace l 4) n
 
-    controls-are : length (h .fixed .controls) ≡ l .controls
-    controls-are = mapped-length ofBits bytes (listPlace l 13) (l .controls)
+      contours-are : length (h .fixed .contours) ≡ c
+      contours-are = mapped-length endOf bytes (listPlace l 7) c
 
-    words-are : length (h .sheet) ≡ l .words
-    words-are = mapped-length ofBits bytes (listPlace l 14) (l .words)
+      twilight-are : length (h .world .tx) ≡ m
+      twilight-are = mapped-length ofBits bytes (listPlace l 10) m
 
-    same-trailer : atTrailer (layoutFor h) ≡ t
-    same-trailer = omega (arith, points-are, contours-are, twilight-are, controls-are, words-are)
+      controls-are : length (h .fixed .controls) ≡ l .controls
+      controls-are = mapped-length ofBits bytes (listPlace l 13) (l .controls)
 
-    way-back : atTrailer (layoutFor h) * 4 % 2 ^ 32 ≡ trailerWord bytes 6
-    way-back =
-        let small : trailerWord bytes 6 < 2 ^ 32 = word-fits bytes (wordCount bytes - 8 + 6) f in
-        omega (arith, same-trailer, s .back-is, small)
+      words-are : length (h .sheet) ≡ l .words
+      words-are = mapped-length ofBits bytes (listPlace l 14) (l .words)
 
-    trailer-is : trailerWords (layoutFor h) ≡ at t 7
-    trailer-is =
-        let u = s .adds-up in
-        cons (points-are ∙ place 0 t (omega (arith, u)))
-        (cons (contours-are ∙ place 1 (suc t) (omega (arith, u)))
-        (cons (twilight-are ∙ place 2 (suc (suc t)) (omega (arith, u)))
-        (cons (controls-are ∙ place 3 (suc (suc (suc t))) (omega (arith, u)))
-        (cons (words-are ∙ place 4 (suc (suc (suc (suc t)))) (omega (arith, u)))
-        (cons (sym (s .edition-is) ∙ place 5 (suc (suc (suc (suc (suc t))))) (omega (arith, u)))
-        (cons (way-back ∙ place 6 (suc (suc (suc (suc (suc (suc t)))))) (omega (arith, u))) refl))))))
+      same-trailer : atTrailer (layoutFor h) ≡ t
+      same-trailer = omega (arith, all-words, points-are, contours-are, twilight-are, controls-are, words-are)
 
-    before-sum : bodyWords h ++ trailerWords (layoutFor h) ≡ at 0 (t + 7)
-    before-sum = cat 0 t 7 body-is (trailer-is ∙ ap (λ (k : ℕ). at k 7) (zero-on t))
+      way-back : atTrailer (layoutFor h) * 4 % 2 ^ 32 ≡ trailerWord bytes 6
+      way-back =
+          let small : trailerWord bytes 6 < 2 ^ 32 = word-fits bytes (wordCount bytes - 8 + 6) f in
+          omega (arith, same-trailer, s .back-is, small)
 
-    sum-is : wrappingSum (bodyWords h ++ trailerWords (layoutFor h)) ≡ word bytes (0 + (t + 7))
-    sum-is =
-        let e : t + 7 ≡ wordCount bytes - 1 = omega (arith, s .adds-up) in
-        ap wrappingSum (before-sum ∙ ap (at 0) e) ∙ s .sum-is ∙ place 7 (0 + (t + 7)) (omega (arith, s .adds-up))
+      trailer-is : trailerWords (layoutFor h) ≡ at t 7
+      trailer-is =
+          let u = s .adds-up in
+          cons (points-are ∙ place 0 t (omega (arith, u)))
+          (cons (contours-are ∙ place 1 (suc t) (omega (arith, u)))
+          (cons (twilight-are ∙ place 2 (suc (suc t)) (omega (arith, u)))
+          (cons (controls-are ∙ place 3 (suc (suc (suc t))) (omega (arith, u)))
+          (cons (words-are ∙ place 4 (suc (suc (suc (suc t)))) (omega (arith, u)))
+          (cons (sym newest ∙ place 5 (suc (suc (suc (suc (suc t))))) (omega (arith, u)))
+          (cons (way-back ∙ place 6 (suc (suc (suc (suc (suc (suc t)))))) (omega (arith, u))) refl))))))
 
-    words-is : wordsOf h ≡ at 0 (t + 7 + 1)
-    words-is = cat 0 (t + 7) 1 before-sum (cons sum-is refl)
+      before-sum : bodyWords h ++ trailerWords (layoutFor h) ≡ at 0 (t + 7)
+      before-sum = cat 0 t 7 body-is (trailer-is ∙ ap (λ (k : ℕ). at k 7) (zero-on t))
 
-    record-is : recordOf h ≡ bytes
-    unfolding recordOf
-    record-is = ap bytesOf words-is ∙ bytes-back bytes (t + 7 + 1) f (omega (arith, s .adds-up, s .length-is))
+      sum-is : wrappingSum (bodyWords h ++ trailerWords (layoutFor h)) ≡ word bytes (0 + (t + 7))
+      sum-is =
+          let e : t + 7 ≡ wordCount bytes - 1 = omega (arith, s .adds-up) in
+          ap wrappingSum (before-sum ∙ ap (at 0) e) ∙ s .sum-is ∙ place 7 (0 + (t + 7)) (omega (arith, s .adds-up))
+
+      words-is : wordsOf h ≡ at 0 (t + 7 + 1)
+      words-is = cat 0 (t + 7) 1 before-sum (cons sum-is refl)
+
+      record-is : recordOf h ≡ bytes
+      unfolding recordOf
+      record-is = ap bytesOf words-is ∙ bytes-back bytes (t + 7 + 1) f (omega (arith, s .adds-up, s .length-is))
 
 -- ---- over every byte string
-same-held : (bytes : List ℕ) → Bytes bytes → (o : Opened) → openOf bytes ≡ o → (h : Held) → readAs bytes o ≡ Kept h → recordOf h ≡ bytes
-same-held bytes f (Whole l) e h k =
-    let g : heldIn bytes (layoutOf bytes) ≡ h = ap (heldIn bytes) (layout-is bytes l e) ∙ cc k in
-    ap recordOf (sym g) ∙ record-is bytes f (sound bytes l e)
-same-held bytes f (Damaged why) e h k = cc k
+-- what was read, and that the bytes are sound
+sound-held : (bytes : List ℕ) (o : Opened) → openOf bytes ≡ o → (h : Held) → readAs bytes o ≡ Kept h → (heldIn bytes (layoutOf bytes) ≡ h) × Sound bytes (layoutOf bytes)
+sound-held bytes (Whole l) e h k = (ap (heldIn bytes) (layout-is bytes l e) ∙ cc k, sound bytes l e)
+sound-held bytes (Damaged why) e h k = absurd (refused-or-kept k)
 
--- what is read is written as the same bytes
-pub written-as-read : (bytes : List ℕ) → Bytes bytes → (h : Held) → readOf bytes ≡ Kept h → recordOf h ≡ bytes
-written-as-read bytes f h e = same-held bytes f (openOf bytes) refl h e
+-- what is read is written with the words that stood before the trailer, the state's completed
+pub words-kept : (bytes : List ℕ) → Bytes bytes → (h : Held) → readOf bytes ≡ Kept h
+    → bodyWords h ≡ stateIn bytes ++ part bytes (keptIn bytes) (wordCount bytes - trailerSize - keptIn bytes)
+words-kept bytes f h e = let r = sound-held bytes (openOf bytes) refl h e in ap bodyWords (sym (r .0)) ∙ body-kept bytes f (r .1)
+
+-- and of the newest edition as the same bytes
+pub written-as-read : (bytes : List ℕ) → Bytes bytes → (h : Held) → readOf bytes ≡ Kept h → trailerWord bytes 5 ≡ edition → recordOf h ≡ bytes
+written-as-read bytes f h e newest = let r = sound-held bytes (openOf bytes) refl h e in ap recordOf (sym (r .0)) ∙ record-is bytes f (r .1) newest
+
+-- edition 1 has no count, and it is 0
+pub count-of-1 : (bytes : List ℕ) (h : Held) → readOf bytes ≡ Kept h → trailerWord bytes 5 ≡ 1 → h .world .state .tallies .«wrapped_roundings» ≡ 0
+count-of-1 bytes h e one =
+    let r = sound-held bytes (openOf bytes) refl h e in
+    ap (λ (g : Held). g .world .state .tallies .«wrapped_roundings») (sym (r .0)) ∙ no-count bytes one

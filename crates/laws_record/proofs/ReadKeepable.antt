@@ -1,25 +1,27 @@
--- What is read can be held by a record: `read-keepable` holds of every byte string that `readOf` keeps. Assumes nothing.
+-- What is read can be held by a record of the newest edition, where that has 24 KiB at most: `read-keepable` holds of every byte string that `readOf`
+-- keeps. Assumes nothing.
 use mathlib.Core.List.{List, [], _∷_}
 use mathlib.Core.Path.{_≡_, subst}
-use Prim.Native.Nat.{_%_, _*_, _+_, _<_, _^_, ℕ}
+use Prim.Native.Nat.{_%_, _*_, _+_, _<_, _≤_, _^_, ℕ}
 use native.Mathlib.Omega.{arith}
 use mir.Facts.{sfits-toZ}
 use mir.Syntax.{w32}
 use mir.Val.{SFits}
 use lib.ListN.{getD}
 use Rattle.int.specs.Word.{ofBits}
-use Rattle.state_words.specs.Words.{stateOf, stateSize}
+use Rattle.state_words.specs.Words.{stateOf}
 use Rattle.words.specs.Lists.{endsOf, flagsOf, numbersOf, part}
 use Rattle.words.proofs.Back.{Bytes, Words, part-fits}
 use Rattle.words.proofs.Back.Words.{more, none}
-use Rattle.record_layout.specs.Order.{listPlace}
+use Rattle.record_layout.specs.Order.{listPlace, mostBytes, recordSize}
 use Rattle.record_layout.specs.declared.Layout.{Layout}
-use Rattle.record_read.specs.Format.{Held}
-use Rattle.record_read.specs.Read.{heldIn, openOf, readAs, readOf}
+use Rattle.record_read.specs.Format.{Held, layoutFor}
+use Rattle.record_read.specs.Read.{heldIn, openOf, readAs, readOf, stateIn}
 use Rattle.record_read.specs.Read.Read.{Kept}
 use Rattle.record_read.specs.declared.Opened.{Opened}
 use Rattle.record_read.specs.declared.Opened.the-variants.{Damaged, Whole}
 use Rattle.laws_record.proofs.Keepable.{Keepable}
+use Rattle.laws_record.proofs.States.{state-words}
 use Rattle.laws_record.proofs.Values.{words-at}
 use Rattle.laws_record.proofs.Whence.{refused-or-kept, whence}
 use Rattle.words.proofs.Widths.{Below, Numbers, no-word, one-word}
@@ -65,6 +67,7 @@ module _ (ws : List ℕ) (f : Words ws) where
     rp0 = long 10 11;
     rp1 = long 12 13;
     rp2 = long 14 15;
+    wrapped = words-at ws 26 f;
   }
 
 -- ---- what lies in bytes is within its width, wherever it lies
@@ -84,7 +87,7 @@ module _ (bytes : List ℕ) (f : Bytes bytes) (l : Layout) where
 
   world-fits : InWidth (heldIn bytes l .world)
   world-fits = record {
-    state = state-fits (part bytes 0 stateSize) (part-fits bytes 0 stateSize f);
+    state = state-fits (stateIn bytes) (state-words bytes f);
     gx = numbers (listPlace l 4) (l .points);
     gy = numbers (listPlace l 5) (l .points);
     gflags = flags-fit (part bytes (listPlace l 6) (l .points));
@@ -103,8 +106,10 @@ by-verdict : (bytes : List ℕ) → Bytes bytes → (o : Opened) (h : Held) → 
 by-verdict bytes f (Whole l) h e = let g : heldIn bytes l ≡ h = cc e in subst HeldInWidth g (held-fits bytes f l)
 by-verdict bytes f (Damaged why) h e = absurd (refused-or-kept e)
 
--- what is read can be held by a record: it is within the sizes, and each value within its width
-pub read-keepable : (bytes : List ℕ) → Bytes bytes → (h : Held) → readOf bytes ≡ Kept h → Keepable h
-read-keepable bytes f h e =
-    let w = whence bytes h e in
-    record { sizes = w .fit; short = omega (arith, w .size, w .short); widths = by-verdict bytes f (openOf bytes) h e }
+-- what is read has each value within its width
+pub read-widths : (bytes : List ℕ) → Bytes bytes → (h : Held) → readOf bytes ≡ Kept h → HeldInWidth h
+read-widths bytes f h e = by-verdict bytes f (openOf bytes) h e
+
+-- and can be held by a record, where the newest edition has room for it
+pub read-keepable : (bytes : List ℕ) → Bytes bytes → (h : Held) → readOf bytes ≡ Kept h → recordSize (layoutFor h) ≤ mostBytes → Keepable h
+read-keepable bytes f h e short = record { sizes = whence bytes h e .fit; short = short; widths = read-widths bytes f h e }

@@ -4,28 +4,16 @@ use mathlib.Core.List.{List, [], _++_, _∷_}
 use mathlib.Core.Path.{_∙_, _≡_, ap, ap₂, refl, sym}
 use Prim.Native.Nat.{_%_, _*_, _+_, _-_, _/_, _<_, _≤_, _^_, suc, ℕ}
 use native.Mathlib.Omega.{arith}
-use borrow.Author.Tests.{eq-eqb, le-leb, leb-true}
-use lib.IntN.{ℤ}
-use mir.Val.{SFits}
-use mir.Facts.{fits-ofZ}
-use mir.Syntax.{w32}
-use Rattle.int.specs.Word.{bitsOf}
-use lib.Dec.{leb}
+use borrow.Author.Tests.{eq-eqb, le-leb}
 use lib.ListN.{getD, length}
-use Rattle.graphics.specs.declared.GraphicsState.{GraphicsState}
-use Rattle.graphics.specs.declared.ZonePointer.{ZonePointer}
-use Rattle.graphics.specs.declared.ZonePointer.the-variants.{Glyph, Twilight}
-use Rattle.round.specs.declared.RoundMode.{RoundMode}
-use Rattle.round.specs.declared.RoundMode.the-variants.{DoubleGrid, DownToGrid, Grid, HalfGrid, Off, Super, Super45, UpToGrid}
-use mathlib.Core.Bool.{false}
-use Rattle.state_words.specs.Words.{factWord, isState, modeWord, stateSize, stateWords, zoneWord}
+use Rattle.state_words.specs.Words.{isState, stateSize, stateWords}
 use Rattle.words.specs.Lists.{allAtMost, bytesOf, part, sumOf, word, wordsOfNumbers, wrappingSum}
 use Rattle.words.proofs.Back.{Bytes, Words}
 use Rattle.words.proofs.Back.Bytes.{more as more-bytes, none as none-bytes}
 use Rattle.words.proofs.Back.Words.{more, none}
 use Rattle.words.proofs.Storing.{bytes-length}
 use Rattle.record_read.specs.Format.{Held, bodyWords, glyphWords, layout, layoutFor, recordOf, trailerWords, twilightWords, wordsOf}
-use Rattle.record_read.specs.Read.{Kept, countsFit, framed, layoutOf, openOf, readAs, readOf, sumFits, trailerFits, trailerWord, wordCount, wordsFit}
+use Rattle.record_read.specs.Read.{Kept, countsFit, framed, keptBy, keptIn, layoutOf, openOf, readAs, readOf, sumFits, trailerFits, trailerWord, wordCount, wordsFit}
 use Rattle.record_layout.specs.Order.{atTrailer, edition, mostBytes, listPlace, recordSize, trailerSize}
 use Rattle.record_layout.specs.declared.Layout.{Layout}
 use Rattle.record_read.specs.declared.Opened.the-variants.{Whole}
@@ -35,36 +23,9 @@ use Rattle.laws_record.proofs.Keepable.{Keepable}
 use Rattle.words.proofs.Widths.{Below, no-word, one-word}
 use Rattle.laws_record.proofs.Lies.{Lies, end-words, flag-words, lies-all, lies-at, lies-left, lies-right, number-words, words-join}
 use Rattle.record_read.proofs.Whole.{verdict}
+use Rattle.laws_record.proofs.States.{low-small, state-is, state-words-fit}
 use Rattle.laws_record.proofs.Whence.{both}
-use Rattle.laws_record.proofs.Written.{b, controls-long, ends-at, ends-lies, flags-at, flags-lies, flags-long, glyph-long, joined-long, l, read-as-written, sheet-long, state-lies, state-long, twilight-long, twilightFlags-at, twilightFlags-lies, twilightFlags-long}
-
-mode-fits : (m : RoundMode) → leb (modeWord m) 7 ≡ true
-mode-fits Grid = refl
-mode-fits HalfGrid = refl
-mode-fits DoubleGrid = refl
-mode-fits DownToGrid = refl
-mode-fits UpToGrid = refl
-mode-fits Off = refl
-mode-fits Super = refl
-mode-fits Super45 = refl
-
-zone-fits : (z : ZonePointer) → leb (zoneWord z) 1 ≡ true
-zone-fits Twilight = refl
-zone-fits Glyph = refl
-
-fact-fits : (x : Bool) → leb (factWord x) 1 ≡ true
-fact-fits true = refl
-fact-fits false = refl
-
--- the words of a state are one
-pub state-is : (s : GraphicsState) → isState (stateWords s) ≡ true
-unfolding isState stateWords
-state-is s =
-    let p = s .pointers in
-    let f = s .facts in
-    both (mode-fits (s .round .mode))
-    (both (zone-fits (p .zp0)) (both (zone-fits (p .zp1)) (both (zone-fits (p .zp2))
-    (both (fact-fits (f .«backward_compatibility»)) (both (fact-fits (f .pedantic)) (both (fact-fits (f .«native_clear_type_x»)) (both (fact-fits (f .«did_iup_x»)) (both (fact-fits (f .«did_iup_y»)) refl))))))))
+use Rattle.laws_record.proofs.Written.{b, controls-long, ends-at, ends-lies, flags-at, flags-lies, flags-long, glyph-long, joined-long, l, read-as-written, sheet-long, state-long, state-same, twilight-long, twilightFlags-at, twilightFlags-lies, twilightFlags-long}
 
 flags-within : {ws : List ℕ} → Below 256 ws → allAtMost 255 ws ≡ true
 flags-within no-word = refl
@@ -74,8 +35,8 @@ ends-within : {ws : List ℕ} → Below 65536 ws → allAtMost 65535 ws ≡ true
 ends-within no-word = refl
 ends-within (one-word {w} h f) = both (le-leb w 65535 (omega arith)) (ends-within f)
 
-same-layout : {p p′ c c′ t t′ k k′ w w′ : ℕ} → p ≡ p′ → c ≡ c′ → t ≡ t′ → k ≡ k′ → w ≡ w′ → layout p c t k w ≡ layout p′ c′ t′ k′ w′
-same-layout e0 e1 e2 e3 e4 = cc
+same-layout : {s s′ p p′ c c′ t t′ k k′ w w′ : ℕ} → s ≡ s′ → p ≡ p′ → c ≡ c′ → t ≡ t′ → k ≡ k′ → w ≡ w′ → layout s p c t k w ≡ layout s′ p′ c′ t′ k′ w′
+same-layout e e0 e1 e2 e3 e4 = cc
 
 -- the counts of what is held are within document 01's sizes
 counts-fit : (h : Held) → Keepable h → countsFit (layoutFor h) ≡ true
@@ -86,45 +47,6 @@ counts-fit h k =
     (le-leb (l .controls) mostControlValues (m .controls))) (le-leb (l .words) mostWords (m .words))
 
 -- every word of a record is one of 32 bits
-mode-small : (m : RoundMode) → modeWord m < 2 ^ 32
-mode-small m = let h = leb-true (modeWord m) 7 (mode-fits m) in omega (arith, h)
-
-zone-small : (z : ZonePointer) → zoneWord z < 2 ^ 32
-zone-small z = let h = leb-true (zoneWord z) 1 (zone-fits z) in omega (arith, h)
-
-fact-small : (x : Bool) → factWord x < 2 ^ 32
-fact-small x = let h = leb-true (factWord x) 1 (fact-fits x) in omega (arith, h)
-
-bits-small : {z : ℤ} → SFits w32 z → bitsOf z < 2 ^ 32
-bits-small f = fits-ofZ f .fits
-
-low-small : (n : ℕ) → n % 2 ^ 32 < 2 ^ 32
-low-small n = omega arith
-
-low-byte : (n : ℕ) → n % 256 < 256
-low-byte n = omega arith
-
-high-small : (n : ℕ) → n < 2 ^ 64 → n / 2 ^ 32 < 2 ^ 32
-high-small n h = omega arith
-
-state-words-fit : (h : Held) → Keepable h → Words (stateWords (h .world .state))
-unfolding stateWords
-state-words-fit h k =
-    let s = h .world .state in
-    let n = k .widths .world .state .signed in
-    let v = n .vectors in
-    let r = n .round in
-    let p = s .pointers in
-    let f = s .facts in
-    let q = s .references in
-    more (bits-small (v .0 .0)) (more (bits-small (v .0 .1)) (more (bits-small (v .1 .0)) (more (bits-small (v .1 .1)) (more (bits-small (v .2 .0)) (more (bits-small (v .2 .1))
-    (more (mode-small (s .round .mode)) (more (bits-small (r .0)) (more (bits-small (r .1)) (more (bits-small (r .2))
-    (more (low-small (q .rp0)) (more (high-small (q .rp0) (k .widths .world .state .rp0)) (more (low-small (q .rp1)) (more (high-small (q .rp1) (k .widths .world .state .rp1)) (more (low-small (q .rp2)) (more (high-small (q .rp2) (k .widths .world .state .rp2))
-    (more (k .widths .world .state .loop)
-    (more (zone-small (p .zp0)) (more (zone-small (p .zp1)) (more (zone-small (p .zp2))
-    (more (fact-small (f .«backward_compatibility»)) (more (fact-small (f .pedantic)) (more (fact-small (f .«native_clear_type_x»)) (more (fact-small (f .«did_iup_x»)) (more (fact-small (f .«did_iup_y»))
-    (more (bits-small (n .cut-in)) none)))))))))))))))))))))))))
-
 glyph-words-fit : (h : Held) → Keepable h → Words (glyphWords h)
 glyph-words-fit h k =
     words-join (number-words (k .widths .fixed .gux)) (words-join (number-words (k .widths .fixed .guy)) (words-join (number-words (k .widths .fixed .gox)) (words-join (number-words (k .widths .fixed .goy))
@@ -141,17 +63,20 @@ trailer-words-fit l h =
     let c : l .twilight < 2 ^ 32 = omega arith in
     let d : l .controls < 2 ^ 32 = omega arith in
     let e : l .words < 2 ^ 32 = omega arith in
-    let one : edition < 2 ^ 32 = omega arith in
-    more a (more b (more c (more d (more e (more one (more (low-small (atTrailer l * 4)) none))))))
+    let two : edition < 2 ^ 32 = omega arith in
+    more a (more b (more c (more d (more e (more two (more (low-small (atTrailer l * 4)) none))))))
 
 words-fit : (h : Held) → Keepable h → Words (wordsOf h)
 words-fit h k =
     words-join
     (words-join
-    (words-join (state-words-fit h k)
+    (words-join (state-words-fit (h .world .state) (k .widths .world .state))
     (words-join (glyph-words-fit h k) (words-join (twilight-words-fit h k) (words-join (number-words (k .widths .fixed .controls)) (number-words (k .widths .sheet))))))
     (trailer-words-fit (layoutFor h) (k .short)))
     (more (low-small (sumOf (bodyWords h ++ trailerWords (layoutFor h)))) none)
+
+low-byte : (n : ℕ) → n % 256 < 256
+low-byte n = omega arith
 
 -- a record is bytes
 words-bytes : (ws : List ℕ) → Bytes (bytesOf ws)
@@ -227,15 +152,18 @@ module _ (h : Held) (k : Keepable h) where
   nth : (j : ℕ) → getD (part bs t 7) j 0 ≡ getD (trailerWords lay) j 0
   nth j = ap (λ (xs : List ℕ). getD xs j 0) trailer-lies
 
+  edition-same : trailerWord bs 5 ≡ edition
+  edition-same = place 5 (suc (suc (suc (suc (suc t))))) (omega (arith, count-is, body-long)) ∙ nth 5
+
+  all-kept : keptIn bs ≡ stateSize
+  all-kept = ap keptBy edition-same
+
   layout-same : layoutOf bs ≡ lay
   layout-same =
       let c = count-is in
       let d = body-long in
-      same-layout (place 0 t (omega (arith, c, d)) ∙ nth 0) (place 1 (suc t) (omega (arith, c, d)) ∙ nth 1) (place 2 (suc (suc t)) (omega (arith, c, d)) ∙ nth 2)
+      same-layout all-kept (place 0 t (omega (arith, c, d)) ∙ nth 0) (place 1 (suc t) (omega (arith, c, d)) ∙ nth 1) (place 2 (suc (suc t)) (omega (arith, c, d)) ∙ nth 2)
       (place 3 (suc (suc (suc t))) (omega (arith, c, d)) ∙ nth 3) (place 4 (suc (suc (suc (suc t)))) (omega (arith, c, d)) ∙ nth 4)
-
-  edition-same : trailerWord bs 5 ≡ edition
-  edition-same = place 5 (suc (suc (suc (suc (suc t))))) (omega (arith, count-is, body-long)) ∙ nth 5
 
   back-same : trailerWord bs 6 ≡ atTrailer lay * 4
   back-same =
@@ -244,15 +172,15 @@ module _ (h : Held) (k : Keepable h) where
 
   frame-holds : framed bs ≡ true
   frame-holds =
-      both (both (both (eq-eqb (length bs % 4) 0 (omega (arith, bytes-long))) (le-leb (stateSize + trailerSize) (wordCount bs) (omega (arith, count-is)))) (ap countsFit layout-same ∙ counts-fit h k))
+      both (both (both (eq-eqb (length bs % 4) 0 (omega (arith, bytes-long))) (le-leb trailerSize (wordCount bs) (omega (arith, count-is)))) (ap countsFit layout-same ∙ counts-fit h k))
       (ap (trailerFits bs) layout-same
-      ∙ both (both (eq-eqb (atTrailer lay + trailerSize) (wordCount bs) (sym count-is)) (eq-eqb (trailerWord bs 5) edition edition-same)) (eq-eqb (trailerWord bs 6) (atTrailer lay * 4) back-same))
+      ∙ both (both (eq-eqb (atTrailer lay + trailerSize) (wordCount bs) (sym count-is)) refl) (eq-eqb (trailerWord bs 6) (atTrailer lay * 4) back-same))
 
   words-hold : wordsFit bs (layoutOf bs) ≡ true
   words-hold =
       ap (wordsFit bs) layout-same
       ∙ both (both (both
-      (ap isState (lies-at bs (stateWords (h .world .state)) 0 stateSize refl (sym (state-long h k fit)) (state-lies h k fit)) ∙ state-is (h .world .state))
+      (ap isState (state-same h k fit all-kept) ∙ state-is (h .world .state))
       (ap (allAtMost 255) (lies-at bs (h .world .gflags) (listPlace lay 6) (lay .points) (flags-at h k fit) (sym (flags-long h k fit)) (flags-lies h k fit)) ∙ flags-within (k .widths .world .gflags)))
       (ap (allAtMost 65535) (lies-at bs (h .fixed .contours) (listPlace lay 7) (lay .contours) (ends-at h k fit) refl (ends-lies h k fit)) ∙ ends-within (k .widths .fixed .contours)))
       (ap (allAtMost 255) (lies-at bs (h .world .tflags) (listPlace lay 12) (lay .twilight) (twilightFlags-at h k fit) (sym (twilightFlags-long h k fit)) (twilightFlags-lies h k fit)) ∙ flags-within (k .widths .world .tflags))
@@ -274,4 +202,4 @@ module _ (h : Held) (k : Keepable h) where
   -- what is written reads back as written
   pub kept-as-written : readOf (recordOf h) ≡ Kept h
   unfolding recordOf
-  kept-as-written = ap (readAs bs) opens ∙ ap Kept (read-as-written h k fit)
+  kept-as-written = ap (readAs bs) opens ∙ ap Kept (read-as-written h k fit all-kept)

@@ -1,8 +1,9 @@
--- What is known of what is read: it is within document 01's sizes, and its record is as long as the byte string. Assumes nothing.
+-- What is known of what is read: it is within document 01's sizes, and its record is as long as the byte string, but for the words of the state that an older
+-- edition hasn't. Assumes nothing.
 use mathlib.Core.Bool.{Bool, _&&_, true}
 use mathlib.Core.List.{List}
 use mathlib.Core.Path.{_∙_, _≡_, ap, ap₂, refl, subst, sym}
-use Prim.Native.Nat.{_≤_, ℕ}
+use Prim.Native.Nat.{_*_, _+_, _≤_, ℕ}
 use native.Mathlib.Omega.{arith}
 use borrow.Author.Tests.{eq-eqb, le-leb, leb-true}
 use lib.Dec.{eqb, leb}
@@ -15,11 +16,13 @@ use Rattle.zone.specs.Sizes.{glyphFits, pairFits, placedFits, twilightFits}
 use Rattle.line.specs.Sizes.{fits, worldFits}
 use Rattle.words.proofs.Parts.{mapped-length}
 use Rattle.words.specs.Lists.{endOf, endsOf, flagOf, flagsOf, numbersOf, part}
-use Rattle.record_layout.specs.Order.{mostBytes, listPlace, recordSize}
+use Rattle.record_layout.specs.Order.{edition, listPlace, mostBytes, recordSize}
 use Rattle.record_layout.specs.declared.Layout.{Layout}
+use Rattle.state_words.specs.Words.{stateSize}
+use Rattle.record_read.proofs.Editions.{kept-some}
 use Rattle.record_read.proofs.Whole.{layout-is, layout-kept, sound}
 use Rattle.record_read.specs.Format.{Held, layoutFor}
-use Rattle.record_read.specs.Read.{countsFit, heldIn, layoutOf, openOf, readAs, readOf}
+use Rattle.record_read.specs.Read.{countsFit, heldIn, keptBy, keptIn, layoutOf, openOf, readAs, readOf, trailerWord}
 use Rattle.record_read.specs.Read.Read.{Kept, Refused}
 use Rattle.record_read.specs.declared.Opened.{Opened}
 use Rattle.record_read.specs.declared.Opened.the-variants.{Damaged, Whole}
@@ -85,22 +88,27 @@ module _ (bytes : List ℕ) where
 -- what a byte string holds, where it is read
 pub record Whence (bytes : List ℕ) (h : Held) : Type 0 where
   pub fit : worldFits (h .fixed) (h .sheet) (h .world) ≡ true
-  pub size : recordSize (layoutFor h) ≡ length bytes
+  pub size : recordSize (layoutFor h) + keptIn bytes * 4 ≡ length bytes + stateSize * 4
+  pub some : 26 ≤ keptIn bytes
   pub short : length bytes ≤ mostBytes
 
 whence-whole : (bytes : List ℕ) (l : Layout) → openOf bytes ≡ Whole l → Whence bytes (heldIn bytes l)
 whence-whole bytes l e =
     let m = layoutOf bytes in
     let s = sound bytes l e in
-    let same-size : recordSize (layoutFor (heldIn bytes m)) ≡ length bytes = ap recordSize (layout-kept bytes m refl) ∙ omega (arith, s .adds-up, s .length-is) in
-    subst (λ (n : Layout). Whence bytes (heldIn bytes n)) (layout-is bytes l e) (record { fit = read-fits bytes m (s .counts-fit); size = same-size; short = s .size-is })
+    let same-size : recordSize (layoutFor (heldIn bytes m)) + keptIn bytes * 4 ≡ length bytes + stateSize * 4 = omega (arith, ap recordSize (layout-kept bytes m), s .adds-up, s .length-is) in
+    subst (λ (n : Layout). Whence bytes (heldIn bytes n)) (layout-is bytes l e) (record { fit = read-fits bytes m (s .counts-fit); size = same-size; some = kept-some (trailerWord bytes 5) (s .kept-is); short = s .size-is })
 
 pub refused-or-kept : {n : ℕ} {h : Held} → Refused n ≡ Kept h → ⊥
 refused-or-kept e = let z : _≡_ {A = ℕ} 0 1 = cc in omega arith
 
 by-verdict : (bytes : List ℕ) (h : Held) (o : Opened) → openOf bytes ≡ o → readAs bytes o ≡ Kept h → Whence bytes h
 by-verdict bytes h (Whole l) e k = let g : heldIn bytes l ≡ h = cc k in subst (Whence bytes) g (whence-whole bytes l e)
-by-verdict bytes h (Damaged why) e k = record { fit = cc k; size = cc k; short = absurd (refused-or-kept k) }
+by-verdict bytes h (Damaged why) e k = absurd (refused-or-kept k)
 
 pub whence : (bytes : List ℕ) (h : Held) → readOf bytes ≡ Kept h → Whence bytes h
 whence bytes h e = by-verdict bytes h (openOf bytes) refl e
+
+-- of the newest edition as many bytes
+pub newest-size : (bytes : List ℕ) (h : Held) → readOf bytes ≡ Kept h → trailerWord bytes 5 ≡ edition → recordSize (layoutFor h) ≡ length bytes
+newest-size bytes h e newest = let all : keptIn bytes ≡ stateSize = ap keptBy newest in omega (arith, whence bytes h e .size, all)

@@ -1,18 +1,19 @@
 -- What is written reads back: the state and every list of a written record stand where its layout says. Assumes nothing.
-use mathlib.Core.List.{List, [], _++_, _∷_}
+use mathlib.Core.List.{List, [], _++_, _∷_, append-nil}
 use mathlib.Core.Path.{_∙_, _≡_, ap, ap₂, refl, sym}
 use Prim.Native.Nat.{_+_, ℕ}
 use native.Mathlib.Omega.{arith}
-use lib.ListN.{length, length-append}
+use lib.ListN.{drop, length, length-append}
 use lib.IntN.{ℤ}
+use Rattle.graphics.specs.State.{freshState}
 use Rattle.graphics.specs.declared.GraphicsState.{GraphicsState}
 use Rattle.state_words.specs.Words.{stateOf, stateSize, stateWords}
 use Rattle.state_words.proofs.Back.{read-written}
 use Rattle.words.specs.Lists.{bytesOf, endsOf, flagsOf, numbersOf, part, wordsOfNumbers, wrappingSum}
 use Rattle.words.proofs.Back.{Words}
-use Rattle.record_read.specs.Format.{Held, bodyWords, glyphWords, layoutFor, recordOf, trailerWords, twilightWords, wordsOf}
+use Rattle.record_read.specs.Format.{Held, bodyWords, glyphWords, layoutFor, trailerWords, twilightWords, wordsOf}
 use Rattle.record_layout.specs.Order.{listPlace}
-use Rattle.record_read.specs.Read.{heldIn}
+use Rattle.record_read.specs.Read.{heldIn, keptIn, stateIn}
 use Rattle.record_layout.specs.declared.Layout.{Layout}
 use Rattle.line.specs.World.{Alike, fixed, world}
 use Rattle.line.proofs.Alike.{fits-alike}
@@ -351,10 +352,18 @@ module _ (h : Held) (k : Keepable h) (fit : Words (wordsOf h)) where
   sheet-read : numbersOf (part b (listPlace l 14) (l .words)) ≡ h .sheet
   sheet-read = ap numbersOf (lies-at b (wordsOfNumbers (h .sheet)) (listPlace l 14) (l .words) sheet-at (sym sheet-long) sheet-lies) ∙ numbers-read (k .widths .sheet)
 
-  state-read : stateOf (part b 0 stateSize) ≡ h .world .state
-  state-read = ap stateOf (lies-at b state-ws 0 stateSize refl (sym state-long) state-lies) ∙ read-written (h .world .state) (k .widths .world .state .signed)
+  -- the state, where all its words are kept
+  module _ (all-kept : keptIn b ≡ stateSize) where
+    pub state-same : stateIn b ≡ state-ws
+    unfolding stateWords
+    state-same =
+        ap (λ (n : ℕ). part b 0 n ++ drop n (stateWords freshState)) all-kept
+        ∙ append-nil (part b 0 stateSize)
+        ∙ lies-at b state-ws 0 stateSize refl (sym state-long) state-lies
 
-  -- the state and every list stand where the layout says
-  pub read-as-written : heldIn (recordOf h) (layoutFor h) ≡ h
-  unfolding recordOf
-  read-as-written = same-held state-read unscaledX-read unscaledY-read originalX-read originalY-read currentX-read currentY-read flags-read ends-read twilightOriginalX-read twilightOriginalY-read twilightX-read twilightY-read twilightFlags-read controls-read sheet-read
+    state-read : stateOf (stateIn b) ≡ h .world .state
+    state-read = ap stateOf state-same ∙ read-written (h .world .state) (k .widths .world .state .signed)
+
+    -- the state and every list stand where the layout says
+    pub read-as-written : heldIn b (layoutFor h) ≡ h
+    read-as-written = same-held state-read unscaledX-read unscaledY-read originalX-read originalY-read currentX-read currentY-read flags-read ends-read twilightOriginalX-read twilightOriginalY-read twilightX-read twilightY-read twilightFlags-read controls-read sheet-read

@@ -21,7 +21,7 @@ use Rattle.round.proofs.Facts.{SameSide, down-rounds, grid-rounds, up-rounds}
 use Rattle.graphics.specs.declared.Vector.{Vector}
 use Rattle.graphics.specs.declared.Vectors.{Vectors}
 use Rattle.iup.specs.Iup.{Swept as Walked, iupOf, past, sizesFit, triedOf, walkOf, swept as walked}
-use Rattle.int.specs.Word.{abs32, add32, and32, maxZ, minZ, mul32, neg32, quot32, sub32, wrap32}
+use Rattle.int.specs.Word.{abs32, add32, and32, maxZ, minZ, neg32, sub32, wrap32}
 use Rattle.flags.specs.declared.Axis.the-variants.{X}
 use Rattle.iup.specs.Contour.{along, between, contourOf, inside, pointsOf, spread, touchedPlaces}
 use Rattle.projection.specs.Projection.{alongOf, axisOf, fdotpOf, freedomAxisBy, notSmall, rawFdotp}
@@ -31,13 +31,14 @@ use Rattle.opcodes.specs.Decode.{decodeBy, decodeOf}
 use Rattle.opcodes.specs.Table.{lineOf, needOf, rowOf}
 use Rattle.line_mdap.specs.Mdap.{mdapDistance, mdapOf, outsideMdap, roundingStep}
 use Rattle.line_iup.specs.Iup.{iupLineOf, markedFor}
-use Rattle.line_steps.specs.Numbers.{fromOrigin}
-use Rattle.line_steps.specs.Steps.{laidIn, moveIn, one, pointOr}
+use Rattle.line_steps.specs.Numbers.{fromOrigin, stepFrom}
+use Rattle.line_steps.specs.Steps.{laidIn, moveIn, one, pointOr, roundedMoveIn}
 use Rattle.line.specs.Places.{fetchIn}
-use Rattle.math.specs.Fixed.{dotFix14, halfAway14, halfUp, mulDiv, mulFix14, multipleBelow, padFloor, padRound, withSign}
-use Rattle.round.specs.Round.{doubleGrid, downToGrid, grid, halfGrid, keepDown, keepUp, quotFloor, roundOf, superBy, upToGrid}
+use Rattle.math.specs.Fixed.{dotFix14, halfAway14, halfUp, mulDiv, mulFix14, multipleBelow, padFloor, withSign}
+use Rattle.round.specs.Round.{doubleGrid, downToGrid, grid, halfGrid, inward, keepDown, keepUp, outward, periodFloor, roundOf, superBy, upToGrid}
+use Rattle.round.specs.Tracked.{minus, negated, past as pastBits, plus}
 use Rattle.zone.specs.Zone.{fetchOf}
-use Rattle.graphics.specs.State.{freshState, usableState, vectorInRange, vectorsInRange, xAxis, yAxis}
+use Rattle.graphics.specs.State.{freshState, usableState, vectorInRange, vectorsInRange, withRounding, xAxis, yAxis}
 use Rattle.zone.specs.Sizes.{glyphFits, pairFits, placedFits, twilightFits}
 use Rattle.iup.specs.Parts.{marks}
 use Rattle.moves.specs.Move.{moveOf, stepBy}
@@ -92,7 +93,7 @@ abbrev pub atFirst : GraphicsState → World
 atFirst s = holding s heights (flags 1 1 1)
 
 -- a state with these vectors, references rp0, rp1 and rp2, and pedantic or not; the rest is fresh: Grid with 0, 0, 64, loop 1, all pointers glyph,
--- cut-in 68, all other facts no
+-- cut-in 68, all other facts no, no rounding counted
 abbrev pub stateWith : Vector → ℕ → ℕ → ℕ → Bool → GraphicsState
 stateWith v rp0 rp1 rp2 pedantic = record {
   vectors = record { projection = v; dual = v; freedom = v };
@@ -100,8 +101,9 @@ stateWith v rp0 rp1 rp2 pedantic = record {
   references = record { rp0 = rp0; rp1 = rp1; rp2 = rp2 };
   «loop_counter» = 1;
   pointers = record { zp0 = Glyph; zp1 = Glyph; zp2 = Glyph };
-  «cut_in» = pos 68;
+  measures = record { «cut_in» = pos 68 };
   facts = record { «backward_compatibility» = false; pedantic = pedantic; «native_clear_type_x» = false; «did_iup_x» = false; «did_iup_y» = false };
+  tallies = record { «wrapped_roundings» = 0 };
 }
 
 -- SVTCA[y], MDAP[1] of point 0, IUP[y]
@@ -160,7 +162,7 @@ pub record PaperNumbers : Type 0 where
   pub fresh : stateWith xAxis 0 0 0 false ≡ freshState
 
 pub numbers : PaperNumbers
-unfolding runOf onEntry entryOf fits glyphFits twilightFits pairFits placedFits usableState vectorsInRange vectorInRange replayOf stepOf onDecoded onCall decodeOf decodeBy needOf lineOf rowOf setOf setBy vectorsBy axisBy one pointOr fetchIn moveIn laidIn applyIn mdapOf mdapDistance outsideMdap fromOrigin roundingStep grid alongOf axisOf rawFdotp notSmall fetchOf applyOf moveOf stepBy freedomAxisBy iupLineOf markedFor iupOf walkOf past contourOf pointsOf touchedPlaces spread between along inside add32 sub32 neg32 abs32 mul32 mulDiv mulFix14 dotFix14 halfAway14 halfUp withSign wrap32 maxZ minZ keepUp keepDown padFloor padRound multipleBelow quotFloor halfGrid doubleGrid upToGrid downToGrid superBy quot32 and32 triedOf sizesFit
+unfolding runOf onEntry entryOf fits glyphFits twilightFits pairFits placedFits usableState vectorsInRange vectorInRange replayOf stepOf onDecoded onCall decodeOf decodeBy needOf lineOf rowOf setOf setBy vectorsBy axisBy one pointOr fetchIn moveIn laidIn applyIn mdapOf mdapDistance outsideMdap fromOrigin roundingStep grid alongOf axisOf rawFdotp notSmall fetchOf applyOf moveOf stepBy freedomAxisBy iupLineOf markedFor iupOf walkOf past contourOf pointsOf touchedPlaces spread between along inside add32 sub32 neg32 abs32 mulDiv mulFix14 dotFix14 halfAway14 halfUp withSign wrap32 maxZ minZ keepUp keepDown padFloor multipleBelow periodFloor inward outward plus minus negated pastBits roundedMoveIn stepFrom withRounding halfGrid doubleGrid upToGrid downToGrid superBy and32 triedOf sizesFit
 numbers = record {
   grid-halves = refl;
   grid-most = refl;

@@ -16,7 +16,7 @@ use Rattle.record_read.specs.Format.{Held, held, recordOf}
 use Rattle.record_read.specs.Read.{readOf}
 use Rattle.record_read.specs.Read.Read.{Kept}
 use Rattle.laws_record.proofs.Keepable.{Keepable}
-use Rattle.laws_record.proofs.Round.{kept-as-written, record-bytes}
+use Rattle.laws_record.proofs.Round.{kept-as-written, record-bytes, record-long}
 use Rattle.words.proofs.Widths.{Below, Numbers, no-word, one-word}
 use Rattle.record_run.specs.After.{after}
 use Rattle.record_replay.specs.Shelf.{shelfOf}
@@ -59,6 +59,7 @@ sample-keepable = record {
         rp0 = omega arith;
         rp1 = omega arith;
         rp2 = omega arith;
+        wrapped = omega arith;
       };
       gx = zeros-fit;
       gy = heights-fit;
@@ -92,4 +93,4 @@ sample-moves e =
 
 -- and reads back as that, written over the first
 pub sample-replayed : readOf (written (shelfOf (recordOf sample) (recordOf sample))) ≡ Kept (after sample)
-sample-replayed = replayed-reads (recordOf sample) (recordOf sample) sample (record-bytes sample) sample-reads (omega arith)
+sample-replayed = replayed-reads (recordOf sample) (recordOf sample) sample (record-bytes sample) sample-reads (omega arith) (omega (arith, record-long sample sample-keepable))

@@ -7,7 +7,7 @@ use native.Mathlib.Omega.{arith}
 use lib.IntN.{ℤ}
 use mir.Syntax.{w32}
 use mir.Val.{SFits}
-use Rattle.graphics.specs.State.{markedX, markedY, pastBothIups, withLoopCounter}
+use Rattle.graphics.specs.State.{markedX, markedY, pastBothIups, withLoopCounter, withRounding}
 use Rattle.graphics.specs.declared.GraphicsState.{GraphicsState}
 use Rattle.graphics.specs.declared.Vector.{Vector}
 use Rattle.graphics.specs.declared.Vectors.{Vectors}
@@ -38,7 +38,7 @@ use Rattle.words.proofs.Widths.{Below, every-set}
 use Rattle.line.specs.World.{Fixed, Lined, World}
 use Rattle.zone.specs.Zone.{Marked, flipOf, placeOf, setOnCurveOf}
 use Rattle.laws_widths.proofs.Contours.{iup-fits}
-use Rattle.laws_widths.proofs.Setters.{references-fit, reset-fits, rp0-fits, rp1-fits, rp2-fits, with-facts-fits, with-references-fits}
+use Rattle.laws_widths.proofs.Setters.{references-fit, reset-fits, rp0-fits, rp1-fits, rp2-fits, with-facts-fits, with-references-fits, with-rounding-fits}
 use Rattle.laws_widths.proofs.Steps.{PointsFit, apply-fits, flip-fits, move-small, on-curve-fits, or-fits, place-fits, zp2-small}
 
 -- ---- moves
@@ -108,6 +108,7 @@ stays-in-width s = record {
   both-set = λ at w h k. in-state-fits w _ (with-references-fits (k .state) _ (rp1-fits (rp0-fits (references-fit (k .state)) at h) at h)) k;
   three-set = λ op at w h e k. in-state-fits w (referencesAfter s op at) (after-fits s (subst StateInWidth e (k .state)) op at h) k;
   counted = λ w k. in-state-fits w (withLoopCounter (w .state) 1) (reset-fits (k .state)) k;
+  rounded = λ wrapped w k. in-state-fits w (withRounding wrapped (w .state)) (with-rounding-fits (k .state) wrapped) k;
 }
 
 -- ---- ISECT

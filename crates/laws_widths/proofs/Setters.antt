@@ -1,6 +1,6 @@
 -- A line that sets the state keeps its values in their width: vectors are set to axes, a reference to an operand widened to 64 bits, the loop counter
 -- to at most 65,535, and a selector's round state is small. Assumes nothing.
-use mathlib.Core.Bool.{Bool}
+use mathlib.Core.Bool.{Bool, true, false}
 use mathlib.Core.List.{List}
 use Prim.Native.Nat.{_%_, _*_, _+_, _/_, _<_, _^_, _≤_, min, ℕ}
 use native.Mathlib.Nat.{le-trans, mul-le-mul}
@@ -11,7 +11,7 @@ use lib.Signed.{mag, natAbs-le, nonNeg, quotZ}
 use mir.Facts.{fits-ofZ, sfits-lit}
 use mir.Syntax.{w32}
 use mir.Val.{SFits}
-use Rattle.graphics.specs.State.{allAlong, inMode, measuredAlong, movedAlong, rp0At, rp1At, rp2At, withFacts, withLoopCounter, withPointers, withReferences, withRound, withVectors}
+use Rattle.graphics.specs.State.{allAlong, inMode, measuredAlong, movedAlong, rp0At, rp1At, rp2At, withFacts, withLoopCounter, withPointers, withReferences, withRound, withRounding, withVectors}
 use Rattle.graphics.specs.declared.Facts.{Facts}
 use Rattle.graphics.specs.declared.GraphicsState.{GraphicsState}
 use Rattle.graphics.specs.declared.References.{References}
@@ -48,30 +48,36 @@ pub record ReferencesFit (p : References) : Type 0 where
   pub rp2 : p .rp2 < 2 ^ 64
 
 -- a state by its groups
-by-groups : (t : GraphicsState) → VectorsFit (t .vectors) → RoundFits (t .round) → ReferencesFit (t .references) → t .«loop_counter» < 2 ^ 32 → SFits w32 (t .«cut_in») → StateInWidth t
-by-groups t v r p n c = record { signed = record { vectors = v; round = r; cut-in = c }; loop = n; rp0 = p .rp0; rp1 = p .rp1; rp2 = p .rp2 }
+by-groups : (t : GraphicsState) → VectorsFit (t .vectors) → RoundFits (t .round) → ReferencesFit (t .references) → t .«loop_counter» < 2 ^ 32 → SFits w32 (t .measures .«cut_in») → t .tallies .«wrapped_roundings» < 2 ^ 32 → StateInWidth t
+by-groups t v r p n c x = record { signed = record { vectors = v; round = r; cut-in = c }; loop = n; rp0 = p .rp0; rp1 = p .rp1; rp2 = p .rp2; wrapped = x }
 
 module _ {s : GraphicsState} (f : StateInWidth s) where
   pub references-fit : ReferencesFit (s .references)
   references-fit = record { rp0 = f .rp0; rp1 = f .rp1; rp2 = f .rp2 }
 
   pub with-vectors-fits : (v : Vectors) → VectorsFit v → StateInWidth (withVectors s v)
-  with-vectors-fits v g = by-groups (withVectors s v) g (f .signed .round) references-fit (f .loop) (f .signed .cut-in)
+  with-vectors-fits v g = by-groups (withVectors s v) g (f .signed .round) references-fit (f .loop) (f .signed .cut-in) (f .wrapped)
 
   pub with-round-fits : (r : RoundState) → RoundFits r → StateInWidth (withRound s r)
-  with-round-fits r g = by-groups (withRound s r) (f .signed .vectors) g references-fit (f .loop) (f .signed .cut-in)
+  with-round-fits r g = by-groups (withRound s r) (f .signed .vectors) g references-fit (f .loop) (f .signed .cut-in) (f .wrapped)
 
   pub with-references-fits : (p : References) → ReferencesFit p → StateInWidth (withReferences s p)
-  with-references-fits p g = by-groups (withReferences s p) (f .signed .vectors) (f .signed .round) g (f .loop) (f .signed .cut-in)
+  with-references-fits p g = by-groups (withReferences s p) (f .signed .vectors) (f .signed .round) g (f .loop) (f .signed .cut-in) (f .wrapped)
 
   pub with-loop-fits : (count : ℕ) → count < 2 ^ 32 → StateInWidth (withLoopCounter s count)
-  with-loop-fits count h = by-groups (withLoopCounter s count) (f .signed .vectors) (f .signed .round) references-fit h (f .signed .cut-in)
+  with-loop-fits count h = by-groups (withLoopCounter s count) (f .signed .vectors) (f .signed .round) references-fit h (f .signed .cut-in) (f .wrapped)
 
   pub with-pointers-fits : (p : ZonePointers) → StateInWidth (withPointers s p)
-  with-pointers-fits p = by-groups (withPointers s p) (f .signed .vectors) (f .signed .round) references-fit (f .loop) (f .signed .cut-in)
+  with-pointers-fits p = by-groups (withPointers s p) (f .signed .vectors) (f .signed .round) references-fit (f .loop) (f .signed .cut-in) (f .wrapped)
 
   pub with-facts-fits : (b : Facts) → StateInWidth (withFacts s b)
-  with-facts-fits b = by-groups (withFacts s b) (f .signed .vectors) (f .signed .round) references-fit (f .loop) (f .signed .cut-in)
+  with-facts-fits b = by-groups (withFacts s b) (f .signed .vectors) (f .signed .round) references-fit (f .loop) (f .signed .cut-in) (f .wrapped)
+
+  -- a count goes as far as 32 bits do
+  pub with-rounding-fits : (wrapped : Bool) → StateInWidth (withRounding wrapped s)
+  unfolding withRounding
+  with-rounding-fits false = by-groups (withRounding false s) (f .signed .vectors) (f .signed .round) references-fit (f .loop) (f .signed .cut-in) (f .wrapped)
+  with-rounding-fits true = by-groups (withRounding true s) (f .signed .vectors) (f .signed .round) references-fit (f .loop) (f .signed .cut-in) (omega arith)
 
   -- a loop that has ended
   pub reset-fits : StateInWidth (withLoopCounter s 1)

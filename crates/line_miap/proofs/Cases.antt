@@ -2,15 +2,16 @@
 use Prim.Native.Nat.{ℕ, _≤_, _<_}
 use mathlib.Core.Bool.{Bool}
 use mathlib.Core.List.{List}
-use mathlib.Core.Path.{_≡_, ap, _∙_}
+use mathlib.Core.Path.{_∙_, _≡_, ap, ap₂}
 use lib.IntN.{ℤ, pos}
 use lib.ListN.{getD, length}
 use Rattle.answer.specs.declared.Refusal.the-variants.{ControlValue, Missing}
 use Rattle.answer.specs.declared.Refusal.{Refusal}
 use Rattle.graphics.specs.declared.Vector.{Vector}
-use Rattle.line_steps.proofs.Laws.{control-there, moved-there, no-control, point-out, point-there, two-missing, two-there}
+use Rattle.line_steps.proofs.Laws.{control-there, no-control, point-out, point-there, rounded-by, two-missing, two-there}
 use Rattle.line_steps.specs.Numbers.{fromOrigin}
-use Rattle.line_steps.specs.Steps.{afterMove, doneIn, madeIn, onBoth, refusedIn}
+use Rattle.line_steps.specs.Steps.{afterMove, doneIn, madeIn, onBoth, refusedIn, roundedIn}
+use Rattle.round.specs.declared.Tracked.{Tracked}
 use Rattle.moves.specs.Apply.{BothMoved, applyIn}
 use Rattle.moves.specs.Move.{moveOf}
 use Rattle.moves.specs.declared.Move.{Move}
@@ -21,7 +22,7 @@ use Rattle.zone.specs.declared.Fetched.the-variants.{At}
 use Rattle.zone.specs.declared.Fetched.the-variants.{Refused as RefusedPlace}
 use Rattle.zone.specs.declared.Fetched.{Fetched}
 use Rattle.line_miap.specs.Miap.{miapOf}
-use Rattle.line_miap.specs.Numbers.{controlPlace, miapDistance}
+use Rattle.line_miap.specs.Numbers.{chosenOf, controlPlace, miapDistance}
 
 -- ---- the line
 module _ (f : Fixed) (opcode : ℕ) (operands : List ℤ) (w : World) {r : Lined} where
@@ -40,17 +41,21 @@ module _ (f : Fixed) (opcode : ℕ) (operands : List ℤ) (w : World) {r : Lined
     miap-outside t p =
         two-there w operands _ h (rw (← i, ← j) (control-there w f entry _ k (rw (← v, ← q) (point-out made (w .state .pointers .zp0) at _ _ e t p))))
 
-    pub miap-moved : {place : Vector} {odd : Bool} {own cut d : ℤ} {m : Move} {b : BothMoved} → g ≡ At place → own ≡ fromOrigin (w .state .vectors) place
-        → odd ≡ isOdd opcode → cut ≡ w .state .«cut_in»
+    pub miap-moved : {place : Vector} {odd : Bool} {own cut : ℤ} {d : Tracked} {distance : ℤ} {m : Move} {b : BothMoved} → g ≡ At place → own ≡ fromOrigin (w .state .vectors) place
+        → odd ≡ isOdd opcode → cut ≡ w .state .measures .«cut_in»
         → d ≡ miapDistance odd (w .state .facts .«native_clear_type_x») (w .state .round) cut control own
-        → m ≡ moveOf (made .state .vectors) (made .state .facts) d
+        → distance ≡ d .word → m ≡ moveOf (made .state .vectors) (made .state .facts) distance
         → b ≡ applyIn m at (made .gx) (made .gy) (made .gflags) (made .tx) (made .ty) (made .tflags) (w .state .pointers .zp0)
-        → r ≡ afterMove made (λ (v : World). doneIn (onBoth at v)) b → r ≡ miapOf f opcode operands w
+        → r ≡ afterMove made (λ (v : World). doneIn (onBoth at (roundedIn (d .wrapped) v))) b → r ≡ miapOf f opcode operands w
     unfolding miapOf
-    miap-moved t o u x d m b p =
+    miap-moved t o u x d y m b p =
         two-there w operands _ h
         (rw (← i, ← j)
         (control-there w f entry _ k
         (rw (← v, ← q)
         (point-there made (w .state .pointers .zp0) at _ _ e t
-        (rw (← o, ← u, ← x) (moved-there made (w .state .pointers .zp0) _ at _ (m ∙ ap (moveOf (made .state .vectors) (made .state .facts)) d) b p))))))
+        (rw (← o, ← u, ← x) (rounded-by made (w .state .pointers .zp0) at _ d y m b p))))))
+
+-- what is chosen, of numbers as they are read back
+pub near-by : {c c' k k' o o' r : ℤ} → r ≡ chosenOf c' k' o' → c' ≡ c → k' ≡ k → o' ≡ o → r ≡ chosenOf c k o
+near-by {o' = o'} er ec ek eo = er ∙ ap₂ (λ (c k : ℤ). chosenOf c k o') ec ek ∙ ap (chosenOf _ _) eo

@@ -33,7 +33,8 @@ use Rattle.line.specs.World.{Fixed, Lined, World, world}
 use Rattle.zone.specs.declared.Fetched.the-variants.{At}
 use Rattle.zone.specs.declared.Fetched.the-variants.{Refused as RefusedPlace}
 use Rattle.zone.specs.declared.Fetched.{Fetched}
-use Rattle.line_steps.specs.Steps.{afterMove, byDisplaced, byFetched, controlAt, referenceIn, referenceMoved, doneIn, first, five, laidIn, madeIn, moveIn, one, passedOver, pointOr, refusedIn, two}
+use Rattle.line_steps.specs.Steps.{afterMove, byDisplaced, byFetched, controlAt, referenceIn, referenceMoved, doneIn, first, five, laidIn, madeIn, moveIn, one, passedOver, pointOr, refusedIn, roundedIn, roundedMoveIn, two}
+use Rattle.round.specs.declared.Tracked.{Tracked}
 
 -- ---- operands
 module _ (w : World) {r : Lined} where
@@ -132,6 +133,19 @@ module _ (w : World) {r : Lined} where
       → r ≡ afterMove w rest b → r ≡ moveIn zone distance at w rest
   unfolding moveIn
   moved-there zone distance at rest = laid-there zone (moveOf (w .state .vectors) (w .state .facts) distance) at rest
+
+  rounded-there : (zone : ZonePointer) (d : Tracked) (at : ℕ) (rest : World → Lined) {distance : ℤ} {m : Move} {b : BothMoved}
+      → distance ≡ d .word → m ≡ moveOf (w .state .vectors) (w .state .facts) distance
+      → b ≡ applyIn m at (w .gx) (w .gy) (w .gflags) (w .tx) (w .ty) (w .tflags) zone
+      → r ≡ afterMove w (λ (v : World). rest (roundedIn (d .wrapped) v)) b → r ≡ roundedMoveIn zone d at w rest
+  unfolding roundedMoveIn
+  rounded-there zone d at rest e m = moved-there zone (d .word) at (λ (v : World). rest (roundedIn (d .wrapped) v)) (m ∙ ap (moveOf (w .state .vectors) (w .state .facts)) e)
+
+  pub rounded-by : (zone : ZonePointer) (at : ℕ) (rest : World → Lined) {d d' : Tracked} {distance : ℤ} {m : Move} {b : BothMoved}
+      → d ≡ d' → distance ≡ d .word → m ≡ moveOf (w .state .vectors) (w .state .facts) distance
+      → b ≡ applyIn m at (w .gx) (w .gy) (w .gflags) (w .tx) (w .ty) (w .tflags) zone
+      → r ≡ afterMove w (λ (v : World). rest (roundedIn (d .wrapped) v)) b → r ≡ roundedMoveIn zone d' at w rest
+  rounded-by zone at rest {d = d} e x m b p = rounded-there zone d at rest x m b p ∙ ap (λ (t : Tracked). roundedMoveIn zone t at w rest) e
 
   -- ---- the reference point
   pub reference-out : (f : Fixed) (opcode : ℕ) (rest : Displacement → Lined) {d : Displaced} {why : Refusal}

@@ -2,7 +2,7 @@
 -- reads downward in the order of its steps, and every refusal leaves the world as it was at that step. Document 01, "A sheet and its lines" (a missing
 -- operand is answer 6), and FreeType 2.13.3, ttinterp.c (Direct_Move). Assumes nothing.
 use Prim.Native.Nat.{ℕ, suc, zero}
-use mathlib.Core.Bool.{cond}
+use mathlib.Core.Bool.{Bool, cond}
 use mathlib.Core.List.{List, [], _∷_}
 use lib.Dec.{ltb}
 use lib.IntN.{ℤ, pos}
@@ -11,7 +11,7 @@ use Rattle.answer.specs.declared.Call.the-variants.{Done, Refused}
 use Rattle.answer.specs.declared.Call.{Call}
 use Rattle.answer.specs.declared.Refusal.the-variants.{ControlValue, Missing}
 use Rattle.answer.specs.declared.Refusal.{Refusal}
-use Rattle.graphics.specs.State.{rp0At, rp1At, withLoopCounter, withReferences}
+use Rattle.graphics.specs.State.{rp0At, rp1At, withLoopCounter, withReferences, withRounding}
 use Rattle.graphics.specs.declared.GraphicsState.{GraphicsState}
 use Rattle.graphics.specs.declared.Vector.{Vector}
 use Rattle.graphics.specs.declared.ZonePointer.the-variants.{Glyph, Twilight}
@@ -28,6 +28,7 @@ use Rattle.moves.specs.declared.Displacement.{Displacement}
 use Rattle.moves.specs.declared.Move.{Move}
 use Rattle.line.specs.Places.{fetchIn}
 use Rattle.line.specs.World.{Fixed, Lined, World, lined, world}
+use Rattle.round.specs.declared.Tracked.{Tracked}
 use Rattle.zone.specs.Zone.{Marked}
 use Rattle.zone.specs.declared.Fetched.the-variants.{At}
 use Rattle.zone.specs.declared.Fetched.the-variants.{Refused as RefusedPlace}
@@ -58,6 +59,9 @@ bothAt at s = withReferences s (rp1At (rp0At (s .references) at) at)
 
 abbrev pub onBoth : ℕ → World → World
 onBoth at w = inState w (bothAt at (w .state))
+
+abbrev pub roundedIn : Bool → World → World
+roundedIn wrapped w = inState w (withRounding wrapped (w .state))
 
 -- ---- operands, first popped first
 unfoldable pub one : List ℤ → World → (ℤ → Lined) → Lined
@@ -130,6 +134,10 @@ laidIn zone m at w rest = afterMove w rest (applyIn m at (w .gx) (w .gy) (w .gfl
 -- a point moved by a distance, and touched
 unfoldable pub moveIn : ZonePointer → ℤ → ℕ → World → (World → Lined) → Lined
 moveIn zone distance at w rest = laidIn zone (moveOf (w .state .vectors) (w .state .facts) distance) at w rest
+
+-- a point moved by a distance that comes of a rounding, which is counted where it went past 32 bits: document 02, K5
+unfoldable pub roundedMoveIn : ZonePointer → Tracked → ℕ → World → (World → Lined) → Lined
+roundedMoveIn zone distance at w rest = moveIn zone (distance .word) at w λ moved. rest (roundedIn (distance .wrapped) moved)
 
 -- ---- flags
 -- what a call over the glyph's flags said and left

@@ -7,15 +7,17 @@ use answer::Refusal;
 use graphics::GraphicsState;
 use graphics::Vector;
 use graphics::Vectors;
+use int::wrapping_sub;
 use line::Stepped;
 use line::done;
 use line::refused;
 use projection::project;
+use round::Tracked;
 ghost use mathlib.Core.Path.{_≡_};
 ghost use Rattle.line.specs.World.{World};
 ghost use Rattle.line_steps.specs.Loop.{takeOf};
-ghost use Rattle.line_steps.specs.Numbers.{fromOrigin};
-ghost use Rattle.line_steps.specs.Steps.{bothAt, byCall, doneIn, inState, into, onBoth};
+ghost use Rattle.line_steps.specs.Numbers.{fromOrigin, stepFrom};
+ghost use Rattle.line_steps.specs.Steps.{bothAt, byCall, doneIn, inState, into, onBoth, roundedIn};
 
 // How far a point lies from the origin.
 pub fn from_origin(v: Vectors, place: Vector) -> i32
@@ -31,12 +33,22 @@ pub fn on_both(s: GraphicsState, at: u64) -> GraphicsState
     s.with_rp0(at).with_rp1(at)
 }
 
-// What a line that moved a point comes to: rp0 and rp1 set, where the move was made.
-pub fn settle(s: GraphicsState, at: u64, call: Call) -> Stepped
-    ensures { λ r. ⌜ ((w : World) → into w r ≡ byCall (inState w s) (λ (v : World). doneIn (onBoth at v)) call) ⌝ }
+// How far it is from a distance to where it was rounded to.
+pub fn step_from(own: i32, r: Tracked) -> Tracked
+    ensures { λ t. ⌜ t ≡ stepFrom own r ⌝ }
+{
+    Tracked {
+        word: wrapping_sub(r.word, own),
+        wrapped: r.wrapped,
+    }
+}
+
+// What a line that rounded and moved a point comes to: the rounding counted and rp0 and rp1 set, where the move was made.
+pub fn settle(s: GraphicsState, at: u64, wrapped: bool, call: Call) -> Stepped
+    ensures { λ r. ⌜ ((w : World) → into w r ≡ byCall (inState w s) (λ (v : World). doneIn (onBoth at (roundedIn wrapped v))) call) ⌝ }
 {
     match call {
-        Call::Done => done(on_both(s, at)),
+        Call::Done => done(on_both(s.with_rounding(wrapped), at)),
         Call::Refused(why) => refused(s, why),
     }
 }

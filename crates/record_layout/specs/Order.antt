@@ -1,13 +1,14 @@
--- A record, edition 1: its edition, its limits, and where each list lies, counted in words from its first: document 02, K4. Assumes nothing.
+-- A record: its edition, its limits, and where each list lies, counted in words from its first: document 02, K4 and K5. Assumes nothing.
 use Prim.Native.Nat.{ℕ, zero, suc, _+_, _*_}
 use mathlib.Core.List.{List, [], _∷_}
 use lib.ListN.{getD}
 use Rattle.words.specs.Lists.{part}
 use Rattle.record_layout.specs.declared.Layout.{Layout}
 
--- ---- the numbers of this edition
+-- ---- the numbers of a record
+-- the newest edition, which is written
 abbrev pub edition : ℕ
-edition = 1
+edition = 2
 
 -- 24 KiB
 abbrev pub mostBytes : ℕ

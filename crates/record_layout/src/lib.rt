@@ -1,4 +1,4 @@
-// Where the lists of a record lie, edition 1: document 02, K4.
+// Where the lists of a record lie: document 02, K4 and K5.
 //
 // A record is little-endian words: the state, fifteen lists, and a trailer of eight words. The places follow from the counts; edition, limits and order
 // stand here once, as constants and as definitions of specs/Order.antt, and nothing that reads or writes a record names a place itself.
@@ -6,7 +6,8 @@ ghost use mathlib.Core.Path.{_≡_};
 ghost use Rattle.record_layout.specs.Order.{countOf, listPlace, atTrailer, recordSize};
 ghost use Rattle.record_layout.specs.Steps.{capped};
 
-pub const EDITION: u32 = 1;
+// The newest edition, which is written.
+pub const EDITION: u32 = 2;
 
 // 24 KiB.
 pub const MOST_BYTES: usize = 24576;

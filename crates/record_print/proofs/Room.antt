@@ -14,14 +14,15 @@ use Rattle.int.specs.Word.{ofBits}
 use Rattle.words.specs.Lists.{flagOf, flagsOf, numbersOf, part, word}
 use Rattle.record_layout.specs.Order.{listPlace}
 use Rattle.record_layout.specs.declared.Layout.{Layout}
-use Rattle.record_read.proofs.Whole.{edition-state, layout-is, layout-kept, sound}
-use Rattle.record_read.specs.Read.{layoutOf, openOf, readAs}
+use Rattle.record_read.proofs.Editions.{kept-some}
+use Rattle.record_read.proofs.Whole.{layout-is, layout-kept, sound}
+use Rattle.record_read.specs.Read.{layoutOf, openOf, readAs, trailerWord}
 use Rattle.record_read.specs.declared.Opened.{Opened}
 use Rattle.record_read.specs.declared.Opened.the-variants.{Damaged, Whole}
 use Rattle.record_run.specs.After.{Shelved, shelved}
 use Rattle.record_run.specs.declared.Replayed.{Replayed}
-use Rattle.record_replay.specs.Shelf.{onRead, shelfOf}
-use Rattle.record_print.specs.Print.{Front, answerLine, blank, glyphLines, pointLine, pointLines, printOf, textOf}
+use Rattle.record_replay.specs.Shelf.{onRead, shelfWithin}
+use Rattle.record_print.specs.Print.{Front, answerLine, blank, glyphLines, pointLine, pointLines, printOf, room, textOf}
 use Rattle.record_print.specs.Steps.{Put, endedBy}
 use Rattle.record_print.specs.Text.{decimal, signedDecimal}
 use Rattle.record_print.proofs.Decimal.{digits-most}
@@ -78,16 +79,16 @@ pub glyph-most : (out : List ℕ) (l : Layout) → length (glyphLines out l) ≤
 glyph-most out l = lines-most out (listPlace l 4) (listPlace l 5) (listPlace l 6) (l .points)
 
 -- a point takes seven words of a record, which has 6,110 for its lists
-pub few-points : (bytes out : List ℕ) → shelfOf bytes out .said .layout .points ≤ 872
-unfolding shelfOf onRead
-few-points bytes out = by-verdict (openOf bytes) refl
+pub few-points : (most : ℕ) (bytes out : List ℕ) → shelfWithin most bytes out .said .layout .points ≤ 872
+unfolding shelfWithin onRead
+few-points most bytes out = by-verdict (openOf bytes) refl
   where
-    by-verdict : (o : Opened) → openOf bytes ≡ o → onRead out (readAs bytes o) .said .layout .points ≤ 872
+    by-verdict : (o : Opened) → openOf bytes ≡ o → onRead most out (readAs bytes o) .said .layout .points ≤ 872
     by-verdict (Whole l) e =
         let s = sound bytes l e in
         let m = layoutOf bytes in
-        let few : m .points ≤ 872 = omega (arith, s .adds-up, s .size-is) in
-        subst (λ (k : Layout). k .points ≤ 872) (layout-is bytes l e ∙ sym (layout-kept bytes l (edition-state bytes l e))) few
+        let few : m .points ≤ 872 = omega (arith, s .adds-up, s .size-is, kept-some (trailerWord bytes 5) (s .kept-is)) in
+        subst (λ (n : ℕ). n ≤ 872) (ap (λ (k : Layout). k .points) (layout-is bytes l e) ∙ sym (ap (λ (k : Layout). k .points) (layout-kept bytes l))) few
     by-verdict (Damaged why) e = omega arith
 
 -- ---- the text
@@ -95,10 +96,10 @@ few-points bytes out = by-verdict (openOf bytes) refl
 abbrev textRoom : ℕ
 textRoom = 24576
 
-module _ (bytes : List ℕ) {r : Replayed} {out : List ℕ} (e : shelved r out ≡ shelfOf bytes blank) where
+module _ (bytes : List ℕ) {r : Replayed} {out : List ℕ} (e : shelved r out ≡ shelfWithin room bytes blank) where
   pub lines-few : length (glyphLines out (r .layout)) ≤ 24416
   lines-few =
-      let few : r .layout .points ≤ 872 = subst (λ (s : Shelved). s .said .layout .points ≤ 872) (sym e) (few-points bytes blank) in
+      let few : r .layout .points ≤ 872 = subst (λ (s : Shelved). s .said .layout .points ≤ 872) (sym e) (few-points room bytes blank) in
       omega (arith, few, glyph-most out (r .layout))
 
   -- the answer's line and the points' are the whole text
@@ -110,8 +111,8 @@ module _ (bytes : List ℕ) {r : Replayed} {out : List ℕ} (e : shelved r out �
       let same : answerLine r ++ glyphLines out (r .layout) ≡ printOf bytes = ap textOf e in
       let whole : Put (printOf bytes) 0 m l₀ l₂ = subst (λ (s : List ℕ). Put s 0 m l₀ l₂) same (put-join p q) in
       let long : m ≡ length (printOf bytes) = omega (arith, whole .behind) in
-      let room : m ≤ textRoom = omega (arith, long, ap length same, length-append (answerLine r) (glyphLines out (r .layout))) in
-      let within : m ≤ length l₂ = omega (arith, room, t, ap length (whole .there), length-sets l₀ 0 (printOf bytes)) in (
+      let roomy : m ≤ textRoom = omega (arith, long, ap length same, length-append (answerLine r) (glyphLines out (r .layout))) in
+      let within : m ≤ length l₂ = omega (arith, roomy, t, ap length (whole .there), length-sets l₀ 0 (printOf bytes)) in (
         long,
-        ((within, sym (length-take-le m l₂ within)), whole .there ∙ sets-eq (printOf bytes) l₀ 0 (omega (arith, long, room, t)) ∙ ap (λ (k : ℕ). printOf bytes ++ drop k l₀) (sym (whole .behind))),
+        ((within, sym (length-take-le m l₂ within)), whole .there ∙ sets-eq (printOf bytes) l₀ 0 (omega (arith, long, roomy, t)) ∙ ap (λ (k : ℕ). printOf bytes ++ drop k l₀) (sym (whole .behind))),
       )

@@ -1,4 +1,4 @@
-// What a replay prints, as bytes: document 02, K4.
+// What a replay prints, as bytes: document 02, K4 and K5.
 //
 // `print` answers for every byte string: the text that it leaves at the front of `text` is `printOf` of specs/Print.antt, and the bytes behind it stay
 // as they were. There is always room: no record's text is longer than TEXT_ROOM.
@@ -9,10 +9,9 @@ use record_layout::CURRENT_X;
 use record_layout::CURRENT_Y;
 use record_layout::FLAGS;
 use record_layout::Layout;
-use record_layout::MOST_BYTES;
 use record_layout::place;
 use record_layout::wide;
-use record_replay::replay;
+use record_replay::replay_within;
 use record_run::Replayed;
 use words::word;
 ghost use mathlib.Core.Path.{_≡_};
@@ -28,6 +27,9 @@ ghost use Rattle.record_print.specs.Steps.{endedBy, Put};
 
 // No text is longer: 872 points, each a line of 28 bytes at most, and the answer's line of 74.
 pub const TEXT_ROOM: usize = 24576;
+
+// 24 KiB, and the word of the state that a record of edition 1 gains.
+const RECORD_ROOM: usize = 24580;
 
 // ---- a number
 // Below, `at` is the place where a piece of the text begins, and the answer the place behind it.
@@ -138,8 +140,8 @@ pub fn print(bytes: &[u8], text: &mut [u8; TEXT_ROOM]) -> usize
     ensures { λ r. ⌜ Front r (now (text .exit)) ⌝ }
     ensures { λ r. ⌜ now (text .exit) ≡ printOf (now (bytes .entry)) ++ drop r (now (text .entry)) ⌝ }
 {
-    let mut out = [0u8; MOST_BYTES];
-    let said = replay(bytes, &mut out);
+    let mut out = [0u8; RECORD_ROOM];
+    let said = replay_within(RECORD_ROOM, bytes, &mut out);
     let next = put_answer(said, text);
     put_points(&out, said.layout, text, next)
 }

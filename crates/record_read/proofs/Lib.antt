@@ -1,3 +1,4 @@
+pub mod Editions
 mod Seen
 mod Verdict
 pub mod Whole

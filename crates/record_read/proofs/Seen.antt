@@ -4,13 +4,13 @@ use mathlib.Core.Path.{_≡_, refl}
 use mathlib.Core.Bool.{Bool, _&&_}
 use mathlib.Core.List.{List}
 use Prim.Native.Nat.{ℕ, _+_, _-_, _*_}
-use lib.Dec.{eqb, leb}
-use Rattle.record_layout.specs.Order.{atTrailer, countOf, edition, listIn, listPlace, trailerSize}
+use lib.Dec.{eqb, leb, ltb}
+use Rattle.record_layout.specs.Order.{atTrailer, countOf, listIn, listPlace, trailerSize}
 use Rattle.record_layout.specs.declared.Layout.{Layout}
 use Rattle.limits.specs.Limits.{mostContours, mostControlValues, mostPoints, mostWords}
-use Rattle.state_words.specs.Words.{isState, stateSize}
+use Rattle.state_words.specs.Words.{isState}
 use Rattle.words.specs.Lists.{allAtMost, part, word, wrappingSum}
-use Rattle.record_read.specs.Read.{countsFit, sumFits, trailerFits, trailerWord, wordCount, wordsFit}
+use Rattle.record_read.specs.Read.{countsFit, stateIn, sumFits, trailerFits, trailerWord, wordCount, wordsFit}
 
 pub trailer-read : (bytes : List ℕ) (k : ℕ) {n a r : ℕ} → n ≡ wordCount bytes → a ≡ n - trailerSize → r ≡ word bytes (a + k) → r ≡ trailerWord bytes k
 trailer-read bytes k en ea er = rw (er, ea, en) refl
@@ -27,9 +27,9 @@ pub back-seen : (bytes : List ℕ) (l : Layout) {t w a : ℕ} → t ≡ trailerW
 back-seen bytes l et ew ea = rw (ew, et, ea) refl
 
 pub trailer-seen :
-    (bytes : List ℕ) (l : Layout) {u b : Bool} {e : ℕ} → u ≡ eqb (atTrailer l + trailerSize) (wordCount bytes) → e ≡ trailerWord bytes 5 → b ≡ eqb (trailerWord bytes 6) (atTrailer l * 4) →
-    u && eqb e edition && b ≡ trailerFits bytes l
-trailer-seen bytes l eu ee eb = rw (eu, ee, eb) refl
+    (bytes : List ℕ) (l : Layout) {u b : Bool} → u ≡ eqb (atTrailer l + trailerSize) (wordCount bytes) → b ≡ eqb (trailerWord bytes 6) (atTrailer l * 4) →
+    u && ltb 0 (l .state) && b ≡ trailerFits bytes l
+trailer-seen bytes l eu eb = rw (eu, eb) refl
 
 pub list-seen :
     (bytes : List ℕ) (l : Layout) (k most : ℕ) {at n c : ℕ} {f : Bool} → at ≡ listPlace l k → c ≡ countOf l k → n ≡ c → f ≡ allAtMost most (part bytes at n) →
@@ -37,7 +37,7 @@ pub list-seen :
 list-seen bytes l k most ea ec en ef = rw (ef, en, ec, ea) refl
 
 pub words-seen :
-    (bytes : List ℕ) (l : Layout) {s f e t : Bool} → s ≡ isState (part bytes 0 stateSize) → f ≡ allAtMost 255 (listIn bytes l 6) →
+    (bytes : List ℕ) (l : Layout) {s f e t : Bool} → s ≡ isState (stateIn bytes) → f ≡ allAtMost 255 (listIn bytes l 6) →
     e ≡ allAtMost 65535 (listIn bytes l 7) → t ≡ allAtMost 255 (listIn bytes l 12) → s && f && e && t ≡ wordsFit bytes l
 words-seen bytes l es ef ee et = rw (es, ef, ee, et) refl
 

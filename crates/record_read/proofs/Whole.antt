@@ -4,18 +4,18 @@ use mathlib.Core.List.{List}
 use mathlib.Core.Path.{_∙_, _≡_, ap, refl, sym}
 use Prim.Native.Nat.{_%_, _*_, _+_, _-_, _/_, _<_, _≤_, ℕ}
 use native.Mathlib.Omega.{arith}
-use borrow.Author.Tests.{eqb-true, leb-true}
-use lib.Dec.{eqb, leb}
+use borrow.Author.Tests.{eqb-true, leb-true, ltb-true}
+use lib.Dec.{eqb, leb, ltb}
 use lib.ListN.{length}
 use Rattle.graphics.proofs.Laws.{and-left, and-right}
 use Rattle.int.specs.Word.{ofBits}
 use Rattle.state_words.specs.Words.{isState, stateSize}
 use Rattle.words.proofs.Parts.{mapped-length}
 use Rattle.words.specs.Lists.{allAtMost, endOf, part, wrappingSum}
-use Rattle.record_layout.specs.Order.{atTrailer, edition, mostBytes, listPlace, trailerSize}
-use Rattle.record_read.specs.Read.{countsFit, framed, heldIn, layoutOf, lengthFits, openOf, sumFits, trailerFits, trailerWord, wordCount, wordsFit}
+use Rattle.record_layout.specs.Order.{atTrailer, mostBytes, listPlace, trailerSize}
+use Rattle.record_read.specs.Read.{countsFit, framed, heldIn, layoutOf, lengthFits, openOf, stateIn, sumFits, trailerFits, trailerWord, wordCount, wordsFit}
 use Rattle.record_layout.specs.declared.Layout.{Layout}
-use Rattle.record_read.specs.Format.{layoutFor}
+use Rattle.record_read.specs.Format.{layout, layoutFor}
 use Rattle.record_read.specs.declared.Damage.the-variants.{TooLong, Form, Sum}
 use Rattle.record_read.specs.declared.Opened.{Opened}
 use Rattle.record_read.specs.declared.Opened.the-variants.{Whole, Damaged}
@@ -41,9 +41,9 @@ pub record Sound (bytes : List ℕ) (l : Layout) : Type 0 where
   pub length-is : length bytes % 4 ≡ 0
   pub counts-fit : countsFit l ≡ true
   pub adds-up : atTrailer l + trailerSize ≡ wordCount bytes
-  pub edition-is : trailerWord bytes 5 ≡ edition
+  pub kept-is : 0 < l .state
   pub back-is : trailerWord bytes 6 ≡ atTrailer l * 4
-  pub state-is : isState (part bytes 0 stateSize) ≡ true
+  pub state-is : isState (stateIn bytes) ≡ true
   pub flags-are : allAtMost 255 (part bytes (listPlace l 6) (l .points)) ≡ true
   pub ends-are : allAtMost 65535 (part bytes (listPlace l 7) (l .contours)) ≡ true
   pub twilight-are : allAtMost 255 (part bytes (listPlace l 12) (l .twilight)) ≡ true
@@ -70,9 +70,6 @@ module _ (bytes : List ℕ) (l : Layout) (e : openOf bytes ≡ Whole l) where
   pub layout-is : layoutOf bytes ≡ l
   layout-is = all-passed .same
 
-  pub edition-state : stateSize ≡ l .state
-  edition-state = ap (λ (m : Layout). m .state) layout-is
-
   frame-holds : framed bytes ≡ true
   frame-holds = and-left (framed bytes) (wordsFit bytes (layoutOf bytes)) (all-passed .fits)
 
@@ -83,14 +80,14 @@ module _ (bytes : List ℕ) (l : Layout) (e : openOf bytes ≡ Whole l) where
   sound =
       let m = layoutOf bytes in
       let f = and3 {a = lengthFits bytes} {b = countsFit m} {c = trailerFits bytes m} frame-holds in
-      let w = and4 {a = isState (part bytes 0 stateSize)} {b = allAtMost 255 (part bytes (listPlace m 6) (m .points))} {c = allAtMost 65535 (part bytes (listPlace m 7) (m .contours))} {d = allAtMost 255 (part bytes (listPlace m 12) (m .twilight))} words-hold in
-      let t = and3 {a = eqb (atTrailer m + trailerSize) (wordCount bytes)} {b = eqb (trailerWord bytes 5) edition} {c = eqb (trailerWord bytes 6) (atTrailer m * 4)} (f .2) in
+      let w = and4 {a = isState (stateIn bytes)} {b = allAtMost 255 (part bytes (listPlace m 6) (m .points))} {c = allAtMost 65535 (part bytes (listPlace m 7) (m .contours))} {d = allAtMost 255 (part bytes (listPlace m 12) (m .twilight))} words-hold in
+      let t = and3 {a = eqb (atTrailer m + trailerSize) (wordCount bytes)} {b = ltb 0 (m .state)} {c = eqb (trailerWord bytes 6) (atTrailer m * 4)} (f .2) in
       record {
         size-is = leb-true (length bytes) mostBytes (all-passed .short-enough);
-        length-is = eqb-true (length bytes % 4) 0 (and-left (eqb (length bytes % 4) 0) (leb (stateSize + trailerSize) (wordCount bytes)) (f .0));
+        length-is = eqb-true (length bytes % 4) 0 (and-left (eqb (length bytes % 4) 0) (leb trailerSize (wordCount bytes)) (f .0));
         counts-fit = f .1;
         adds-up = eqb-true (atTrailer m + trailerSize) (wordCount bytes) (t .0);
-        edition-is = eqb-true (trailerWord bytes 5) edition (t .1);
+        kept-is = ltb-true 0 (m .state) (t .1);
         back-is = eqb-true (trailerWord bytes 6) (atTrailer m * 4) (t .2);
         state-is = w .0;
         flags-are = w .1;
@@ -104,8 +101,8 @@ same-layout : {s s′ p p′ c c′ t t′ k k′ w w′ : ℕ} → s ≡ s′ �
     → _≡_ {A = Layout} (record { state = s; points = p; contours = c; twilight = t; controls = k; words = w }) (record { state = s′; points = p′; contours = c′; twilight = t′; controls = k′; words = w′ })
 same-layout e a b c d f = cc
 
--- are those of its layout, where that is one of this edition
-pub layout-kept : (bytes : List ℕ) (l : Layout) → stateSize ≡ l .state → layoutFor (heldIn bytes l) ≡ l
-layout-kept bytes l e =
-    same-layout e (mapped-length ofBits bytes (listPlace l 4) (l .points)) (mapped-length endOf bytes (listPlace l 7) (l .contours))
+-- are those of its layout
+pub layout-kept : (bytes : List ℕ) (l : Layout) → layoutFor (heldIn bytes l) ≡ layout stateSize (l .points) (l .contours) (l .twilight) (l .controls) (l .words)
+layout-kept bytes l =
+    same-layout refl (mapped-length ofBits bytes (listPlace l 4) (l .points)) (mapped-length endOf bytes (listPlace l 7) (l .contours))
     (mapped-length ofBits bytes (listPlace l 10) (l .twilight)) (mapped-length ofBits bytes (listPlace l 13) (l .controls)) (mapped-length ofBits bytes (listPlace l 14) (l .words))

@@ -1,4 +1,4 @@
--- The record on the shelf, edition 1: document 02, K4. `recordOf` is the byte string that is written for what is held. Assumes nothing.
+-- The record on the shelf: document 02, K4 and K5. `recordOf` is the byte string that is written for what is held. Assumes nothing.
 use Prim.Native.Nat.{ℕ, _*_, _%_, _^_}
 use mathlib.Core.List.{List, [], _∷_, _++_}
 use lib.IntN.{ℤ}
@@ -20,13 +20,13 @@ abbrev pub held : Fixed → List ℤ → World → Held
 held f sheet w = record { fixed = f; sheet = sheet; world = w }
 
 -- ---- writing
--- the layout of this edition with these counts
-abbrev pub layout : ℕ → ℕ → ℕ → ℕ → ℕ → Layout
-layout n c m k w = record { state = stateSize; points = n; contours = c; twilight = m; controls = k; words = w }
+-- the layout of an edition that keeps so many words of the state, with these counts
+abbrev pub layout : ℕ → ℕ → ℕ → ℕ → ℕ → ℕ → Layout
+layout s n c m k w = record { state = s; points = n; contours = c; twilight = m; controls = k; words = w }
 
--- the counts of what is held, as its current lists give them
+-- the counts of what is held, as its current lists give them, in the newest edition
 abbrev pub layoutFor : Held → Layout
-layoutFor h = layout (length (h .world .gx)) (length (h .fixed .contours)) (length (h .world .tx)) (length (h .fixed .controls)) (length (h .sheet))
+layoutFor h = layout stateSize (length (h .world .gx)) (length (h .fixed .contours)) (length (h .world .tx)) (length (h .fixed .controls)) (length (h .sheet))
 
 abbrev pub glyphWords : Held → List ℕ
 glyphWords h =
@@ -37,7 +37,7 @@ abbrev pub twilightWords : Held → List ℕ
 twilightWords h =
     wordsOfNumbers (h .world .tox) ++ (wordsOfNumbers (h .world .toy) ++ (wordsOfNumbers (h .world .tx) ++ (wordsOfNumbers (h .world .ty) ++ h .world .tflags)))
 
--- "n, contours, m, control values, sheet words, edition 1, the bytes back from the trailer's first byte to the record's"
+-- "n, contours, m, control values, sheet words, edition, the bytes back from the trailer's first byte to the record's"
 abbrev pub trailerWords : Layout → List ℕ
 trailerWords l = l .points ∷ l .contours ∷ l .twilight ∷ l .controls ∷ l .words ∷ edition ∷ atTrailer l * 4 % 2 ^ 32 ∷ []
 

@@ -1,16 +1,17 @@
--- What a byte string holds, or why it is refused: document 02, K4. `readOf` answers for every byte string. Assumes nothing.
+-- What a byte string holds, or why it is refused: document 02, K4 and K5. `readOf` answers for every byte string. Assumes nothing.
 use Prim.Native.Nat.{ℕ, _+_, _-_, _*_, _/_, _%_}
 use mathlib.Core.Bool.{Bool, cond, _&&_}
-use mathlib.Core.List.{List}
-use lib.Dec.{eqb, leb}
+use mathlib.Core.List.{List, [], _∷_, _++_}
+use lib.Dec.{eqb, leb, ltb}
 use lib.IntN.{ℤ}
-use lib.ListN.{length}
+use lib.ListN.{drop, getD, length}
 use Rattle.limits.specs.Limits.{mostPoints, mostContours, mostControlValues, mostWords}
-use Rattle.state_words.specs.Words.{stateSize, stateOf, isState}
+use Rattle.state_words.specs.Words.{stateOf, stateWords, isState}
+use Rattle.graphics.specs.State.{freshState}
 use Rattle.words.specs.Lists.{word, part, numbersOf, flagsOf, endsOf, allAtMost, wrappingSum}
 use Rattle.line.specs.World.{Fixed, fixed, World, world}
 use Rattle.record_layout.specs.declared.Layout.{Layout}
-use Rattle.record_layout.specs.Order.{atTrailer, edition, listIn, mostBytes, trailerSize}
+use Rattle.record_layout.specs.Order.{atTrailer, listIn, mostBytes, trailerSize}
 use Rattle.record_read.specs.declared.Damage.{Damage}
 use Rattle.record_read.specs.declared.Damage.the-variants.{TooLong, Form, Sum}
 use Rattle.record_read.specs.declared.Opened.{Opened}
@@ -25,13 +26,20 @@ wordCount bytes = length bytes / 4
 abbrev pub trailerWord : List ℕ → ℕ → ℕ
 trailerWord bytes k = word bytes ((wordCount bytes - trailerSize) + k)
 
+-- how many words of the state an edition keeps, by its number; none of one that there isn't: K4's 26, and "one more" since K5
+abbrev pub keptBy : ℕ → ℕ
+keptBy e = getD (0 ∷ 26 ∷ 27 ∷ []) e 0
+
+abbrev pub keptIn : List ℕ → ℕ
+keptIn bytes = keptBy (trailerWord bytes 5)
+
 abbrev pub layoutOf : List ℕ → Layout
-layoutOf bytes = layout (trailerWord bytes 0) (trailerWord bytes 1) (trailerWord bytes 2) (trailerWord bytes 3) (trailerWord bytes 4)
+layoutOf bytes = layout (keptIn bytes) (trailerWord bytes 0) (trailerWord bytes 1) (trailerWord bytes 2) (trailerWord bytes 3) (trailerWord bytes 4)
 
 -- ---- what is refused with 16
 -- a length that is no whole number of words, or too short
 abbrev pub lengthFits : List ℕ → Bool
-lengthFits bytes = eqb (length bytes % 4) 0 && leb (stateSize + trailerSize) (wordCount bytes)
+lengthFits bytes = eqb (length bytes % 4) 0 && leb trailerSize (wordCount bytes)
 
 -- counts that pass document 01's sizes
 abbrev pub countsFit : Layout → Bool
@@ -39,18 +47,22 @@ countsFit l =
     leb (l .points) mostPoints && leb (l .contours) mostContours && leb (l .twilight) mostPoints
     && leb (l .controls) mostControlValues && leb (l .words) mostWords
 
--- counts that do not add up, another edition, or a wrong way back
+-- counts that do not add up, an edition that there isn't, or a wrong way back
 abbrev pub trailerFits : List ℕ → Layout → Bool
 trailerFits bytes l =
-    eqb (atTrailer l + trailerSize) (wordCount bytes) && eqb (trailerWord bytes 5) edition && eqb (trailerWord bytes 6) (atTrailer l * 4)
+    eqb (atTrailer l + trailerSize) (wordCount bytes) && ltb 0 (l .state) && eqb (trailerWord bytes 6) (atTrailer l * 4)
 
 abbrev pub framed : List ℕ → Bool
 framed bytes = lengthFits bytes && countsFit (layoutOf bytes) && trailerFits bytes (layoutOf bytes)
 
+-- the words of the state: "the new reader takes edition 1 with the count 0", which is the fresh state's, as is whatever a later edition adds
+abbrev pub stateIn : List ℕ → List ℕ
+stateIn bytes = part bytes 0 (keptIn bytes) ++ drop (keptIn bytes) (stateWords freshState)
+
 -- words out of their range: the state's, a flag that is no byte, a contour's end above 16 bits
 abbrev pub wordsFit : List ℕ → Layout → Bool
 wordsFit bytes l =
-    isState (part bytes 0 stateSize) && allAtMost 255 (listIn bytes l 6) && allAtMost 65535 (listIn bytes l 7)
+    isState (stateIn bytes) && allAtMost 255 (listIn bytes l 6) && allAtMost 65535 (listIn bytes l 7)
     && allAtMost 255 (listIn bytes l 12)
 
 -- ---- what is refused with 15
@@ -80,7 +92,7 @@ fixedIn bytes l =
 
 abbrev pub worldIn : List ℕ → Layout → World
 worldIn bytes l =
-    world (stateOf (part bytes 0 stateSize)) (numbersIn bytes l 4) (numbersIn bytes l 5) (flagsOf (listIn bytes l 6))
+    world (stateOf (stateIn bytes)) (numbersIn bytes l 4) (numbersIn bytes l 5) (flagsOf (listIn bytes l 6))
     (numbersIn bytes l 8) (numbersIn bytes l 9) (numbersIn bytes l 10) (numbersIn bytes l 11) (flagsOf (listIn bytes l 12))
 
 abbrev pub heldIn : List ℕ → Layout → Held

@@ -1,4 +1,4 @@
-// The record on the shelf, edition 1: document 02, K4. A record is little-endian words: the state, the lists, and a trailer of eight words that is
+// The record on the shelf, editions 1 and 2: document 02, K4 and K5. A record is little-endian words: the state, the lists, and a trailer of eight words that is
 // read from the end.
 //
 // `open` says for every byte string whether it is a record and how its lists lie, or why it is refused: one equation with `openOf` of
@@ -9,7 +9,6 @@ use limits::contours_fit;
 use limits::control_values_fit;
 use limits::points_fit;
 use limits::words_fit;
-use record_layout::EDITION;
 use record_layout::ENDS;
 use record_layout::FLAGS;
 use record_layout::Layout;
@@ -25,17 +24,19 @@ use record_layout::wide;
 use state_words::STATE_WORDS;
 use state_words::is_state;
 use state_words::read_state;
+use state_words::write_state;
 use words::all_at_most;
 use words::load_words;
 use words::sum;
 use words::word;
 ghost use Prim.Native.Nat.{_+_, _-_, _*_};
 ghost use lib.Dec.{eqb};
+ghost use lib.ListN.{length};
 ghost use Rattle.state_words.specs.Words.{stateSize, stateOf, isState};
-ghost use Rattle.words.specs.Lists.{allAtMost, part};
+ghost use Rattle.words.specs.Lists.{allAtMost};
 ghost use Rattle.record_layout.specs.Order.{trailerSize, listIn, atTrailer};
 ghost use Rattle.record_read.specs.Format.{layout};
-ghost use Rattle.record_read.specs.Read.{wordCount, trailerWord, layoutOf, lengthFits, countsFit, trailerFits, framed, wordsFit, sumFits, openOf, damageNumber};
+ghost use Rattle.record_read.specs.Read.{wordCount, trailerWord, layoutOf, lengthFits, countsFit, trailerFits, framed, wordsFit, sumFits, openOf, damageNumber, keptBy, keptIn, stateIn};
 ghost use mathlib.Core.Path.{_≡_};
 
 // Why a byte string is refused.
@@ -85,9 +86,27 @@ fn trailer_word(bytes: &[u8], k: usize) -> u32
     word(bytes, less(word_count(bytes), TRAILER_WORDS), k)
 }
 
-// The layout of this edition with these counts.
+// How many words of the state an edition keeps; none of one that there isn't.
+fn kept_by(edition: u32) -> u32
+    ensures { λ r. ⌜ r ≡ keptBy edition ⌝ }
+{
+    match edition {
+        1 => 26,
+        2 => 27,
+        _ => 0,
+    }
+}
+
+// How many a record keeps.
+fn kept_in(bytes: &[u8]) -> u32
+    ensures { λ r. ⌜ r ≡ keptIn (now (bytes .entry)) ⌝ }
+{
+    kept_by(trailer_word(bytes, 5))
+}
+
+// The layout of the newest edition with these counts.
 pub fn lay_out(points: u32, contours: u32, twilight: u32, controls: u32, words: u32) -> Layout
-    ensures { λ r. ⌜ r ≡ layout points contours twilight controls words ⌝ }
+    ensures { λ r. ⌜ r ≡ layout stateSize points contours twilight controls words ⌝ }
 {
     Layout {
         state: STATE_WORDS as u32,
@@ -107,14 +126,22 @@ fn layout_of(bytes: &[u8]) -> Layout
     let twilight = trailer_word(bytes, 2);
     let controls = trailer_word(bytes, 3);
     let words = trailer_word(bytes, 4);
-    lay_out(points, contours, twilight, controls, words)
+    let state = kept_in(bytes);
+    Layout {
+        state,
+        points,
+        contours,
+        twilight,
+        controls,
+        words,
+    }
 }
 
 // ---- what is refused with 16
 fn length_fits(bytes: &[u8]) -> bool
     ensures { λ r. ⌜ r ≡ lengthFits (now (bytes .entry)) ⌝ }
 {
-    (bytes.len() % 4 == 0) & (STATE_WORDS + TRAILER_WORDS <= word_count(bytes))
+    (bytes.len() % 4 == 0) & (TRAILER_WORDS <= word_count(bytes))
 }
 
 fn counts_fit(l: Layout) -> bool
@@ -142,7 +169,7 @@ fn leads_back(bytes: &[u8], l: Layout) -> bool
 fn trailer_fits(bytes: &[u8], l: Layout) -> bool
     ensures { λ r. ⌜ r ≡ trailerFits (now (bytes .entry)) l ⌝ }
 {
-    adds_up(bytes, l) & (trailer_word(bytes, 5) == EDITION) & leads_back(bytes, l)
+    adds_up(bytes, l) & (0 < l.state) & leads_back(bytes, l)
 }
 
 fn is_framed(bytes: &[u8]) -> bool
@@ -152,11 +179,21 @@ fn is_framed(bytes: &[u8]) -> bool
     length_fits(bytes) & counts_fit(l) & trailer_fits(bytes, l)
 }
 
+// The words of the state: what an older edition hasn't is as in the fresh state.
+fn load_state_words(bytes: &[u8], words: &mut [u32])
+    requires { ⌜ length (now words) ≡ stateSize ⌝ }
+    ensures { λ _. ⌜ now (words .exit) ≡ stateIn (now (bytes .entry)) ⌝ }
+{
+    write_state(GraphicsState::fresh(), words);
+    let kept = wide(kept_in(bytes));
+    load_words(bytes, 0, &mut words[..kept]);
+}
+
 fn state_fits(bytes: &[u8]) -> bool
-    ensures { λ r. ⌜ r ≡ isState (part (now (bytes .entry)) 0 stateSize) ⌝ }
+    ensures { λ r. ⌜ r ≡ isState (stateIn (now (bytes .entry))) ⌝ }
 {
     let mut words = [0u32; STATE_WORDS];
-    load_words(bytes, 0, &mut words);
+    load_state_words(bytes, &mut words);
     is_state(&words)
 }
 
@@ -205,9 +242,9 @@ pub fn open(bytes: &[u8]) -> Opened
 
 // The state of a record.
 pub fn load_state(bytes: &[u8]) -> GraphicsState
-    ensures { λ r. ⌜ r ≡ stateOf (part (now (bytes .entry)) 0 stateSize) ⌝ }
+    ensures { λ r. ⌜ r ≡ stateOf (stateIn (now (bytes .entry))) ⌝ }
 {
     let mut words = [0u32; STATE_WORDS];
-    load_words(bytes, 0, &mut words);
+    load_state_words(bytes, &mut words);
     read_state(&words)
 }

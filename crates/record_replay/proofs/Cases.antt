@@ -13,14 +13,15 @@ use Rattle.graphics.specs.declared.GraphicsState.{GraphicsState}
 use Rattle.line.specs.World.{Fixed, World, fixed, world}
 use Rattle.record_layout.specs.Order.{countOf, listIn, listPlace}
 use Rattle.record_layout.specs.declared.Layout.{Layout}
-use Rattle.record_read.proofs.Whole.{edition-state, layout-is, layout-kept, sound}
+use Rattle.record_read.proofs.Editions.{kept-some}
+use Rattle.record_read.proofs.Whole.{layout-is, layout-kept, sound}
 use Rattle.record_read.specs.Format.{held, layoutFor}
-use Rattle.record_read.specs.Read.{fixedIn, heldIn, layoutOf, damageNumber, openOf, readAs}
+use Rattle.record_read.specs.Read.{fixedIn, heldIn, layoutOf, damageNumber, openOf, readAs, trailerWord}
 use Rattle.record_read.specs.declared.Damage.{Damage}
 use Rattle.record_read.specs.declared.Opened.the-variants.{Damaged, Whole}
 use Rattle.record_run.specs.After.{shelved, shelvedFor}
-use Rattle.record_replay.specs.Steps.{listRoom, pointRoom, twilightRoom}
-use Rattle.record_replay.specs.Shelf.{onRead, refusedAs, shelfOf}
+use Rattle.record_replay.specs.Steps.{listRoom, newest, pointRoom, twilightRoom}
+use Rattle.record_replay.specs.Shelf.{onRead, refusedAs, shelfWithin}
 
 -- ---- the lists that were loaded
 front : {A : Type 0} (f rest l : List A) {n m : ℕ} → n ≡ m → l ≡ f ++ rest → length f ≡ m → take n l ≡ f
@@ -45,19 +46,19 @@ pub same-fixed : {k k′ ux ux′ uy uy′ ox ox′ oy oy′ : List ℤ} {c c′
     → k ≡ k′ → ux ≡ ux′ → uy ≡ uy′ → ox ≡ ox′ → oy ≡ oy′ → c ≡ c′ → fixed k ux uy ox oy c ≡ fixed k′ ux′ uy′ ox′ oy′ c′
 same-fixed a b c d e f = cc
 
-pub whole-held : (l : Layout) (bytes : List ℕ) (w : World) (out : List ℕ) {f : Fixed} {sheet : List ℤ} → f ≡ fixedIn bytes l → sheet ≡ heldIn bytes l .sheet → w ≡ heldIn bytes l .world
-    → shelvedFor l (held f sheet w) out ≡ shelvedFor l (heldIn bytes l) out
-whole-held l bytes w out e g h = ap (λ k. shelvedFor l k out) (ap₂ (λ f s. held f s w) e g ∙ ap (held (fixedIn bytes l) (heldIn bytes l .sheet)) h)
+pub whole-held : (most : ℕ) (l : Layout) (bytes : List ℕ) (w : World) (out : List ℕ) {f : Fixed} {sheet : List ℤ} → f ≡ fixedIn bytes l → sheet ≡ heldIn bytes l .sheet → w ≡ heldIn bytes l .world
+    → shelvedFor most (newest l) (held f sheet w) out ≡ shelvedFor most (newest l) (heldIn bytes l) out
+whole-held most l bytes w out e g h = ap (λ k. shelvedFor most (newest l) k out) (ap₂ (λ f s. held f s w) e g ∙ ap (held (fixedIn bytes l) (heldIn bytes l .sheet)) h)
 
 -- ---- the verdict
-module _ (bytes out : List ℕ) where
-  pub damaged : (why : Damage) → openOf bytes ≡ Damaged why → shelved (refusedAs (damageNumber why)) out ≡ shelfOf bytes out
-  unfolding shelfOf onRead
-  damaged why e = sym (ap (λ o. onRead out (readAs bytes o)) e)
+module _ (most : ℕ) (bytes out : List ℕ) where
+  pub damaged : (why : Damage) → openOf bytes ≡ Damaged why → shelved (refusedAs (damageNumber why)) out ≡ shelfWithin most bytes out
+  unfolding shelfWithin onRead
+  damaged why e = sym (ap (λ o. onRead most out (readAs bytes o)) e)
 
-  pub opened : (l : Layout) → openOf bytes ≡ Whole l → shelvedFor l (heldIn bytes l) out ≡ shelfOf bytes out
-  unfolding shelfOf onRead
-  opened l e = sym (ap (λ o. onRead out (readAs bytes o)) e ∙ ap (λ m. shelvedFor m (heldIn bytes l) out) (layout-kept bytes l (edition-state bytes l e)))
+  pub opened : (l : Layout) → openOf bytes ≡ Whole l → shelvedFor most (newest l) (heldIn bytes l) out ≡ shelfWithin most bytes out
+  unfolding shelfWithin onRead
+  opened l e = sym (ap (λ o. onRead most out (readAs bytes o)) e ∙ ap (λ m. shelvedFor most m (heldIn bytes l) out) (layout-kept bytes l))
 
 -- a record's lists have no more words together than are between its state and its trailer
 pub within : (bytes : List ℕ) (l : Layout) → openOf bytes ≡ Whole l → (l .points ≤ pointRoom) × ((l .contours ≤ listRoom) × ((l .twilight ≤ twilightRoom) × ((l .controls ≤ listRoom) × (l .words ≤ listRoom))))
@@ -65,11 +66,12 @@ within bytes l e =
     let s = sound bytes l e in
     let u = s .adds-up in
     let z = s .size-is in
+    let k = kept-some (trailerWord bytes 5) (s .kept-is) in
     let m = layoutOf bytes in
     let g = layout-is bytes l e in
-    let p : m .points ≤ pointRoom = omega (arith, u, z) in
-    let c : m .contours ≤ listRoom = omega (arith, u, z) in
-    let t : m .twilight ≤ twilightRoom = omega (arith, u, z) in
-    let k : m .controls ≤ listRoom = omega (arith, u, z) in
-    let w : m .words ≤ listRoom = omega (arith, u, z) in
-    subst (λ (n : Layout). (n .points ≤ pointRoom) × ((n .contours ≤ listRoom) × ((n .twilight ≤ twilightRoom) × ((n .controls ≤ listRoom) × (n .words ≤ listRoom))))) g (p, (c, (t, (k, w))))
+    let p : m .points ≤ pointRoom = omega (arith, u, z, k) in
+    let c : m .contours ≤ listRoom = omega (arith, u, z, k) in
+    let t : m .twilight ≤ twilightRoom = omega (arith, u, z, k) in
+    let v : m .controls ≤ listRoom = omega (arith, u, z, k) in
+    let w : m .words ≤ listRoom = omega (arith, u, z, k) in
+    subst (λ (n : Layout). (n .points ≤ pointRoom) × ((n .contours ≤ listRoom) × ((n .twilight ≤ twilightRoom) × ((n .controls ≤ listRoom) × (n .words ≤ listRoom))))) g (p, (c, (t, (v, w))))

@@ -1,6 +1,8 @@
--- What a replay of a record says and leaves: document 02, K4. Assumes nothing.
+-- What a replay of a record says and leaves: document 02, K4 and K5. Assumes nothing.
 use Prim.Native.Nat.{ℕ}
 use mathlib.Core.List.{List}
+use Rattle.state_words.specs.Words.{stateSize}
+use Rattle.record_layout.specs.Order.{mostBytes}
 use Rattle.record_read.specs.Format.{layout, layoutFor}
 use Rattle.record_read.specs.Read.{Read, readOf}
 use Rattle.record_read.specs.Read.Read.{Kept, Refused}
@@ -9,11 +11,16 @@ use Rattle.record_run.specs.declared.Replayed.{Replayed}
 
 -- "its number and three zeros alone, and the writer then writes nothing"
 abbrev pub refusedAs : ℕ → Replayed
-refusedAs n = record { number = n; place = 0; lines = 0; detail = 0; size = 0; layout = layout 0 0 0 0 0 }
+refusedAs n = record { number = n; place = 0; lines = 0; detail = 0; size = 0; layout = layout stateSize 0 0 0 0 0 }
 
-unfoldable pub onRead : List ℕ → Read → Shelved
-onRead out (Kept h) = shelvedFor (layoutFor h) h out
-onRead out (Refused n) = shelved (refusedAs n) out
+unfoldable pub onRead : ℕ → List ℕ → Read → Shelved
+onRead most out (Kept h) = shelvedFor most (layoutFor h) h out
+onRead most out (Refused n) = shelved (refusedAs n) out
 
-unfoldable pub shelfOf : List ℕ → List ℕ → Shelved
-shelfOf bytes out = onRead out (readOf bytes)
+-- with a record of at most so many bytes
+unfoldable pub shelfWithin : ℕ → List ℕ → List ℕ → Shelved
+shelfWithin most bytes out = onRead most out (readOf bytes)
+
+-- "The newest edition is written, or nothing where that passes 24 KiB."
+abbrev pub shelfOf : List ℕ → List ℕ → Shelved
+shelfOf bytes out = shelfWithin mostBytes bytes out

@@ -1,13 +1,15 @@
-// A record replayed: document 02, K4. Both programs of the shelf are this one call.
+// A record replayed: document 02, K4 and K5. Both programs of the shelf are this one call.
 //
 // `replay` answers for every byte string: what it says, and the record that it leaves at the front of `out`, are one equation with `shelfOf` of
-// specs/Shelf.antt. A byte string that is no record is refused by its number, and `out` stays as it was.
+// specs/Shelf.antt. A byte string that is no record is refused by its number, and `out` stays as it was. `replay_within` is the same under another
+// limit than 24 KiB, for whoever wants the points of a record that only an older edition keeps within it.
 use record_layout::CONTROLS;
 use record_layout::CURRENT_X;
 use record_layout::CURRENT_Y;
 use record_layout::ENDS;
 use record_layout::FLAGS;
 use record_layout::Layout;
+use record_layout::MOST_BYTES;
 use record_layout::ORIGINAL_X;
 use record_layout::ORIGINAL_Y;
 use record_layout::SHEET;
@@ -31,11 +33,11 @@ use record_run::run_and_write;
 ghost use mathlib.Core.Path.{_≡_};
 ghost use Prim.Native.Nat.{_≤_};
 ghost use Rattle.line.specs.World.{fixed};
-ghost use Rattle.record_replay.specs.Steps.{listRoom, pointRoom, twilightRoom};
+ghost use Rattle.record_replay.specs.Steps.{listRoom, newest, pointRoom, twilightRoom};
 ghost use Rattle.record_read.specs.Format.{held};
 ghost use Rattle.record_read.specs.Read.{worldIn, heldIn};
 ghost use Rattle.record_run.specs.After.{shelved, shelvedFor};
-ghost use Rattle.record_replay.specs.Shelf.{refusedAs, shelfOf};
+ghost use Rattle.record_replay.specs.Shelf.{refusedAs, shelfOf, shelfWithin};
 
 // No list of a record is longer than the words between its state and its trailer; a glyph point takes seven of these words, a twilight point five.
 const LIST_ROOM: usize = 6110;
@@ -44,8 +46,16 @@ const POINT_ROOM: usize = 872;
 
 const TWILIGHT_ROOM: usize = 1222;
 
+// The layout of the newest edition, with the counts of another's.
+fn renew(l: Layout) -> Layout
+    ensures { λ r. ⌜ r ≡ newest l ⌝ }
+{
+    lay_out(l.points, l.contours, l.twilight, l.controls, l.words)
+}
+
 // A replay over what lines only read; what they change is loaded here.
 fn replay_over(
+    most: usize,
     bytes: &[u8],
     l: Layout,
     sheet: &[i32],
@@ -59,7 +69,7 @@ fn replay_over(
 ) -> Replayed
     requires { ⌜ l .points ≤ pointRoom ⌝ }
     requires { ⌜ l .twilight ≤ twilightRoom ⌝ }
-    ensures { λ r. ⌜ shelved r (now (out .exit)) ≡ shelvedFor l (held (fixed (now (controls .entry)) (now (gux .entry)) (now (guy .entry)) (now (gox .entry)) (now (goy .entry)) (now (contours .entry))) (now (sheet .entry)) (worldIn (now (bytes .entry)) l)) (now (out .entry)) ⌝ }
+    ensures { λ r. ⌜ shelved r (now (out .exit)) ≡ shelvedFor most (newest l) (held (fixed (now (controls .entry)) (now (gux .entry)) (now (guy .entry)) (now (gox .entry)) (now (goy .entry)) (now (contours .entry))) (now (sheet .entry)) (worldIn (now (bytes .entry)) l)) (now (out .entry)) ⌝ }
 {
     let n = wide(l.points);
     let m = wide(l.twilight);
@@ -81,7 +91,8 @@ fn replay_over(
     flags_in(bytes, l, TWILIGHT_FLAGS, &mut tflags);
     let s = load_state(bytes);
     run_and_write(
-        l,
+        most,
+        renew(l),
         s,
         sheet,
         controls,
@@ -103,13 +114,13 @@ fn replay_over(
 }
 
 // A replay of a whole record; what lines only read is loaded here.
-fn replay_whole(bytes: &[u8], l: Layout, out: &mut [u8]) -> Replayed
+fn replay_whole(most: usize, bytes: &[u8], l: Layout, out: &mut [u8]) -> Replayed
     requires { ⌜ l .points ≤ pointRoom ⌝ }
     requires { ⌜ l .contours ≤ listRoom ⌝ }
     requires { ⌜ l .twilight ≤ twilightRoom ⌝ }
     requires { ⌜ l .controls ≤ listRoom ⌝ }
     requires { ⌜ l .words ≤ listRoom ⌝ }
-    ensures { λ r. ⌜ shelved r (now (out .exit)) ≡ shelvedFor l (heldIn (now (bytes .entry)) l) (now (out .entry)) ⌝ }
+    ensures { λ r. ⌜ shelved r (now (out .exit)) ≡ shelvedFor most (newest l) (heldIn (now (bytes .entry)) l) (now (out .entry)) ⌝ }
 {
     let words = wide(l.words);
     let values = wide(l.controls);
@@ -130,6 +141,7 @@ fn replay_whole(bytes: &[u8], l: Layout, out: &mut [u8]) -> Replayed
     let mut contours = [0u16; LIST_ROOM];
     ends_in(bytes, l, ENDS, &mut contours);
     replay_over(
+        most,
         bytes,
         l,
         &sheet[..words],
@@ -157,13 +169,20 @@ fn refuse(number: u32) -> Replayed
     }
 }
 
-// A record replayed: the answer, and the record as it then stands at the front of `out`, where there is room for it.
-pub fn replay(bytes: &[u8], out: &mut [u8]) -> Replayed
-    ensures { λ r. ⌜ shelved r (now (out .exit)) ≡ shelfOf (now (bytes .entry)) (now (out .entry)) ⌝ }
+// A record replayed: the answer, and the record as it then stands at the front of `out`, where it has at most `most` bytes and there is room for it.
+pub fn replay_within(most: usize, bytes: &[u8], out: &mut [u8]) -> Replayed
+    ensures { λ r. ⌜ shelved r (now (out .exit)) ≡ shelfWithin most (now (bytes .entry)) (now (out .entry)) ⌝ }
 {
     let opened = open(bytes);
     match opened {
         Opened::Damaged(why) => refuse(why.number()),
-        Opened::Whole(l) => replay_whole(bytes, l, out),
+        Opened::Whole(l) => replay_whole(most, bytes, l, out),
     }
+}
+
+// The same, with a record of 24 KiB at most.
+pub fn replay(bytes: &[u8], out: &mut [u8]) -> Replayed
+    ensures { λ r. ⌜ shelved r (now (out .exit)) ≡ shelfOf (now (bytes .entry)) (now (out .entry)) ⌝ }
+{
+    replay_within(MOST_BYTES, bytes, out)
 }

@@ -23,16 +23,16 @@ pub said : (l : Layout) (o : Outcome) (size : ℕ) {n d : ℕ} → n ≡ numberO
 said l o size e f = ap₂ (λ (n d : ℕ). replayed n (o .place) (o .lines) d size l) e f
 
 -- ---- what is written
-pub ran-and-written : (l : Layout) (f : Fixed) (sheet : List ℤ) (w : World) (out : List ℕ)
+pub ran-and-written : (most : ℕ) (l : Layout) (f : Fixed) (sheet : List ℤ) (w : World) (out : List ℕ)
     (o : Outcome) (gx gy : List ℤ) (gflags : List ℕ) (tox toy tx ty : List ℤ) (tflags : List ℕ) {size : ℕ} {left : List ℕ} {r : Replayed}
     → ran o gx gy gflags tox toy tx ty tflags ≡ runOf f sheet (length sheet) 0 w
-    → wrote size left ≡ writeOf (held f sheet (world (o .state) gx gy gflags tox toy tx ty tflags)) out
+    → wrote size left ≡ writeOf most (held f sheet (world (o .state) gx gy gflags tox toy tx ty tflags)) out
     → r ≡ told l o size
-    → shelved r left ≡ shelvedFor l (held f sheet w) out
-ran-and-written l f sheet w out o gx gy gflags tox toy tx ty tflags {size} {left} e g t =
+    → shelved r left ≡ shelvedFor most l (held f sheet w) out
+ran-and-written most l f sheet w out o gx gy gflags tox toy tx ty tflags {size} {left} e g t =
     ap (λ r. shelved r left) t
     ∙ ap (shelvedAs l (ran o gx gy gflags tox toy tx ty tflags)) g
-    ∙ ap (λ r. shelvedAs l r (writeOf (held f sheet (r .world)) out)) e
+    ∙ ap (λ r. shelvedAs l r (writeOf most (held f sheet (r .world)) out)) e
 
 -- ---- what is left in the lists
 pub lists-left : (f : Fixed) (sheet : List ℤ) (w : World)

@@ -1,4 +1,4 @@
--- A run of what a record holds, and what is written of it: document 02, K4. Assumes nothing.
+-- A run of what a record holds, and what is written of it: document 02, K4 and K5. Assumes nothing.
 use Prim.Native.Nat.{ℕ}
 use mathlib.Core.List.{List}
 use lib.IntN.{ℤ}
@@ -45,5 +45,6 @@ told l r size =
 abbrev pub shelvedAs : Layout → Ran → Wrote → Shelved
 shelvedAs l r w = shelved (saidOf l r (w .size)) (w .bytes)
 
-abbrev pub shelvedFor : Layout → Held → List ℕ → Shelved
-shelvedFor l h out = shelvedAs l (ranFrom h) (writeOf (after h) out)
+-- of at most so many bytes
+abbrev pub shelvedFor : ℕ → Layout → Held → List ℕ → Shelved
+shelvedFor most l h out = shelvedAs l (ranFrom h) (writeOf most (after h) out)

@@ -36,8 +36,10 @@ fn say(l: Layout, outcome: Outcome, size: usize) -> Replayed
     }
 }
 
-// A run of these lists from the sheet's start, with a budget of its words, and the record as it then stands at the front of `out`.
+// A run of these lists from the sheet's start, with a budget of its words, and the record as it then stands at the front of `out`,
+// where it has at most `most` bytes.
 pub fn run_and_write(
+    most: usize,
     l: Layout,
     s: GraphicsState,
     sheet: &[i32],
@@ -57,7 +59,7 @@ pub fn run_and_write(
     tflags: &mut [u8],
     out: &mut [u8],
 ) -> Replayed
-    ensures { λ r. ⌜ shelved r (now (out .exit)) ≡ shelvedFor l (held (fixed (now (controls .entry)) (now (gux .entry)) (now (guy .entry)) (now (gox .entry)) (now (goy .entry)) (now (contours .entry))) (now (sheet .entry)) (world s (now (gx .entry)) (now (gy .entry)) (now (gflags .entry)) (now (tox .entry)) (now (toy .entry)) (now (tx .entry)) (now (ty .entry)) (now (tflags .entry)))) (now (out .entry)) ⌝ }
+    ensures { λ r. ⌜ shelved r (now (out .exit)) ≡ shelvedFor most l (held (fixed (now (controls .entry)) (now (gux .entry)) (now (guy .entry)) (now (gox .entry)) (now (goy .entry)) (now (contours .entry))) (now (sheet .entry)) (world s (now (gx .entry)) (now (gy .entry)) (now (gflags .entry)) (now (tox .entry)) (now (toy .entry)) (now (tx .entry)) (now (ty .entry)) (now (tflags .entry)))) (now (out .entry)) ⌝ }
     ensures { λ r. ⌜ leftWith (held (fixed (now (controls .entry)) (now (gux .entry)) (now (guy .entry)) (now (gox .entry)) (now (goy .entry)) (now (contours .entry))) (now (sheet .entry)) (world s (now (gx .entry)) (now (gy .entry)) (now (gflags .entry)) (now (tox .entry)) (now (toy .entry)) (now (tx .entry)) (now (ty .entry)) (now (tflags .entry)))) (now (gx .exit)) (now (gy .exit)) (now (gflags .exit)) (now (tox .exit)) (now (toy .exit)) (now (tx .exit)) (now (ty .exit)) (now (tflags .exit)) ≡ ranFrom (held (fixed (now (controls .entry)) (now (gux .entry)) (now (guy .entry)) (now (gox .entry)) (now (goy .entry)) (now (contours .entry))) (now (sheet .entry)) (world s (now (gx .entry)) (now (gy .entry)) (now (gflags .entry)) (now (tox .entry)) (now (toy .entry)) (now (tx .entry)) (now (ty .entry)) (now (tflags .entry)))) .world ⌝ }
 {
     let outcome = run(
@@ -81,6 +83,7 @@ pub fn run_and_write(
         tflags,
     );
     let size = write(
+        most,
         outcome.state,
         sheet,
         controls,

@@ -1,6 +1,6 @@
-// The record on the shelf, written: document 02, K4.
+// The record on the shelf, written: document 02, K4 and K5. It is of the newest edition.
 //
-// `write` leaves the record of what it is given, or leaves the bytes alone where that is none: one equation with `writtenOf` of
+// `write` leaves the record of what it is given, or leaves the bytes alone where that is none: one equation with `writeOf` of
 // specs/Written.antt. The parts are stored in the record's order, each over what the ones before it left.
 use graphics::GraphicsState;
 use line::sizes_fit;
@@ -11,7 +11,6 @@ use record_layout::EDITION;
 use record_layout::ENDS;
 use record_layout::FLAGS;
 use record_layout::Layout;
-use record_layout::MOST_BYTES;
 use record_layout::ORIGINAL_X;
 use record_layout::ORIGINAL_Y;
 use record_layout::SHEET;
@@ -35,6 +34,7 @@ use words::store_words;
 use words::sum;
 ghost use Prim.Native.Nat.{_*_, _%_, _^_, _<_};
 ghost use Rattle.record_layout.specs.Order.{atTrailer};
+ghost use Rattle.state_words.specs.Words.{stateSize};
 ghost use Rattle.line.specs.World.{fixed, world};
 ghost use Rattle.record_read.specs.Format.{held, layout};
 ghost use Rattle.record_write.specs.Written.{wrote, writeOf};
@@ -152,7 +152,7 @@ fn layout_for(
     requires { ⌜ twilight < 2 ^ 32 ⌝ }
     requires { ⌜ controls < 2 ^ 32 ⌝ }
     requires { ⌜ words < 2 ^ 32 ⌝ }
-    ensures { λ r. ⌜ r ≡ layout points contours twilight controls words ⌝ }
+    ensures { λ r. ⌜ r ≡ layout stateSize points contours twilight controls words ⌝ }
 {
     lay_out(
         points as u32,
@@ -195,8 +195,9 @@ fn store(
 }
 
 // The record of a state and lists, written to the front of the bytes; how many bytes it has, or 0 where nothing is written: the lists make no zones
-// within the sizes, the record would pass 24 KiB, or there is no room.
+// within the sizes, the record would have more than `most` bytes, or there is no room.
 pub fn write(
+    most: usize,
     s: GraphicsState,
     sheet: &[i32],
     controls: &[i32],
@@ -215,7 +216,7 @@ pub fn write(
     tflags: &[u8],
     out: &mut [u8],
 ) -> usize
-    ensures { λ r. ⌜ wrote r (now (out .exit)) ≡ writeOf (held (fixed (now (controls .entry)) (now (gux .entry)) (now (guy .entry)) (now (gox .entry)) (now (goy .entry)) (now (contours .entry))) (now (sheet .entry)) (world s (now (gx .entry)) (now (gy .entry)) (now (gflags .entry)) (now (tox .entry)) (now (toy .entry)) (now (tx .entry)) (now (ty .entry)) (now (tflags .entry)))) (now (out .entry)) ⌝ }
+    ensures { λ r. ⌜ wrote r (now (out .exit)) ≡ writeOf most (held (fixed (now (controls .entry)) (now (gux .entry)) (now (guy .entry)) (now (gox .entry)) (now (goy .entry)) (now (contours .entry))) (now (sheet .entry)) (world s (now (gx .entry)) (now (gy .entry)) (now (gflags .entry)) (now (tox .entry)) (now (toy .entry)) (now (tx .entry)) (now (ty .entry)) (now (tflags .entry)))) (now (out .entry)) ⌝ }
 {
     let sized = sizes_fit(
         sheet,
@@ -245,7 +246,7 @@ pub fn write(
         sheet.len(),
     );
     let size = record_size(l);
-    if size > MOST_BYTES {
+    if size > most {
         return 0;
     }
     if size > out.len() {

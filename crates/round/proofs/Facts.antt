@@ -1,9 +1,9 @@
 -- What document 01 says of Grid, Up and Down: a multiple of 64 and the distance's sign on every input, and how far a distance moves where
 -- nothing wraps. All three are `mirrored` of a rounding up to or down to a multiple, so each fact is one law of `mirrored`.
 -- Assumes nothing.
-use mathlib.Core.Path.{_≡_, refl, ap, _∙_}
+use mathlib.Core.Path.{_≡_, refl, ap, subst, sym, _∙_}
 use mathlib.Core.Logic.{⊎-elim}
-use mathlib.Core.Bool.{true, false}
+use mathlib.Core.Bool.{true, false, cond}
 use Prim.Native.Nat.{ℕ, zero, suc, _+_, _-_, _*_, _/_, _%_, _^_, _≤_, _<_}
 use native.Mathlib.Omega.{arith}
 use borrow.Author.Tests.{lt-leb}
@@ -17,8 +17,10 @@ use Rattle.int.proofs.Words.{toZ-high}
 use Rattle.int.proofs.Wraps.{wrap-id}
 use Rattle.int.specs.Word.{wrap32, add32, neg32, minZ, maxZ}
 use Rattle.math.proofs.Masks.{pad-pow}
-use Rattle.math.specs.Fixed.{multipleBelow, pixFloor, pixRound, pixCeil}
-use Rattle.round.specs.Round.{mirrored, grid, downToGrid, upToGrid, periodFloor}
+use Rattle.math.specs.Fixed.{multipleBelow, padFloor, pixFloor, pixRound, pixCeil}
+use Rattle.round.specs.Round.{mirrored, grid, downToGrid, inward, outward, upToGrid, periodFloor}
+use Rattle.round.specs.Tracked.{given, negated, plus}
+use Rattle.round.specs.declared.Tracked.{Tracked}
 use Rattle.int.proofs.Tests.{either}
 
 -- a result from 0 up of a distance from 0 up, and one from 0 down of a distance below 0
@@ -30,6 +32,15 @@ pub record Rounds (f : ℤ → ℤ) (far : ℕ) : Type 0 where
   pub whole : (d : ℤ) → natAbs (f d) % 64 ≡ 0
   pub side : (d : ℤ) → SameSide d (f d)
   pub near : (d : ℤ) → natAbs d ≤ 2 ^ 31 - 64 → natAbs (f d -ℤ d) ≤ far
+
+-- what a mirrored rounding is as a word: the marks have no part in it
+abbrev mirroredWord : (ℤ → ℤ) → ℤ → ℤ
+mirroredWord f d = cond (nonNeg d) (maxZ (f d) (pos 0)) (minZ (neg32 (f (neg32 d))) (pos 0))
+
+mirrored-word : (f : Tracked → Tracked) (g : ℤ → ℤ) → ((x : Tracked) → f x .word ≡ g (x .word)) → (d : ℤ) → mirrored f d .word ≡ mirroredWord g d
+unfolding inward outward negated neg32
+mirrored-word f g e (pos n) = ap (λ (z : ℤ). maxZ z (pos 0)) (e (given (pos n)))
+mirrored-word f g e (negsuc n) = ap (λ (z : ℤ). minZ (wrap32 (negℤ z)) (pos 0)) (e (negated (given (negsuc n))))
 
 -- ---- the multiple of 64 below, by the sign
 floor-pos : (n : ℕ) → pixFloor (pos n) ≡ pos (n / 64 * 64)
@@ -74,7 +85,7 @@ whole-min : (z : ℤ) → Whole z → Whole (minZ z (pos 0))
 unfolding minZ
 whole-min z m = either Whole (leZ z (pos 0)) m whole-zero
 
-whole-mirrored : (f : ℤ → ℤ) → ((z : ℤ) → Whole (f z)) → (d : ℤ) → Whole (mirrored f d)
+whole-mirrored : (f : ℤ → ℤ) → ((z : ℤ) → Whole (f z)) → (d : ℤ) → Whole (mirroredWord f d)
 whole-mirrored f w d = either Whole (nonNeg d)
     (whole-max (f d) (w d))
     (whole-min (neg32 (f (neg32 d))) (whole-neg (f (neg32 d)) (w (neg32 d))))
@@ -92,7 +103,7 @@ min-down (pos zero) = refl
 min-down (pos (suc n)) = rw (lt-leb (suc n) 0 (omega arith))
 min-down (negsuc n) = refl
 
-side-mirrored : (f : ℤ → ℤ) (d : ℤ) → SameSide d (mirrored f d)
+side-mirrored : (f : ℤ → ℤ) (d : ℤ) → SameSide d (mirroredWord f d)
 side-mirrored f (pos n) = (λ e. max-up (f (pos n)), λ e. cc e)
 side-mirrored f (negsuc n) = (λ e. cc e, λ e. min-down (neg32 (f (neg32 (negsuc n)))))
 
@@ -127,7 +138,7 @@ record Near (f : ℤ → ℤ) (far n m : ℕ) : Type 0 where
   pub fits : m < 2 ^ 31
 
 near-mirrored : (f : ℤ → ℤ) (g : ℕ → ℕ) (far : ℕ) → ((n : ℕ) → n ≤ 2 ^ 31 - 64 → Near f far n (g n))
-    → (d : ℤ) → natAbs d ≤ 2 ^ 31 - 64 → natAbs (mirrored f d -ℤ d) ≤ far
+    → (d : ℤ) → natAbs d ≤ 2 ^ 31 - 64 → natAbs (mirroredWord f d -ℤ d) ≤ far
 near-mirrored f g far w (pos n) h = let v = w n h in
     rw (v .is, max-pos (g n), sub-pos (g n) n) (abs-sub (g n) n far (v .above) (v .below))
 near-mirrored f g far w (negsuc n) h = let v = w (suc n) h in
@@ -140,24 +151,36 @@ unfolding add32
 sum-floor n a h = rw (wrap-id (pos (n + a)) (record { sfits = h })) (floor-pos (n + a))
 
 -- ---- the three modes
-rounds : (f : ℤ → ℤ) (g : ℕ → ℕ) (far : ℕ) → ((z : ℤ) → Whole (f z)) → ((n : ℕ) → n ≤ 2 ^ 31 - 64 → Near f far n (g n)) → Rounds (mirrored f) far
+rounds : (f : ℤ → ℤ) (g : ℕ → ℕ) (far : ℕ) → ((z : ℤ) → Whole (f z)) → ((n : ℕ) → n ≤ 2 ^ 31 - 64 → Near f far n (g n)) → Rounds (mirroredWord f) far
 rounds f g far w n = record { whole = λ d. whole-mirrored f w d .whole; side = side-mirrored f; near = near-mirrored f g far n }
 
-pub grid-rounds : Rounds grid 32
-unfolding grid
-grid-rounds = rounds pixRound (λ n. (n + 32) / 64 * 64) 32 (λ d. whole-floor (add32 d (pos 32)))
-    (λ n h. record { is = sum-floor n 32 (omega arith); above = omega arith; below = omega arith; fits = omega arith })
+-- of a mode's word
+of-word : (f : Tracked → Tracked) (g : ℤ → ℤ) (far : ℕ) → ((x : Tracked) → f x .word ≡ g (x .word)) → Rounds (mirroredWord g) far → Rounds (λ d. mirrored f d .word) far
+of-word f g far e r = record {
+  whole = λ d. ap (λ (z : ℤ). natAbs z % 64) (mirrored-word f g e d) ∙ r .whole d;
+  side = λ d. subst (SameSide d) (sym (mirrored-word f g e d)) (r .side d);
+  near = λ d h. subst (λ z. natAbs (z -ℤ d) ≤ far) (sym (mirrored-word f g e d)) (r .near d h);
+}
 
-pub up-rounds : Rounds upToGrid 63
-unfolding upToGrid
-up-rounds = rounds pixCeil (λ n. (n + 63) / 64 * 64) 63 (λ d. whole-floor (add32 d (pos 63)))
-    (λ n h. record { is = sum-floor n 63 (omega arith); above = omega arith; below = omega arith; fits = omega arith })
+pub grid-rounds : Rounds (λ d. mirrored grid d .word) 32
+unfolding grid plus add32
+grid-rounds = of-word grid pixRound 32 (λ x. refl)
+    (rounds pixRound (λ n. (n + 32) / 64 * 64) 32 (λ d. whole-floor (add32 d (pos 32)))
+    (λ n h. record { is = sum-floor n 32 (omega arith); above = omega arith; below = omega arith; fits = omega arith }))
 
-pub down-rounds : Rounds downToGrid 63
+pub up-rounds : Rounds (λ d. mirrored upToGrid d .word) 63
+unfolding upToGrid plus add32
+up-rounds = of-word upToGrid pixCeil 63 (λ x. refl)
+    (rounds pixCeil (λ n. (n + 63) / 64 * 64) 63 (λ d. whole-floor (add32 d (pos 63)))
+    (λ n h. record { is = sum-floor n 63 (omega arith); above = omega arith; below = omega arith; fits = omega arith }))
+
+pub down-rounds : Rounds (λ d. mirrored downToGrid d .word) 63
 unfolding downToGrid
-down-rounds = rounds pixFloor (λ n. n / 64 * 64) 63 whole-floor
-    (λ n h. record { is = floor-pos n; above = omega arith; below = omega arith; fits = omega arith })
+down-rounds = of-word downToGrid pixFloor 63 (λ x. refl)
+    (rounds pixFloor (λ n. n / 64 * 64) 63 whole-floor
+    (λ n h. record { is = floor-pos n; above = omega arith; below = omega arith; fits = omega arith }))
 
 -- ---- Super by a period that is a power of two, as fonts use: the multiple of the period below
-pub super-period : (k : ℕ) → k ≤ 30 → (x : ℤ) → SFits w32 x → periodFloor false (pos (2 ^ k)) x ≡ multipleBelow (2 ^ k) x
-super-period k h x f = pad-pow k h x f
+pub super-period : (k : ℕ) → k ≤ 30 → (x : Tracked) → SFits w32 (x .word) → periodFloor false (pos (2 ^ k)) x .word ≡ multipleBelow (2 ^ k) (x .word)
+unfolding periodFloor padFloor negated neg32
+super-period k h x f = pad-pow k h (x .word) f

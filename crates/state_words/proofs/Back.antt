@@ -66,7 +66,7 @@ RoundFits r = SFits w32 (r .threshold) × SFits w32 (r .phase) × SFits w32 (r .
 pub record StateFits (s : GraphicsState) : Type 0 where
   pub vectors : VectorsFit (s .vectors)
   pub round : RoundFits (s .round)
-  pub cut-in : SFits w32 (s .«cut_in»)
+  pub cut-in : SFits w32 (s .measures .«cut_in»)
 
 vector-read : (v : Vector) → VectorFits v → record { x = ofBits (bitsOf (v .x)); y = ofBits (bitsOf (v .y)) } ≡ v
 vector-read v f = same-vector (word-read (f .0)) (word-read (f .1))
@@ -97,7 +97,7 @@ facts-read s =
 pub read-written : (s : GraphicsState) → StateFits s → stateOf (stateWords s) ≡ s
 unfolding stateOf stateWords
 read-written s f =
-    same-state (vectors-read s (f .vectors)) (round-read s (f .round)) (references-read s) refl (pointers-read s) (word-read (f .cut-in)) (facts-read s)
+    same-state (vectors-read s (f .vectors)) (round-read s (f .round)) (references-read s) refl (pointers-read s) (word-read (f .cut-in)) (facts-read s) refl
 
 -- ---- one word, read and written
 word-written : (n : ℕ) → n < 2 ^ 32 → bitsOf (ofBits n) ≡ n
@@ -194,7 +194,7 @@ module _ (ws : List ℕ) (in-range : isState ws ≡ true) where
         (cons refl
         (cons (zone-at 0 (omega arith)) (cons (zone-at 1 (omega arith)) (cons (zone-at 2 (omega arith))
         (cons (fact-at 3 (omega arith)) (cons (fact-at 4 (omega arith)) (cons (fact-at 5 (omega arith)) (cons (fact-at 6 (omega arith)) (cons (fact-at 7 (omega arith))
-        (cons (num 25) refl)))))))))))))))))))))))))
+        (cons (num 25) (cons refl refl))))))))))))))))))))))))))
 
     pub written-read : stateWords (stateOf ws) ≡ ws
     written-read = each ∙ ap (λ (n : ℕ). listed 0 n ws) (sym (size-is ws in-range)) ∙ listed-all ws

@@ -24,7 +24,7 @@ abbrev before20 : GraphicsState → List ℕ
 before20 s = before17 s ++ pointersWords (s .pointers)
 
 abbrev from25 : GraphicsState → List ℕ
-from25 s = bitsOf (s .«cut_in») ∷ []
+from25 s = bitsOf (s .measures .«cut_in») ∷ s .tallies .«wrapped_roundings» ∷ []
 
 abbrev from20 : GraphicsState → List ℕ
 from20 s = factsWords (s .facts) ++ from25 s
@@ -63,9 +63,13 @@ module _ (s : GraphicsState) (k : ℕ) where
   unfolding stateWords
   facts-at l h = sym (in-part (before20 s) (factsWords (s .facts)) (from25 s) k l (omega arith))
 
-  pub cut-in-at : 25 ≤ k → k < 26 → bitsOf (s .«cut_in») ≡ wordOf s k
+  pub cut-in-at : 25 ≤ k → k < 26 → bitsOf (s .measures .«cut_in») ≡ wordOf s k
   unfolding stateWords
   cut-in-at l h = let e : 25 ≡ k = omega arith in ap (wordOf s) e
+
+  pub wrapped-at : 26 ≤ k → k < 27 → s .tallies .«wrapped_roundings» ≡ wordOf s k
+  unfolding stateWords
+  wrapped-at l h = let e : 26 ≡ k = omega arith in ap (wordOf s) e
 
 -- 0 stands outside
 pub outside : (ws : List ℕ) (k : ℕ) → length ws ≤ k → 0 ≡ getD ws k 0

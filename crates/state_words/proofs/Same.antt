@@ -49,13 +49,14 @@ facts5 a b c d e = record { «backward_compatibility» = a; pedantic = b; «nati
 pub same-facts : {a u b v c w d x e y : Bool} → a ≡ u → b ≡ v → c ≡ w → d ≡ x → e ≡ y → facts5 a b c d e ≡ facts5 u v w x y
 same-facts i j k l m = cc
 
-abbrev state7 : Vectors → RoundState → References → ℕ → ZonePointers → ℤ → Facts → GraphicsState
-state7 v r p n z c f = record { vectors = v; round = r; references = p; «loop_counter» = n; pointers = z; «cut_in» = c; facts = f }
+abbrev state8 : Vectors → RoundState → References → ℕ → ZonePointers → ℤ → Facts → ℕ → GraphicsState
+state8 v r p n z c f t =
+    record { vectors = v; round = r; references = p; «loop_counter» = n; pointers = z; measures = record { «cut_in» = c }; facts = f; tallies = record { «wrapped_roundings» = t } }
 
 pub same-state :
-    {v v' : Vectors} {r r' : RoundState} {p p' : References} {n n' : ℕ} {z z' : ZonePointers} {c c' : ℤ} {f f' : Facts}
-    → v ≡ v' → r ≡ r' → p ≡ p' → n ≡ n' → z ≡ z' → c ≡ c' → f ≡ f' → state7 v r p n z c f ≡ state7 v' r' p' n' z' c' f'
-same-state d e g h i j k = cc
+    {v v' : Vectors} {r r' : RoundState} {p p' : References} {n n' : ℕ} {z z' : ZonePointers} {c c' : ℤ} {f f' : Facts} {t t' : ℕ}
+    → v ≡ v' → r ≡ r' → p ≡ p' → n ≡ n' → z ≡ z' → c ≡ c' → f ≡ f' → t ≡ t' → state8 v r p n z c f t ≡ state8 v' r' p' n' z' c' f' t'
+same-state d e g h i j k l = cc
 
 pub same-and : {a u b v : Bool} → a ≡ u → b ≡ v → a && b ≡ u && v
 same-and e f = cc

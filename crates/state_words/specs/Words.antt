@@ -1,6 +1,6 @@
 -- The graphics state as words: document 02, K4: "First the state, 26 words: projection, dual and freedom x, y; mode 0 to 7 in round.rs order;
--- threshold, phase, period; rp0, rp1, rp2, low word first; loop; zp0 to zp2 (0 twilight, 1 glyph); the five facts in 01's order; cut-in."
--- A signed number is its 32 bits. Assumes nothing.
+-- threshold, phase, period; rp0, rp1, rp2, low word first; loop; zp0 to zp2 (0 twilight, 1 glyph); the five facts in 01's order; cut-in."; and K5:
+-- "one more state word, the last", the count of wrapped roundings. A signed number is its 32 bits. Assumes nothing.
 use Prim.Native.Nat.{ℕ, _+_, _*_, _/_, _%_, _^_}
 use mathlib.Core.Bool.{Bool, true, false, cond, _&&_}
 use mathlib.Core.List.{List, [], _∷_, _++_}
@@ -23,7 +23,7 @@ use Rattle.graphics.specs.declared.ZonePointers.{ZonePointers}
 
 -- how many words a state is
 abbrev pub stateSize : ℕ
-stateSize = 26
+stateSize = 27
 
 -- ---- the words of a state
 abbrev pub modeWord : RoundMode → ℕ
@@ -68,7 +68,7 @@ factsWords f =
 unfoldable pub stateWords : GraphicsState → List ℕ
 stateWords s =
     vectorsWords (s .vectors) ++ (roundWords (s .round) ++ (referencesWords (s .references) ++ (s .«loop_counter»
-    ∷ (pointersWords (s .pointers) ++ (factsWords (s .facts) ++ (bitsOf (s .«cut_in») ∷ []))))))
+    ∷ (pointersWords (s .pointers) ++ (factsWords (s .facts) ++ (bitsOf (s .measures .«cut_in») ∷ s .tallies .«wrapped_roundings» ∷ []))))))
 
 abbrev pub wordOf : GraphicsState → ℕ → ℕ
 wordOf s k = getD (stateWords s) k 0
@@ -112,7 +112,8 @@ stateOf ws = record {
   «loop_counter» = stateWord ws 16;
   pointers = record { zp0 = zoneOf (stateWord ws 17); zp1 = zoneOf (stateWord ws 18); zp2 = zoneOf (stateWord ws 19) };
   facts = record { «backward_compatibility» = factAt ws 20; pedantic = factAt ws 21; «native_clear_type_x» = factAt ws 22; «did_iup_x» = factAt ws 23; «did_iup_y» = factAt ws 24 };
-  «cut_in» = numberAt ws 25;
+  measures = record { «cut_in» = numberAt ws 25 };
+  tallies = record { «wrapped_roundings» = stateWord ws 26 };
 }
 
 -- ---- which words are a state: refused with 16 where not. Vectors and period are left to the run's answer 3

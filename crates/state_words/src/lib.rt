@@ -5,7 +5,9 @@
 // each undoes the other is in proofs/Back.antt. A field that the state gains goes to the end, so that older words keep their places.
 use graphics::Facts;
 use graphics::GraphicsState;
+use graphics::Measures;
 use graphics::References;
+use graphics::Tallies;
 use graphics::Vector;
 use graphics::Vectors;
 use graphics::ZonePointer;
@@ -22,7 +24,7 @@ ghost use Rattle.words.specs.Lists.{allAtMost};
 ghost use Rattle.state_words.specs.Words.{stateWord, numberAt, vectorAt, longAt, modeOf, zoneOf, factOf, modeWord, zoneWord, factWord, vectorsWords, roundWords, referencesWords, pointersWords, factsWords, wordOf, stateOf, isState, written};
 
 // How many words a state is: the one place of this number in the code.
-pub const STATE_WORDS: usize = 26;
+pub const STATE_WORDS: usize = 27;
 
 // The first word of each part; the vectors are first.
 const ROUND: usize = 6;
@@ -36,6 +38,8 @@ const POINTERS: usize = 17;
 const FACTS: usize = 20;
 
 const CUT_IN: usize = 25;
+
+const WRAPPED_ROUNDINGS: usize = 26;
 
 // ---- one word
 // Word k, 0 outside.
@@ -223,14 +227,16 @@ pub fn read_state(words: &[u32]) -> GraphicsState
     let pointers = pointers_of(words);
     let cut_in = number(words, CUT_IN);
     let facts = facts_of(words);
+    let wrapped_roundings = word(words, WRAPPED_ROUNDINGS);
     GraphicsState {
         vectors,
         round,
         references,
         loop_counter,
         pointers,
-        cut_in,
+        measures: Measures { cut_in },
         facts,
+        tallies: Tallies { wrapped_roundings },
     }
 }
 
@@ -349,8 +355,10 @@ pub fn word_of(s: GraphicsState, k: usize) -> u32
         pointers_word(s.pointers, k - POINTERS)
     } else if k < CUT_IN {
         facts_word(s.facts, k - FACTS)
+    } else if k < WRAPPED_ROUNDINGS {
+        to_bits(s.measures.cut_in)
     } else if k < STATE_WORDS {
-        to_bits(s.cut_in)
+        s.tallies.wrapped_roundings
     } else {
         0
     }

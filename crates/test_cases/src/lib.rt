@@ -1,9 +1,9 @@
 // One case of the oracle's stream: a call, the world that it is given, and the outcome as the words that it changed (docs/ORACLE.md).
 //
 // A case is little-endian words. Word 0 says how many there are, 1 which call, 2 to 9 hold its arguments, 10 to 13 start and budget, 14 to 22
-// what it says, 23 the number of changed words, 24 to 38 the lengths of the fifteen lists (bit 31: one word stands for every element), 39 to 64
-// the state; then come the lists and the changes, each an index and the new word. What lies outside the case reads as 0, so a case
-// that is cut short is no reason to stop. Nothing is promised here but that every function is safe and ends.
+// what it says, 23 the number of changed words, 24 to 38 the lengths of the fifteen lists (bit 31: one word stands for every element). From 39 on
+// stand the state's words, the last the count of wrapped roundings; then come the lists and the changes, each an index and the new word. What lies
+// outside the case reads as 0, so a case that is cut short is no reason to stop. Nothing is promised here but that every function is safe and ends.
 use graphics::GraphicsState;
 use int::from_bits;
 use state_words::read_state;

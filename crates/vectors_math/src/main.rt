@@ -1,7 +1,7 @@
 // Replays the oracle's answers on math and rounding: a row a call, and prints how many agree.
 //
-// A row is eight little-endian words: the call, up to four arguments, 0, the answer's number and the result (docs/ORACLE.md). What
-// this prints is held to the file `stdout`; the rows stand in the file `stdin`.
+// A row is eight little-endian words: the call, up to four arguments, 1 for a rounding that went past 32 bits on its way and else 0, the answer's
+// number and the result (docs/ORACLE.md). What this prints is held to the file `stdout`; the rows stand in the file `stdin`.
 use int::from_bits;
 use libc::STDIN_FILENO;
 use round::RoundMode;
@@ -15,6 +15,17 @@ use words::word_at;
 // A row's word as a signed number.
 fn arg(row: &[u8], at: usize) -> i32 {
     from_bits(word_at(row, at))
+}
+
+fn one_if(yes: bool) -> u32 {
+    if yes { 1 } else { 0 }
+}
+
+// Whether a row says this: all three words of its outcome.
+fn says(row: &[u8], wrapped: bool, answer: u32, result: i32) -> bool {
+    word_at(row, 20) == one_if(wrapped)
+        && word_at(row, 24) == answer
+        && int::equal(result, arg(row, 28))
 }
 
 // What math.rs's functions give.
@@ -40,8 +51,8 @@ fn rounds_as(mode: RoundMode, row: &[u8]) -> bool {
         period: arg(row, 16),
     };
     match state.try_round(arg(row, 4)) {
-        Rounded::To(d) => word_at(row, 24) == 0 && int::equal(d, arg(row, 28)),
-        Rounded::Refused(why) => word_at(row, 24) == why.number(),
+        Rounded::To(d) => says(row, d.wrapped, 0, d.word),
+        Rounded::Refused(why) => says(row, false, why.number(), 0),
     }
 }
 
@@ -50,7 +61,7 @@ fn agrees(row: &[u8]) -> bool {
     let op = word_at(row, 0);
     if op < 8 {
         let r = math_result(op, arg(row, 4), arg(row, 8), arg(row, 12));
-        word_at(row, 24) == 0 && int::equal(r, arg(row, 28))
+        says(row, false, 0, r)
     } else if 16 <= op {
         rounds_as(mode_of(op - 16), row)
     } else {

@@ -16,6 +16,7 @@ use read_fonts::tables::glyf::{
     bytecode::{InlineOperands, Opcode},
     PointFlags, PointMarker,
 };
+use std::cell::RefCell;
 
 pub use super::super::math::{ceil, div, floor, mul, mul14, mul_div, round, round_pad};
 pub use read_fonts::tables::glyf::bytecode::HintErrorKind;
@@ -25,7 +26,7 @@ pub type Refused = HintErrorKind;
 /// A pair of coordinates.
 pub type Pair = (i32, i32);
 
-/// The graphics state of document 01, as numbers.
+/// The graphics state of document 01, as numbers, and document 02's count.
 #[derive(Clone, PartialEq, Debug)]
 pub struct State {
     /// Projection, dual and freedom vector, x then y.
@@ -41,6 +42,8 @@ pub struct State {
     pub x_interpolated: bool,
     pub y_interpolated: bool,
     pub cut_in: i32,
+    /// The Rust has no such number: it is the driver's, and stays here as it is.
+    pub wrapped_roundings: u32,
 }
 
 /// The mode's number in round.rs order, and its three numbers.
@@ -50,6 +53,37 @@ pub struct Rounding {
     pub threshold: i32,
     pub phase: i32,
     pub period: i32,
+}
+
+/// A call of the Rust's rounding, as round.rs reports it: its state, the
+/// distance, and the number that came out.
+#[derive(Copy, Clone, PartialEq, Debug)]
+pub struct Rounded {
+    pub rounding: Rounding,
+    pub distance: i32,
+    pub result: i32,
+}
+
+thread_local! {
+    static TOLD: RefCell<Vec<Rounded>> = const { RefCell::new(Vec::new()) };
+}
+
+/// What the patched line of round.rs calls.
+pub fn tell(state: &RoundState, distance: i32, result: i32) {
+    let rounding = rounding_of(*state);
+    let rounded = Rounded {
+        rounding,
+        distance,
+        result,
+    };
+    TOLD.with_borrow_mut(|told| told.push(rounded));
+}
+
+/// What is done, and the Rust's roundings on the way, in order.
+pub fn with_roundings<R>(done: impl FnOnce() -> R) -> (R, Vec<Rounded>) {
+    TOLD.take();
+    let result = done();
+    (result, TOLD.take())
 }
 
 /// What the projection state derives from the vectors.

@@ -7,6 +7,7 @@ mod required;
 mod rows;
 mod selectors;
 mod shifts;
+mod wraps;
 
 use crate::{
     answer,
@@ -98,11 +99,17 @@ impl Coverage {
         for key in lengths::keys(case, outcome) {
             self.add(key);
         }
+        for key in wraps::keys(case, outcome) {
+            self.add(key);
+        }
     }
 
     fn count_math(&mut self, row: &MathRow) {
         self.rows += 1;
         for key in rows::math_keys(row) {
+            self.add(key);
+        }
+        for key in wraps::row_keys(row) {
             self.add(key);
         }
     }

@@ -1,6 +1,6 @@
 //! What must come up in a run of the generator and in the sample.
 
-use super::{branches, keys::*, lengths, rows, selectors, shifts};
+use super::{branches, keys::*, lengths, rows, selectors, shifts, wraps};
 use crate::{
     opcodes::{name_of, rounds, row_of, Family, Row, TABLE},
     vectors,
@@ -25,6 +25,7 @@ pub fn required() -> Vec<String> {
     keys.extend(selectors::required());
     keys.extend(lengths::required());
     keys.extend(rows::required());
+    keys.extend(wraps::required());
     keys
 }
 

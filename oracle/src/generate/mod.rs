@@ -14,6 +14,7 @@ mod spoil;
 mod states;
 mod turns;
 mod worlds;
+mod wraps;
 
 pub use calls::{every_call, iup_case, zone_case};
 pub use far::{far_calls, far_references};
@@ -28,17 +29,20 @@ pub use selectors::{every_selector, rounds_by_every_selector, selector_counts};
 pub use shift_grid::every_shift;
 pub use shifts::shift_case;
 pub use turns::turns;
+pub use wraps::{every_wrap, wrap_case};
 
 use crate::{
     case::Case,
     notable,
     opcodes::{rows_of, Family, Row},
     random::Random,
+    wraps::count,
 };
 
 /// What no chance is left to: document 01's runs, the scenes of note, each
 /// opcode, each setter, each shift, each selector, the limits, lists that don't
-/// fit, far indices, and what one rule alone decides.
+/// fit, far indices, what one rule alone decides, and each kind of wrapped
+/// rounding.
 pub fn fixed_cases(random: &mut Random) -> Vec<Case> {
     let mut cases = runs_of_01().to_vec();
     cases.extend(notable::lines());
@@ -54,12 +58,19 @@ pub fn fixed_cases(random: &mut Random) -> Vec<Case> {
     cases.extend(far_calls(random));
     cases.extend(far_references());
     cases.extend(turns());
+    cases.extend(every_wrap());
     cases
 }
 
 /// Any case at all, for comparisons, coverage and searches.
 pub fn any_case(random: &mut Random) -> Case {
-    match random.weighted(&[5, 4, 8, 5, 5, 4, 1, 4, 1]) {
+    let mut case = uncounted_case(random);
+    case.world.state.wrapped_roundings = count(random);
+    case
+}
+
+fn uncounted_case(random: &mut Random) -> Case {
+    match random.weighted(&[5, 4, 8, 5, 5, 4, 1, 4, 1, 8]) {
         0 => zone_case(random),
         1 => iup_case(random),
         2 => {
@@ -77,7 +88,8 @@ pub fn any_case(random: &mut Random) -> Case {
             line_case(random, row)
         }
         7 => selector_run_case(random),
-        _ => length_case(random),
+        8 => length_case(random),
+        _ => wrap_case(random),
     }
 }
 

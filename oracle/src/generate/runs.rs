@@ -20,7 +20,7 @@ use std::sync::LazyLock;
 static SETTERS: LazyLock<Vec<u8>> = LazyLock::new(|| codes_of(Family::Setter));
 
 /// Document 01's other lines, by code.
-static MOVERS: LazyLock<Vec<u8>> = LazyLock::new(|| {
+pub static MOVERS: LazyLock<Vec<u8>> = LazyLock::new(|| {
     let mut movers = codes_of(Family::Outline);
     movers.sort_unstable();
     movers
@@ -35,7 +35,7 @@ static ALL_MOVERS: LazyLock<Vec<u8>> = LazyLock::new(|| {
 });
 
 /// Document 01's lines that round by the state.
-static ROUNDERS: LazyLock<Vec<u8>> = LazyLock::new(|| rounding_codes_of(Family::Outline));
+pub static ROUNDERS: LazyLock<Vec<u8>> = LazyLock::new(|| rounding_codes_of(Family::Outline));
 
 /// Chooses a line's opcode, given that of the line before it.
 type Choice = fn(&mut Random, Option<u8>) -> u8;

@@ -22,6 +22,7 @@ pub fn sound_state(random: &mut Random) -> State {
         x_interpolated: random.flip(),
         y_interpolated: random.flip(),
         cut_in: cut_in(random),
+        wrapped_roundings: 0,
     }
 }
 

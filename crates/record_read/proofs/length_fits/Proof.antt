@@ -1,10 +1,6 @@
 -- `record_read::length_fits` meets its contract. Assumes nothing.
-use borrow.Author.Needs.{needs}
 use Rattle.record_read.proofs.length_fits.Statement.{statement}
 use Rattle.record_read.proofs.length_fits.Tie as tie
-
-add-result : tie.Need-add-result
-add-result c = search needs
 
 word-count-requires : tie.Need-word-count-requires
 word-count-requires c κs = tt
@@ -13,4 +9,4 @@ returns : tie.Need-returns
 returns c = cc
 
 pub length-fits-spec : {M : Type 1} → statement M
-length-fits-spec = tie.close (tie.spec add-result word-count-requires returns)
+length-fits-spec = tie.close (tie.spec word-count-requires returns)

@@ -7,16 +7,13 @@ use Rattle.record_read.proofs.trailer_fits.Tie as tie
 adds-up-requires : tie.Need-adds-up-requires
 adds-up-requires c κs = tt
 
-trailer-word-requires : tie.Need-trailer-word-requires
-trailer-word-requires c κs = tt
-
 leads-back-requires : tie.Need-leads-back-requires
 leads-back-requires c κs = tt
 
 returns : tie.Need-returns
-returns c = let t = c .before in let a = t .before in let s = a .before .before in
-    trailer-seen (now (s .args .bytes)) (s .args .l) (a .adds-up .ensures) (t .trailer-word .ensures) (c .leads-back .ensures)
+returns c = let a = c .before .before in let s = a .before .before in
+    trailer-seen (now (s .args .bytes)) (s .args .l) (a .adds-up .ensures) (c .leads-back .ensures)
 
 pub trailer-fits-spec : {M : Type 1} → statement M
 trailer-fits-spec =
-    tie.close (tie.spec adds-up-requires trailer-word-requires leads-back-requires returns)
+    tie.close (tie.spec adds-up-requires leads-back-requires returns)

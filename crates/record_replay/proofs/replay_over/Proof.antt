@@ -1,5 +1,5 @@
 -- `record_replay::replay_over` meets its contract: each list that is lent is the part of the record that it was loaded from. Assumes nothing.
-use mathlib.Core.Path.{_∙_, ap, refl, sym}
+use mathlib.Core.Path.{_∙_, ap₂, refl, sym}
 use native.Mathlib.Omega.{arith}
 use denote.Ref.{now}
 use lib.Seq.{length-take-le}
@@ -68,7 +68,7 @@ entry s = entry-gx (got-gx s .before)
 
 -- all loaded, from the places where they are lent
 abbrev from-gx : tie.After-gx3 → tie.After-load-state
-from-gx c = c .before
+from-gx c = c .before .before
 
 abbrev from-gy : tie.After-gy3 → tie.After-load-state
 from-gy c = from-gx (c .before)
@@ -92,6 +92,9 @@ abbrev from-tflags : tie.After-tflags3 → tie.After-load-state
 from-tflags c = from-ty (c .before)
 
 -- the run, from the end
+abbrev renewed : tie.After-run-and-write → tie.After-renew
+renewed c = search
+
 abbrev ends : tie.After-slice-known2 → tie.After-gflags4
 ends c = c .before .before .before .before .before .before .before
 
@@ -153,11 +156,14 @@ slice-aggregate-flags-in-2 c = refl
 flags-in-requires-2 : tie.Need-flags-in-requires-2
 flags-in-requires-2 c κs = omega (arith, entry-tflags c .pre .1)
 
+renew-requires : tie.Need-renew-requires
+renew-requires c κs = tt
+
 load-state-requires : tie.Need-load-state-requires
 load-state-requires c κs = tt
 
 array-borrow-prefix-gx : tie.Need-array-borrow-prefix-gx
-array-borrow-prefix-gx c = let s = c in omega (arith, got-gx s .numbers-in .kept .1 .1 .1 .0, sizes s .before .wide .ensures, entry s .pre .0)
+array-borrow-prefix-gx c = let s = c .before in omega (arith, got-gx s .numbers-in .kept .1 .1 .1 .0, sizes s .before .wide .ensures, entry s .pre .0)
 
 slice-aggregate-run-and-write : tie.Need-slice-aggregate-run-and-write
 slice-aggregate-run-and-write c = sym (length-take-le _ _ (array-borrow-prefix-gx (c .before)))
@@ -215,7 +221,8 @@ returns c =
     let s = from-tflags (ran c .before .before) in
     let a = entry s .args in
     ran c .run-and-write .ensures .0
-    ∙ ap (λ w. shelvedFor (a .l) (held (fixed (now (a .controls)) (now (a .gux)) (now (a .guy)) (now (a .gox)) (now (a .goy)) (now (a .contours))) (now (a .sheet)) w) (now (a .out)))
+    ∙ ap₂ (λ l w. shelvedFor (a .most) l (held (fixed (now (a .controls)) (now (a .gux)) (now (a .guy)) (now (a .gox)) (now (a .goy)) (now (a .contours))) (now (a .sheet)) w) (now (a .out)))
+    (renewed (ran c) .renew .ensures)
     (same-world (s .load-state .ensures)
     (numbers-front (now (a .bytes)) (a .l) 4 _ _ (sizes s .before .wide .ensures) (got-gx s .numbers-in .ensures))
     (numbers-front (now (a .bytes)) (a .l) 5 _ _ (sizes s .before .wide .ensures) (got-gy s .numbers-in2 .ensures))
@@ -249,6 +256,7 @@ replay-over-spec =
     slice-aggregate-flags-in-2
     flags-in-requires-2
     load-state-requires
+    renew-requires
     array-borrow-prefix-gx
     slice-aggregate-run-and-write
     array-borrow-prefix-gy

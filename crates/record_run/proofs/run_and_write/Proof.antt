@@ -69,7 +69,7 @@ returns c =
     let a = entry c .args in
     let f = fixed (now (a .controls)) (now (a .gux)) (now (a .guy)) (now (a .gox)) (now (a .goy)) (now (a .contours)) in
     let w = world (a .s) (now (a .gx)) (now (a .gy)) (now (a .gflags)) (now (a .tox)) (now (a .toy)) (now (a .tx)) (now (a .ty)) (now (a .tflags)) in (
-      ran-and-written (a .l) f (now (a .sheet)) w (now (a .out)) (run .run .result)
+      ran-and-written (a .most) (a .l) f (now (a .sheet)) w (now (a .out)) (run .run .result)
           (glyph .0) (glyph .1 .0) (glyph .1 .1 .0) (twilight .0) (twilight .1 .0) (twilight .1 .1 .0) (twilight .1 .1 .1 .0) (twilight .1 .1 .1 .1 .0)
           (run .run .ensures) (write .write .ensures) (c .say .ensures),
       lists-left f (now (a .sheet)) w (run .run .result)

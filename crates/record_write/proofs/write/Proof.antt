@@ -15,7 +15,7 @@ returns : tie.Need-returns
 returns c =
     let z = c .before in
     let a = z .before .before .before .before .before .args in
-    no-zones (held (fixed (now (a .controls)) (now (a .gux)) (now (a .guy)) (now (a .gox)) (now (a .goy)) (now (a .contours))) (now (a .sheet)) (world (a .s) (now (a .gx)) (now (a .gy)) (now (a .gflags)) (now (a .tox)) (now (a .toy)) (now (a .tx)) (now (a .ty)) (now (a .tflags)))) (now (a .out)) (sym (z .sizes-fit .ensures) ∙ not-true _ (c .if1 .taken))
+    no-zones (a .most) (held (fixed (now (a .controls)) (now (a .gux)) (now (a .guy)) (now (a .gox)) (now (a .goy)) (now (a .contours))) (now (a .sheet)) (world (a .s) (now (a .gx)) (now (a .gy)) (now (a .gflags)) (now (a .tox)) (now (a .toy)) (now (a .tx)) (now (a .ty)) (now (a .tflags)))) (now (a .out)) (sym (z .sizes-fit .ensures) ∙ not-true _ (c .if1 .taken))
 
 layout-for-requires : tie.Need-layout-for-requires
 layout-for-requires c κs =
@@ -33,7 +33,7 @@ returns-2 c =
     let i = l .before in
     let z = i .before in
     let a = z .before .before .before .before .before .args in
-    too-long (held (fixed (now (a .controls)) (now (a .gux)) (now (a .guy)) (now (a .gox)) (now (a .goy)) (now (a .contours))) (now (a .sheet)) (world (a .s) (now (a .gx)) (now (a .gy)) (now (a .gflags)) (now (a .tox)) (now (a .toy)) (now (a .tx)) (now (a .ty)) (now (a .tflags)))) (now (a .out)) (sym (z .sizes-fit .ensures) ∙ not-false _ (i .if1 .left)) _ (l .layout-for .ensures) _ (r .record-size .ensures) (c .if2 .taken)
+    too-long (a .most) (held (fixed (now (a .controls)) (now (a .gux)) (now (a .guy)) (now (a .gox)) (now (a .goy)) (now (a .contours))) (now (a .sheet)) (world (a .s) (now (a .gx)) (now (a .gy)) (now (a .gflags)) (now (a .tox)) (now (a .toy)) (now (a .tx)) (now (a .ty)) (now (a .tflags)))) (now (a .out)) (sym (z .sizes-fit .ensures) ∙ not-false _ (i .if1 .left)) _ (l .layout-for .ensures) _ (r .record-size .ensures) (c .if2 .taken)
 
 returns-3 : tie.Need-returns-3
 returns-3 c =
@@ -42,7 +42,7 @@ returns-3 c =
     let i = l .before in
     let z = i .before in
     let a = z .before .before .before .before .before .args in
-    too-short (held (fixed (now (a .controls)) (now (a .gux)) (now (a .guy)) (now (a .gox)) (now (a .goy)) (now (a .contours))) (now (a .sheet)) (world (a .s) (now (a .gx)) (now (a .gy)) (now (a .gflags)) (now (a .tox)) (now (a .toy)) (now (a .tx)) (now (a .ty)) (now (a .tflags)))) (now (a .out)) (sym (z .sizes-fit .ensures) ∙ not-false _ (i .if1 .left)) _ (l .layout-for .ensures) _ (r .record-size .ensures) (c .before .if2 .left) (c .if3 .taken)
+    too-short (a .most) (held (fixed (now (a .controls)) (now (a .gux)) (now (a .guy)) (now (a .gox)) (now (a .goy)) (now (a .contours))) (now (a .sheet)) (world (a .s) (now (a .gx)) (now (a .gy)) (now (a .gflags)) (now (a .tox)) (now (a .toy)) (now (a .tx)) (now (a .ty)) (now (a .tflags)))) (now (a .out)) (sym (z .sizes-fit .ensures) ∙ not-false _ (i .if1 .left)) _ (l .layout-for .ensures) _ (r .record-size .ensures) (c .before .if2 .left) (c .if3 .taken)
 
 store-requires : tie.Need-store-requires
 store-requires c κs = tt
@@ -59,7 +59,7 @@ returns-4 c =
     let i = l .before in
     let z = i .before in
     let a = z .before .before .before .before .before .args in
-    written (held (fixed (now (a .controls)) (now (a .gux)) (now (a .guy)) (now (a .gox)) (now (a .goy)) (now (a .contours))) (now (a .sheet)) (world (a .s) (now (a .gx)) (now (a .gy)) (now (a .gflags)) (now (a .tox)) (now (a .toy)) (now (a .tx)) (now (a .ty)) (now (a .tflags)))) (now (a .out)) (sym (z .sizes-fit .ensures) ∙ not-false _ (i .if1 .left)) _ (l .layout-for .ensures) _ (r .record-size .ensures) (k .before .if2 .left) (k .if3 .left) (s .store .ensures)
+    written (a .most) (held (fixed (now (a .controls)) (now (a .gux)) (now (a .guy)) (now (a .gox)) (now (a .goy)) (now (a .contours))) (now (a .sheet)) (world (a .s) (now (a .gx)) (now (a .gy)) (now (a .gflags)) (now (a .tox)) (now (a .toy)) (now (a .tx)) (now (a .ty)) (now (a .tflags)))) (now (a .out)) (sym (z .sizes-fit .ensures) ∙ not-false _ (i .if1 .left)) _ (l .layout-for .ensures) _ (r .record-size .ensures) (k .before .if2 .left) (k .if3 .left) (s .store .ensures)
 
 pub write-spec : {M : Type 1} → statement M
 write-spec = tie.close (tie.spec sizes-fit-requires returns layout-for-requires record-size-requires returns-2 returns-3 store-requires same-length returns-4)

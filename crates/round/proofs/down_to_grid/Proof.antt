@@ -1,34 +1,22 @@
--- `round::down_to_grid` meets its contract: the mirrored rounding is computed at |d| (`unmirrored`). Assumes nothing.
-use mathlib.Core.Path.{_≡_, _∙_}
-use mathlib.Core.Bool.{cond}
-use borrow.Author.Needs.{needs}
-use lib.IntN.{pos}
-use lib.Signed.{nonNeg}
+-- `round::down_to_grid` meets its contract: each step is what its call ensures. Assumes nothing.
+use mathlib.Core.Path.{_∙_, ap, ap₂}
 use mir.Facts.{toZ-ofZ}
-use Rattle.int.proofs.Words.{back32}
-use Rattle.int.specs.Word.{neg32, abs32, minZ, maxZ}
-use Rattle.math.specs.Fixed.{pixFloor}
-use Rattle.round.proofs.Mirror.{unmirrored}
-use Rattle.round.specs.Round.{downToGrid}
+use Rattle.round.specs.Round.{downToGrid, inward, outward}
 use Rattle.round.proofs.down_to_grid.Statement.{statement}
 use Rattle.round.proofs.down_to_grid.Tie as tie
 
-wrapping-abs-requires : tie.Need-wrapping-abs-requires
-wrapping-abs-requires c κs = search needs
+outward-requires : tie.Need-outward-requires
+outward-requires c κs = tt
 
-floor-requires : tie.Need-floor-requires
-floor-requires c κs = search needs
+floored-requires : tie.Need-floored-requires
+floored-requires c κs = tt
 
-unmirror-requires : tie.Need-unmirror-requires
-unmirror-requires c κs = search needs
+inward-requires : tie.Need-inward-requires
+inward-requires c κs = tt
 
 returns : tie.Need-returns
-unfolding downToGrid
-returns c = let s = c .before .before .before in
-    let e : c .unmirror .result ≡ cond (nonNeg (s .args .d)) (maxZ (pixFloor (abs32 (s .args .d))) (pos 0)) (minZ (neg32 (pixFloor (abs32 (s .args .d)))) (pos 0)) =
-    cc (toZ-ofZ (s .fits .d), back32 (c .before .before .wrapping-abs .result) (c .before .before .wrapping-abs .ok), back32 (c .before .floor .result) (c .before .floor .ok)) in
-    back32 (c .unmirror .result) (c .unmirror .ok) ∙ e ∙ unmirrored pixFloor (s .args .d) (s .fits .d)
+returns c = let f = c .before in let o = f .before in let d = toZ-ofZ (o .before .fits .d) in
+    c .inward .ensures ∙ ap₂ inward d (f .floored .ensures ∙ ap downToGrid (o .outward .ensures ∙ ap outward d))
 
 pub down-to-grid-spec : {M : Type 1} → statement M
-down-to-grid-spec =
-    tie.close (tie.spec wrapping-abs-requires floor-requires unmirror-requires returns)
+down-to-grid-spec = tie.close (tie.spec outward-requires floored-requires inward-requires returns)

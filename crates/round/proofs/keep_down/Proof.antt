@@ -1,32 +1,30 @@
 -- `round::keep_down` meets its contract: by whether v is above 0. Assumes nothing.
-use mathlib.Core.Path.{_≡_}
-use mathlib.Core.Bool.{true, false}
-use borrow.Author.Needs.{needs}
-use lib.IntN.{pos}
-use lib.Signed.{ltZ}
+use native.Mathlib.Omega.{arith}
+use mathlib.Core.Path.{_∙_, ap}
 use mir.Facts.{toZ-ofZ}
 use Rattle.int.proofs.Words.{back32}
-use Rattle.round.specs.Round.{keepDown}
+use Rattle.round.specs.Tracked.{given}
+use Rattle.round.proofs.Seen.{kept-down, phase-down}
 use Rattle.round.proofs.keep_down.Statement.{statement}
 use Rattle.round.proofs.keep_down.Tie as tie
 
 less-requires : tie.Need-less-requires
-less-requires c κs = search needs
+less-requires c κs = tt
 
-wrapping-neg-requires : tie.Need-wrapping-neg-requires
-wrapping-neg-requires c κs = search needs
+given-requires : tie.Need-given-requires
+given-requires c κs = tt
+
+negated-requires : tie.Need-negated-requires
+negated-requires c κs = tt
 
 returns : tie.Need-returns
-unfolding keepDown
-returns c = let s = c .before .before .before in
-    let t : ltZ (pos 0) (s .args .v) ≡ true = cc (toZ-ofZ (s .fits .v)) in
-    rw t (cc (toZ-ofZ (s .fits .phase), back32 (c .wrapping-neg .result) (c .wrapping-neg .ok)))
+returns c = let n = c .before .before .before in let g = n .before in let e = g .before in let t = e .before in let s = t .before .before in
+    phase-down (s .args .phase) (s .args .v) (t .less .ensures) (e .if1 .taken) (back32 (s .args .v .word) (omega arith)) (g .given .ensures ∙ ap given (toZ-ofZ (s .fits .phase))) (n .negated .ensures)
+    (back32 (n .negated .result .word) (omega (arith, c .struct-told2 .given)))
 
 returns-2 : tie.Need-returns-2
-unfolding keepDown
-returns-2 c = let s = c .before .before in
-    let t : ltZ (pos 0) (s .args .v) ≡ false = cc (toZ-ofZ (s .fits .v)) in
-    rw t (toZ-ofZ (s .fits .v))
+returns-2 c = let t = c .before in let s = t .before .before in
+    kept-down (s .args .phase) (s .args .v) (t .less .ensures) (c .if1 .left) (back32 (s .args .v .word) (omega arith))
 
 pub keep-down-spec : {M : Type 1} → statement M
-keep-down-spec = tie.close (tie.spec less-requires wrapping-neg-requires returns returns-2)
+keep-down-spec = tie.close (tie.spec less-requires given-requires negated-requires returns returns-2)

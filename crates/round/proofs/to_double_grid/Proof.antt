@@ -1,35 +1,39 @@
--- `round::to_double_grid` meets its contract: the mirrored rounding is computed at |d| (`unmirrored`). Assumes nothing.
-use mathlib.Core.Path.{_≡_, _∙_}
-use mathlib.Core.Bool.{cond}
-use borrow.Author.Needs.{needs}
+-- `round::to_double_grid` meets its contract: each step is what its call ensures. Assumes nothing.
+use mathlib.Core.Path.{_≡_, _∙_, ap, ap₂}
+use native.Mathlib.Omega.{arith}
 use lib.IntN.{ℤ, pos}
-use lib.Signed.{nonNeg}
 use mir.Facts.{toZ-ofZ}
 use Rattle.int.proofs.Words.{back32}
-use Rattle.int.specs.Word.{neg32, abs32, minZ, maxZ}
-use Rattle.math.specs.Fixed.{padRound}
-use Rattle.round.proofs.Mirror.{unmirrored}
-use Rattle.round.specs.Round.{doubleGrid}
+use Rattle.math.specs.Fixed.{padFloor}
+use Rattle.round.specs.Round.{doubleGrid, inward, outward}
+use Rattle.round.specs.Tracked.{given, on, plus}
+use Rattle.round.proofs.Exact.{tracked}
 use Rattle.round.proofs.to_double_grid.Statement.{statement}
 use Rattle.round.proofs.to_double_grid.Tie as tie
 
-wrapping-abs-requires : tie.Need-wrapping-abs-requires
-wrapping-abs-requires c κs = search needs
+outward-requires : tie.Need-outward-requires
+outward-requires c κs = tt
 
-round-pad-requires : tie.Need-round-pad-requires
-round-pad-requires c κs = search needs
+given-requires : tie.Need-given-requires
+given-requires c κs = tt
 
-unmirror-requires : tie.Need-unmirror-requires
-unmirror-requires c κs = search needs
+plus-requires : tie.Need-plus-requires
+plus-requires c κs = tt
+
+floor-pad-requires : tie.Need-floor-pad-requires
+floor-pad-requires c κs = tt
+
+inward-requires : tie.Need-inward-requires
+inward-requires c κs = tt
 
 returns : tie.Need-returns
 unfolding doubleGrid
-returns c = let s = c .before .before .before in
-    let f : ℤ → ℤ = λ d. padRound d (pos 32) in
-    let e : c .unmirror .result ≡ cond (nonNeg (s .args .d)) (maxZ (f (abs32 (s .args .d))) (pos 0)) (minZ (neg32 (f (abs32 (s .args .d)))) (pos 0)) =
-    cc (toZ-ofZ (s .fits .d), back32 (c .before .before .wrapping-abs .result) (c .before .before .wrapping-abs .ok), back32 (c .before .round-pad .result) (c .before .round-pad .ok)) in
-    back32 (c .unmirror .result) (c .unmirror .ok) ∙ e ∙ unmirrored f (s .args .d) (s .fits .d)
+returns c = let f = c .before in let p = f .before .before in let g = p .before in let o = g .before in let d = toZ-ofZ (o .before .fits .d) in
+    let sum = p .plus .ensures ∙ ap₂ plus (o .outward .ensures ∙ ap outward d) (g .given .ensures) in
+    c .inward .ensures
+    ∙ ap₂ inward d
+    (ap (λ (z : ℤ). tracked z (p .plus .result .wrapped)) (back32 (f .floor-pad .result) (f .floor-pad .ok) ∙ f .floor-pad .ensures ∙ ap (λ (z : ℤ). padFloor z (pos 32)) (back32 (p .plus .result .word) (omega (arith, f .before .struct-told .given))))
+    ∙ ap (on (λ z. padFloor z (pos 32))) sum)
 
 pub to-double-grid-spec : {M : Type 1} → statement M
-to-double-grid-spec =
-    tie.close (tie.spec wrapping-abs-requires round-pad-requires unmirror-requires returns)
+to-double-grid-spec = tie.close (tie.spec outward-requires given-requires plus-requires floor-pad-requires inward-requires returns)

@@ -1,39 +1,30 @@
--- `round::to_half_grid` meets its contract: the mirrored rounding is computed at |d| (`unmirrored`). Assumes nothing.
-use mathlib.Core.Path.{_≡_, _∙_}
-use mathlib.Core.Bool.{cond}
-use borrow.Author.Needs.{needs}
-use lib.IntN.{ℤ, pos}
-use lib.Signed.{nonNeg}
+-- `round::to_half_grid` meets its contract: each step is what its call ensures. Assumes nothing.
+use mathlib.Core.Path.{_∙_, ap, ap₂}
 use mir.Facts.{toZ-ofZ}
-use Rattle.int.proofs.Words.{back32}
-use Rattle.int.specs.Word.{add32, neg32, abs32, minZ, maxZ}
-use Rattle.math.specs.Fixed.{pixFloor}
-use Rattle.round.proofs.Mirror.{unmirrored}
-use Rattle.round.specs.Round.{halfGrid}
+use Rattle.round.specs.Round.{downToGrid, halfGrid, inward, outward}
+use Rattle.round.specs.Tracked.{plus}
 use Rattle.round.proofs.to_half_grid.Statement.{statement}
 use Rattle.round.proofs.to_half_grid.Tie as tie
 
-wrapping-abs-requires : tie.Need-wrapping-abs-requires
-wrapping-abs-requires c κs = search needs
+outward-requires : tie.Need-outward-requires
+outward-requires c κs = tt
 
-floor-requires : tie.Need-floor-requires
-floor-requires c κs = search needs
+floored-requires : tie.Need-floored-requires
+floored-requires c κs = tt
 
-wrapping-add-requires : tie.Need-wrapping-add-requires
-wrapping-add-requires c κs = search needs
+given-requires : tie.Need-given-requires
+given-requires c κs = tt
 
-unmirror-requires : tie.Need-unmirror-requires
-unmirror-requires c κs = search needs
+plus-requires : tie.Need-plus-requires
+plus-requires c κs = tt
+
+inward-requires : tie.Need-inward-requires
+inward-requires c κs = tt
 
 returns : tie.Need-returns
-unfolding halfGrid
-returns c = let s = c .before .before .before .before in
-    let f : ℤ → ℤ = λ d. add32 (pixFloor d) (pos 32) in
-    let e : c .unmirror .result ≡ cond (nonNeg (s .args .d)) (maxZ (f (abs32 (s .args .d))) (pos 0)) (minZ (neg32 (f (abs32 (s .args .d)))) (pos 0)) =
-    cc (toZ-ofZ (s .fits .d), back32 (c .before .before .before .wrapping-abs .result) (c .before .before .before .wrapping-abs .ok), back32 (c .before .before .floor .result) (c .before .before .floor .ok), back32 (c .before .wrapping-add .result) (c .before .wrapping-add .ok)) in
-    back32 (c .unmirror .result) (c .unmirror .ok) ∙ e ∙ unmirrored f (s .args .d) (s .fits .d)
+unfolding halfGrid downToGrid
+returns c = let p = c .before in let g = p .before in let f = g .before in let o = f .before in let d = toZ-ofZ (o .before .fits .d) in
+    c .inward .ensures ∙ ap₂ inward d (p .plus .ensures ∙ ap₂ plus (f .floored .ensures ∙ ap downToGrid (o .outward .ensures ∙ ap outward d)) (g .given .ensures))
 
 pub to-half-grid-spec : {M : Type 1} → statement M
-to-half-grid-spec =
-    tie.close
-    (tie.spec wrapping-abs-requires floor-requires wrapping-add-requires unmirror-requires returns)
+to-half-grid-spec = tie.close (tie.spec outward-requires floored-requires given-requires plus-requires inward-requires returns)

@@ -1,34 +1,30 @@
--- `round::up_to_grid` meets its contract: the mirrored rounding is computed at |d| (`unmirrored`). Assumes nothing.
-use mathlib.Core.Path.{_≡_, _∙_}
-use mathlib.Core.Bool.{cond}
-use borrow.Author.Needs.{needs}
-use lib.IntN.{pos}
-use lib.Signed.{nonNeg}
+-- `round::up_to_grid` meets its contract: each step is what its call ensures. Assumes nothing.
+use mathlib.Core.Path.{_∙_, ap, ap₂}
 use mir.Facts.{toZ-ofZ}
-use Rattle.int.proofs.Words.{back32}
-use Rattle.int.specs.Word.{neg32, abs32, minZ, maxZ}
-use Rattle.math.specs.Fixed.{pixCeil}
-use Rattle.round.proofs.Mirror.{unmirrored}
-use Rattle.round.specs.Round.{upToGrid}
+use Rattle.round.specs.Round.{downToGrid, upToGrid, inward, outward}
+use Rattle.round.specs.Tracked.{plus}
 use Rattle.round.proofs.up_to_grid.Statement.{statement}
 use Rattle.round.proofs.up_to_grid.Tie as tie
 
-wrapping-abs-requires : tie.Need-wrapping-abs-requires
-wrapping-abs-requires c κs = search needs
+outward-requires : tie.Need-outward-requires
+outward-requires c κs = tt
 
-ceil-requires : tie.Need-ceil-requires
-ceil-requires c κs = search needs
+given-requires : tie.Need-given-requires
+given-requires c κs = tt
 
-unmirror-requires : tie.Need-unmirror-requires
-unmirror-requires c κs = search needs
+plus-requires : tie.Need-plus-requires
+plus-requires c κs = tt
+
+floored-requires : tie.Need-floored-requires
+floored-requires c κs = tt
+
+inward-requires : tie.Need-inward-requires
+inward-requires c κs = tt
 
 returns : tie.Need-returns
-unfolding upToGrid
-returns c = let s = c .before .before .before in
-    let e : c .unmirror .result ≡ cond (nonNeg (s .args .d)) (maxZ (pixCeil (abs32 (s .args .d))) (pos 0)) (minZ (neg32 (pixCeil (abs32 (s .args .d)))) (pos 0)) =
-    cc (toZ-ofZ (s .fits .d), back32 (c .before .before .wrapping-abs .result) (c .before .before .wrapping-abs .ok), back32 (c .before .ceil .result) (c .before .ceil .ok)) in
-    back32 (c .unmirror .result) (c .unmirror .ok) ∙ e ∙ unmirrored pixCeil (s .args .d) (s .fits .d)
+unfolding upToGrid downToGrid
+returns c = let f = c .before in let p = f .before in let g = p .before in let o = g .before in let d = toZ-ofZ (o .before .fits .d) in
+    c .inward .ensures ∙ ap₂ inward d (f .floored .ensures ∙ ap downToGrid (p .plus .ensures ∙ ap₂ plus (o .outward .ensures ∙ ap outward d) (g .given .ensures)))
 
 pub up-to-grid-spec : {M : Type 1} → statement M
-up-to-grid-spec =
-    tie.close (tie.spec wrapping-abs-requires ceil-requires unmirror-requires returns)
+up-to-grid-spec = tie.close (tie.spec outward-requires given-requires plus-requires floored-requires inward-requires returns)

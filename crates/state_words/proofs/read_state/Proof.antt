@@ -27,10 +27,15 @@ number-requires c κs = tt
 facts-of-requires : tie.Need-facts-of-requires
 facts-of-requires c κs = tt
 
+word-requires-2 : tie.Need-word-requires-2
+word-requires-2 c κs = tt
+
 returns : tie.Need-returns
 unfolding stateOf
 returns c =
-    same-state (c .before .before .before .before .before .before .vectors-of .ensures) (c .before .before .before .before .before .round-of .ensures) (c .before .before .before .before .references-of .ensures) (c .before .before .before .word .ensures) (c .before .before .pointers-of .ensures) (back32 (c .before .number .result) (c .before .number .ok) ∙ c .before .number .ensures) (c .facts-of .ensures)
+    let f = c .before in let n = f .before in let z = n .before in let l = z .before in let p = l .before in let r = p .before in
+    same-state (r .before .vectors-of .ensures) (r .round-of .ensures) (p .references-of .ensures) (l .word .ensures) (z .pointers-of .ensures)
+    (back32 (n .number .result) (n .number .ok) ∙ n .number .ensures) (f .facts-of .ensures) (c .word2 .ensures)
 
 pub read-state-spec : {M : Type 1} → statement M
 read-state-spec =
@@ -43,4 +48,5 @@ read-state-spec =
     pointers-of-requires
     number-requires
     facts-of-requires
+    word-requires-2
     returns)

@@ -4,7 +4,7 @@ use native.Mathlib.Omega.{arith}
 use Rattle.int.proofs.Words.{back32}
 use Rattle.int.specs.Word.{bitsOf}
 use Rattle.state_words.specs.Words.{stateWords}
-use Rattle.state_words.proofs.Places.{cut-in-at, facts-at, loop-at, outside, pointers-at, references-at, round-at, state-size, vectors-at}
+use Rattle.state_words.proofs.Places.{cut-in-at, facts-at, loop-at, outside, pointers-at, references-at, round-at, state-size, vectors-at, wrapped-at}
 use Rattle.state_words.proofs.word_of.Tie as tie
 use Rattle.state_words.proofs.word_of.Statement.{statement}
 
@@ -49,10 +49,14 @@ returns-6 : tie.Need-returns-6
 returns-6 c = let a = c .before .before .before .before .before .before .before .args in c .facts-word .ensures ∙ facts-at (a .s) (a .k) (c .before .before .if5 .left) (c .before .if6 .taken)
 
 returns-7 : tie.Need-returns-7
-returns-7 c = let a = started c .args in c .to-bits .ensures ∙ ap bitsOf (back32 (a .s .«cut_in») (omega arith)) ∙ cut-in-at (a .s) (a .k) (c .before .before .before .if6 .left) (c .before .before .if7 .taken)
+returns-7 c = let a = started c .args in let e = c .before .before in
+    c .to-bits .ensures ∙ ap bitsOf (back32 (a .s .measures .«cut_in») (omega (arith, c .before .struct-told .given))) ∙ cut-in-at (a .s) (a .k) (e .before .if6 .left) (e .if7 .taken)
 
 returns-8 : tie.Need-returns-8
-returns-8 c = let a = c .before .before .before .before .before .before .before .args in outside (stateWords (a .s)) (a .k) (omega (arith, state-size (a .s), c .if7 .left))
+returns-8 c = let a = c .before .before .before .before .before .before .before .before .args in wrapped-at (a .s) (a .k) (c .before .if7 .left) (c .if8 .taken)
+
+returns-9 : tie.Need-returns-9
+returns-9 c = let a = c .before .before .before .before .before .before .before .before .args in outside (stateWords (a .s)) (a .k) (omega (arith, state-size (a .s), c .if8 .left))
 
 pub word-of-spec : {M : Type 1} → statement M
 word-of-spec =
@@ -71,4 +75,5 @@ word-of-spec =
     returns-5
     returns-6
     returns-7
-    returns-8)
+    returns-8
+    returns-9)
