@@ -107,7 +107,7 @@ enum taleviqa_number {
  * glyph: unscaled, original and current x and y and the flags, all of one length; contours: the number of each contour's last point.
  * twilight: original and current x and y and the flags, all of one length.
  * A flag byte has bit 0 on curve, bit 1 touched in x, bit 2 touched in y; other bits are kept.
- * At most 16,384 points in a zone, 4,096 contours, 16,384 control values and 65,536 words of sheet. */
+ * At most 65,535 points in a zone, 65,535 contours, 16,384 control values and 262,144 words of sheet. */
 uint32_t taleviqa_run(
     size_t start,
     uint64_t budget,

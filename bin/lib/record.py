@@ -11,7 +11,6 @@ TRAILER_WORDS = 8
 MOST_BYTES = 24 * 1024
 # one byte more than a record may have, so that a longer one is seen to be too long
 READ_BYTES = MOST_BYTES + 1
-MOST_CONTOURS = 4096  # the other counts can't pass their limits within 24 KiB
 # glyph unscaled, original and current x and y, flags, contours; twilight original and current x and y, flags; control values; sheet
 LISTS = ["ux", "uy", "ox", "oy", "x", "y", "flag", "contours", "tox", "toy", "tx", "ty", "tflag", "controls", "sheet"]
 UNSIGNED = ("flag", "contours", "tflag")
@@ -95,8 +94,6 @@ def from_bytes(data):
     if edition not in STATE_WORDS:
         raise Refused(16, f"edition {edition}, and 1 and 2 are known")
     at = STATE_WORDS[edition]
-    if contours > MOST_CONTOURS:
-        raise Refused(16, f"{contours} contours, and at most {MOST_CONTOURS} may be")
     if at + sum(sizes) + TRAILER_WORDS != len(words) or back != 4 * (len(words) - TRAILER_WORDS):
         raise Refused(16, "the trailer's counts or way back are not those of the record")
     if words[6] > 7 or max(words[17:25]) > 1:

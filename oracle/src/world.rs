@@ -41,10 +41,10 @@ pub const LIST_NAMES: [&str; LIST_COUNT] = [
     "sheet",
 ];
 
-pub const MOST_POINTS: usize = 16_384;
-pub const MOST_CONTOURS: usize = 4_096;
+pub const MOST_POINTS: usize = 65_535;
+pub const MOST_CONTOURS: usize = 65_535;
 pub const MOST_CONTROL_VALUES: usize = 16_384;
-pub const MOST_SHEET_WORDS: usize = 65_536;
+pub const MOST_SHEET_WORDS: usize = 262_144;
 
 /// The three bits of a flag byte that the Rust knows; the rest never changes.
 const KNOWN_FLAGS: u32 = 7;

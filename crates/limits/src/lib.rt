@@ -1,4 +1,4 @@
-// How large a glyph, its zones, its control values and a sheet may be: document 01, "Sizes". Above these, every entry answers 2.
+// How large a glyph, its zones, its control values and a sheet may be: document 01, "Sizes", and document 02, K6. Above these, every entry answers 2.
 //
 // Each size stands here once, as a constant and as a definition of specs/Limits.antt, and a change of it moves these two lines.
 ghost use mathlib.Core.Path.{_≡_};
@@ -6,13 +6,13 @@ ghost use lib.Dec.{leb};
 ghost use Rattle.limits.specs.Limits.{mostPoints, mostContours, mostControlValues, mostWords};
 
 // Points of either zone.
-pub const POINTS: usize = 16384;
+pub const POINTS: usize = 65535;
 
-pub const CONTOURS: usize = 4096;
+pub const CONTOURS: usize = 65535;
 
 pub const CONTROL_VALUES: usize = 16384;
 // Words of a sheet.
-pub const WORDS: usize = 65536;
+pub const WORDS: usize = 262144;
 
 pub fn points_fit(n: usize) -> bool
     ensures { λ r. ⌜ r ≡ leb n mostPoints ⌝ }

@@ -8,7 +8,6 @@ use graphics::GraphicsState;
 use int::from_bits;
 use state_words::read_state;
 use words::word_at;
-ghost use mathlib.Core.Path.{_≡_};
 ghost use Prim.Native.Nat.{_≤_};
 ghost use lib.ListN.{length};
 
@@ -134,7 +133,7 @@ pub fn element(case: &[u8], p: Place, j: u64) -> u32 {
     }
 }
 
-pub fn fill_words(case: &[u8], p: Place, out: &mut [i32]) {
+fn fill_words(case: &[u8], p: Place, out: &mut [i32]) {
     let mut j = 0;
     while j < out.len() {
         out[j] = from_bits(element(case, p, j as u64));
@@ -146,7 +145,7 @@ fn low_byte(x: u32) -> u8 {
     (x % 256) as u8
 }
 
-pub fn fill_flags(case: &[u8], p: Place, out: &mut [u8]) {
+fn fill_flags(case: &[u8], p: Place, out: &mut [u8]) {
     let mut j = 0;
     while j < out.len() {
         out[j] = low_byte(element(case, p, j as u64));
@@ -158,7 +157,7 @@ fn low_half(x: u32) -> u16 {
     (x % 65536) as u16
 }
 
-pub fn fill_ends(case: &[u8], p: Place, out: &mut [u16]) {
+fn fill_ends(case: &[u8], p: Place, out: &mut [u16]) {
     let mut j = 0;
     while j < out.len() {
         out[j] = low_half(element(case, p, j as u64));
@@ -167,57 +166,35 @@ pub fn fill_ends(case: &[u8], p: Place, out: &mut [u16]) {
 }
 
 // A list's length, at most the room for it.
-pub fn length_of(case: &[u8], list: u64, room: usize) -> usize
+fn length_of(case: &[u8], list: u64, room: usize) -> usize
     ensures { λ r. ⌜ r ≤ room ⌝ }
 {
     let n = list_length(case, list) as usize;
     if n < room { n } else { room }
 }
 
-fn load_words(case: &[u8], list: u64, out: &mut [i32]) {
-    let n = length_of(case, list, out.len());
-    fill_words(case, place_of(case, list), &mut out[..n]);
-}
-
-fn load_flags(case: &[u8], list: u64, out: &mut [u8]) {
-    let n = length_of(case, list, out.len());
-    fill_flags(case, place_of(case, list), &mut out[..n]);
-}
-
-fn load_ends(case: &[u8], list: u64, out: &mut [u16]) {
-    let n = length_of(case, list, out.len());
-    fill_ends(case, place_of(case, list), &mut out[..n]);
-}
-
-// A list, then zeros. A list that is cut to the room is above its limit still.
-pub fn words_of(case: &[u8], list: u64) -> [i32; 16385]
-    ensures { λ r. ⌜ 16385 ≡ length r ⌝ }
+// A list is loaded to the front of the room that is lent for it, and its length handed back. Where the room is longer than the list may be, a list
+// that is cut to it is above its limit still.
+pub fn load_words(case: &[u8], list: u64, room: &mut [i32]) -> usize
+    ensures { λ r. ⌜ r ≤ length (now (room .exit)) ⌝ }
 {
-    let mut out = [0i32; 16385];
-    load_words(case, list, &mut out);
-    out
+    let n = length_of(case, list, room.len());
+    fill_words(case, place_of(case, list), &mut room[..n]);
+    n
 }
 
-pub fn flags_of(case: &[u8], list: u64) -> [u8; 16385]
-    ensures { λ r. ⌜ 16385 ≡ length r ⌝ }
+pub fn load_flags(case: &[u8], list: u64, room: &mut [u8]) -> usize
+    ensures { λ r. ⌜ r ≤ length (now (room .exit)) ⌝ }
 {
-    let mut out = [0u8; 16385];
-    load_flags(case, list, &mut out);
-    out
+    let n = length_of(case, list, room.len());
+    fill_flags(case, place_of(case, list), &mut room[..n]);
+    n
 }
 
-pub fn ends_of(case: &[u8], list: u64) -> [u16; 4097]
-    ensures { λ r. ⌜ 4097 ≡ length r ⌝ }
+pub fn load_ends(case: &[u8], list: u64, room: &mut [u16]) -> usize
+    ensures { λ r. ⌜ r ≤ length (now (room .exit)) ⌝ }
 {
-    let mut out = [0u16; 4097];
-    load_ends(case, list, &mut out);
-    out
-}
-
-pub fn sheet_of(case: &[u8], list: u64) -> [i32; 65537]
-    ensures { λ r. ⌜ 65537 ≡ length r ⌝ }
-{
-    let mut out = [0i32; 65537];
-    load_words(case, list, &mut out);
-    out
+    let n = length_of(case, list, room.len());
+    fill_ends(case, place_of(case, list), &mut room[..n]);
+    n
 }

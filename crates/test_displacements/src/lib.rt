@@ -1,11 +1,10 @@
 // The oracle's calls of point_displacement: each made on a case's lists, and judged by the case (docs/ORACLE.md).
 //
-// Word 7 of a case is the opcode. Nothing is promised here but that every function is safe and ends.
+// Word 7 of a case is the opcode. Room for the lists is lent. Nothing is promised here but that every function is safe and ends.
 use moves::Displaced;
-use test_cases::length_of;
+use test_cases::load_words;
 use test_cases::state_of;
 use test_cases::word;
-use test_cases::words_of;
 use test_compare::Compared;
 use test_compare::Said;
 
@@ -24,39 +23,36 @@ fn displaced_from(
     direct_moves::try_point_displacement(state_of(case), opcode, gox, goy, gx, gy, tox, toy, tx, ty)
 }
 
-// With the glyph's lists, the twilight zone's are read.
-fn displaced_with(case: &[u8], gox: &[i32], goy: &[i32], gx: &[i32], gy: &[i32]) -> Displaced {
-    let tox = words_of(case, 8);
-    let toy = words_of(case, 9);
-    let tx = words_of(case, 10);
-    let ty = words_of(case, 11);
-    let n8 = length_of(case, 8, 16385);
-    let n9 = length_of(case, 9, 16385);
-    let n10 = length_of(case, 10, 16385);
-    let n11 = length_of(case, 11, 16385);
+fn displaced(
+    case: &[u8],
+    gox: &mut [i32],
+    goy: &mut [i32],
+    gx: &mut [i32],
+    gy: &mut [i32],
+    tox: &mut [i32],
+    toy: &mut [i32],
+    tx: &mut [i32],
+    ty: &mut [i32],
+) -> Displaced {
+    let n2 = load_words(case, 2, gox);
+    let n3 = load_words(case, 3, goy);
+    let n4 = load_words(case, 4, gx);
+    let n5 = load_words(case, 5, gy);
+    let n8 = load_words(case, 8, tox);
+    let n9 = load_words(case, 9, toy);
+    let n10 = load_words(case, 10, tx);
+    let n11 = load_words(case, 11, ty);
     displaced_from(
         case,
-        gox,
-        goy,
-        gx,
-        gy,
+        &gox[..n2],
+        &goy[..n3],
+        &gx[..n4],
+        &gy[..n5],
         &tox[..n8],
         &toy[..n9],
         &tx[..n10],
         &ty[..n11],
     )
-}
-
-fn displaced(case: &[u8]) -> Displaced {
-    let gox = words_of(case, 2);
-    let goy = words_of(case, 3);
-    let gx = words_of(case, 4);
-    let gy = words_of(case, 5);
-    let n2 = length_of(case, 2, 16385);
-    let n3 = length_of(case, 3, 16385);
-    let n4 = length_of(case, 4, 16385);
-    let n5 = length_of(case, 5, 16385);
-    displaced_with(case, &gox[..n2], &goy[..n3], &gx[..n4], &gy[..n5])
 }
 
 fn of_displaced(displaced: Displaced) -> Said {
@@ -66,6 +62,17 @@ fn of_displaced(displaced: Displaced) -> Said {
     }
 }
 
-pub fn agrees(case: &[u8]) -> bool {
-    of_displaced(displaced(case)).agrees(Compared::nothing(), case)
+pub fn agrees(
+    case: &[u8],
+    gox: &mut [i32],
+    goy: &mut [i32],
+    gx: &mut [i32],
+    gy: &mut [i32],
+    tox: &mut [i32],
+    toy: &mut [i32],
+    tx: &mut [i32],
+    ty: &mut [i32],
+) -> bool {
+    let d = displaced(case, gox, goy, gx, gy, tox, toy, tx, ty);
+    of_displaced(d).agrees(Compared::nothing(), case)
 }

@@ -1,64 +1,101 @@
 // The oracle's runs: each a sheet run on a case's lists, and judged by the case (docs/ORACLE.md).
 //
-// The lists are read five at a time, the last by the crate test_one_run, which makes the run. Nothing is promised here but that every function is safe
-// and ends.
-use test_cases::ends_of;
-use test_cases::flags_of;
-use test_cases::length_of;
-use test_cases::sheet_of;
-use test_cases::words_of;
-use test_one_run::agrees_in_glyph;
+// Room for the lists is lent and filled here, and the crate test_one_run makes the run. Nothing is promised here but that every function is safe and
+// ends.
+use test_cases::load_ends;
+use test_cases::load_flags;
+use test_cases::load_words;
+use test_one_run::agrees_on;
 
-fn agrees_from(
+// What a run changes is loaded.
+fn agrees_given(
     case: &[u8],
+    sheet: &[i32],
+    controls: &[i32],
     gux: &[i32],
     guy: &[i32],
+    gox: &[i32],
+    goy: &[i32],
     contours: &[u16],
-    controls: &[i32],
-    sheet: &[i32],
+    gx: &mut [i32],
+    gy: &mut [i32],
+    gflags: &mut [u8],
+    tox: &mut [i32],
+    toy: &mut [i32],
+    tx: &mut [i32],
+    ty: &mut [i32],
+    tflags: &mut [u8],
 ) -> bool {
-    let gox = words_of(case, 2);
-    let goy = words_of(case, 3);
-    let mut gx = words_of(case, 4);
-    let mut gy = words_of(case, 5);
-    let mut flags = flags_of(case, 6);
-    let n2 = length_of(case, 2, 16385);
-    let n3 = length_of(case, 3, 16385);
-    let n4 = length_of(case, 4, 16385);
-    let n5 = length_of(case, 5, 16385);
-    let n6 = length_of(case, 6, 16385);
-    agrees_in_glyph(
+    let n4 = load_words(case, 4, gx);
+    let n5 = load_words(case, 5, gy);
+    let n6 = load_flags(case, 6, gflags);
+    let n8 = load_words(case, 8, tox);
+    let n9 = load_words(case, 9, toy);
+    let n10 = load_words(case, 10, tx);
+    let n11 = load_words(case, 11, ty);
+    let n12 = load_flags(case, 12, tflags);
+    agrees_on(
         case,
+        sheet,
+        controls,
         gux,
         guy,
+        gox,
+        goy,
         contours,
-        controls,
-        sheet,
-        &gox[..n2],
-        &goy[..n3],
         &mut gx[..n4],
         &mut gy[..n5],
-        &mut flags[..n6],
+        &mut gflags[..n6],
+        &mut tox[..n8],
+        &mut toy[..n9],
+        &mut tx[..n10],
+        &mut ty[..n11],
+        &mut tflags[..n12],
     )
 }
 
-pub fn agrees(case: &[u8]) -> bool {
-    let gux = words_of(case, 0);
-    let guy = words_of(case, 1);
-    let contours = ends_of(case, 7);
-    let controls = words_of(case, 13);
-    let sheet = sheet_of(case, 14);
-    let n0 = length_of(case, 0, 16385);
-    let n1 = length_of(case, 1, 16385);
-    let n7 = length_of(case, 7, 4097);
-    let n13 = length_of(case, 13, 16385);
-    let n14 = length_of(case, 14, 65537);
-    agrees_from(
+// What a run only reads is loaded.
+pub fn agrees(
+    case: &[u8],
+    sheet: &mut [i32],
+    controls: &mut [i32],
+    gux: &mut [i32],
+    guy: &mut [i32],
+    gox: &mut [i32],
+    goy: &mut [i32],
+    gx: &mut [i32],
+    gy: &mut [i32],
+    gflags: &mut [u8],
+    contours: &mut [u16],
+    tox: &mut [i32],
+    toy: &mut [i32],
+    tx: &mut [i32],
+    ty: &mut [i32],
+    tflags: &mut [u8],
+) -> bool {
+    let n14 = load_words(case, 14, sheet);
+    let n13 = load_words(case, 13, controls);
+    let n0 = load_words(case, 0, gux);
+    let n1 = load_words(case, 1, guy);
+    let n2 = load_words(case, 2, gox);
+    let n3 = load_words(case, 3, goy);
+    let n7 = load_ends(case, 7, contours);
+    agrees_given(
         case,
+        &sheet[..n14],
+        &controls[..n13],
         &gux[..n0],
         &guy[..n1],
+        &gox[..n2],
+        &goy[..n3],
         &contours[..n7],
-        &controls[..n13],
-        &sheet[..n14],
+        gx,
+        gy,
+        gflags,
+        tox,
+        toy,
+        tx,
+        ty,
+        tflags,
     )
 }

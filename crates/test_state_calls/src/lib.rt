@@ -2,18 +2,17 @@
 // lists, and judged by the case (docs/ORACLE.md).
 //
 // Word 2 of a case says which zone, words 3 and 4 which point, word 7 a choice, words 8 and 9 distances. A call is given the lists that it
-// works on as the case has them, of whatever lengths: it tests their sizes itself, and nothing is answered here in its place. Nothing is
-// promised here but that every function is safe and ends.
+// works on as the case has them, of whatever lengths: it tests their sizes itself, and nothing is answered here in its place. Room for the
+// lists is lent. Nothing is promised here but that every function is safe and ends.
 use answer::Call;
 use state_words::zone_of;
 use test_cases::KIND;
-use test_cases::flags_of;
-use test_cases::length_of;
+use test_cases::load_flags;
+use test_cases::load_words;
 use test_cases::long;
 use test_cases::number;
 use test_cases::state_of;
 use test_cases::word;
-use test_cases::words_of;
 use test_compare::Said;
 use test_compare::compare_pair;
 use test_compare::compare_placed;
@@ -36,15 +35,17 @@ fn original_agrees_over(
     Said::of_call(call).agrees(glyph.and(twilight), case)
 }
 
-fn original_agrees(case: &[u8]) -> bool {
-    let mut gox = words_of(case, 2);
-    let mut goy = words_of(case, 3);
-    let mut tox = words_of(case, 8);
-    let mut toy = words_of(case, 9);
-    let n2 = length_of(case, 2, 16385);
-    let n3 = length_of(case, 3, 16385);
-    let n8 = length_of(case, 8, 16385);
-    let n9 = length_of(case, 9, 16385);
+fn original_agrees(
+    case: &[u8],
+    gox: &mut [i32],
+    goy: &mut [i32],
+    tox: &mut [i32],
+    toy: &mut [i32],
+) -> bool {
+    let n2 = load_words(case, 2, gox);
+    let n3 = load_words(case, 3, goy);
+    let n8 = load_words(case, 8, tox);
+    let n9 = load_words(case, 9, toy);
     original_agrees_over(
         case,
         &mut gox[..n2],
@@ -92,19 +93,21 @@ fn move_agrees_over(
     Said::of_call(call).agrees(glyph.and(twilight), case)
 }
 
-fn move_agrees(case: &[u8]) -> bool {
-    let mut gx = words_of(case, 4);
-    let mut gy = words_of(case, 5);
-    let mut flags = flags_of(case, 6);
-    let mut tx = words_of(case, 10);
-    let mut ty = words_of(case, 11);
-    let mut tflags = flags_of(case, 12);
-    let n4 = length_of(case, 4, 16385);
-    let n5 = length_of(case, 5, 16385);
-    let n6 = length_of(case, 6, 16385);
-    let n10 = length_of(case, 10, 16385);
-    let n11 = length_of(case, 11, 16385);
-    let n12 = length_of(case, 12, 16385);
+fn move_agrees(
+    case: &[u8],
+    gx: &mut [i32],
+    gy: &mut [i32],
+    flags: &mut [u8],
+    tx: &mut [i32],
+    ty: &mut [i32],
+    tflags: &mut [u8],
+) -> bool {
+    let n4 = load_words(case, 4, gx);
+    let n5 = load_words(case, 5, gy);
+    let n6 = load_flags(case, 6, flags);
+    let n10 = load_words(case, 10, tx);
+    let n11 = load_words(case, 11, ty);
+    let n12 = load_flags(case, 12, tflags);
     move_agrees_over(
         case,
         &mut gx[..n4],
@@ -117,10 +120,22 @@ fn move_agrees(case: &[u8]) -> bool {
 }
 
 // ---- every call
-pub fn agrees(case: &[u8]) -> bool {
+pub fn agrees(
+    case: &[u8],
+    gox: &mut [i32],
+    goy: &mut [i32],
+    gx: &mut [i32],
+    gy: &mut [i32],
+    flags: &mut [u8],
+    tox: &mut [i32],
+    toy: &mut [i32],
+    tx: &mut [i32],
+    ty: &mut [i32],
+    tflags: &mut [u8],
+) -> bool {
     match word(case, KIND) {
-        10 => original_agrees(case),
-        11 | 12 => move_agrees(case),
-        _ => test_displacements::agrees(case),
+        10 => original_agrees(case, gox, goy, tox, toy),
+        11 | 12 => move_agrees(case, gx, gy, flags, tx, ty, tflags),
+        _ => test_displacements::agrees(case, gox, goy, gx, gy, tox, toy, tx, ty),
     }
 }

@@ -1,18 +1,17 @@
 // The oracle's calls over one zone, point to iup: each made on a case's lists, and judged by the case (docs/ORACLE.md).
 //
 // Word 2 of a case says which zone, words 3 and 4 which point, words 5 and 6 the end of a range, word 7 a choice. A call is given the lists
-// that it works on as the case has them, of whatever lengths: it tests their sizes itself, and nothing is answered here in its place. Nothing
-// is promised here but that every function is safe and ends.
+// that it works on as the case has them, of whatever lengths: it tests their sizes itself, and nothing is answered here in its place. Room for
+// the lists is lent. Nothing is promised here but that every function is safe and ends.
 use flags::Axis;
 use flags::CoordAxis;
 use test_cases::KIND;
 use test_cases::after;
-use test_cases::ends_of;
-use test_cases::flags_of;
-use test_cases::length_of;
+use test_cases::load_ends;
+use test_cases::load_flags;
+use test_cases::load_words;
 use test_cases::long;
 use test_cases::word;
-use test_cases::words_of;
 use test_compare::Compared;
 use test_compare::Said;
 use test_compare::compare_flags;
@@ -27,30 +26,22 @@ fn in_twilight(case: &[u8]) -> bool {
 
 // ---- a point's place
 // The place by two lists that stand side by side.
-fn fetched(case: &[u8], first: u64) -> Fetched {
-    let xs = words_of(case, first);
-    let ys = words_of(case, after(first, 1));
-    let n = length_of(case, first, 16385);
-    let m = length_of(case, after(first, 1), 16385);
+fn fetched(case: &[u8], first: u64, xs: &mut [i32], ys: &mut [i32]) -> Fetched {
+    let n = load_words(case, first, xs);
+    let m = load_words(case, after(first, 1), ys);
     direct_zone::try_fetch(&xs[..n], &ys[..m], long(case, 3))
 }
 
 // The twilight zone has no places in font units.
-fn unscaled_length(case: &[u8], list: u64) -> usize
-    ensures { λ r. ⌜ r ≤ 16385 ⌝ }
+fn unscaled_length(case: &[u8], n: usize) -> usize
+    ensures { λ r. ⌜ r ≤ n ⌝ }
 {
-    if in_twilight(case) {
-        0
-    } else {
-        length_of(case, list, 16385)
-    }
+    if in_twilight(case) { 0 } else { n }
 }
 
-fn unscaled(case: &[u8]) -> Fetched {
-    let xs = words_of(case, 0);
-    let ys = words_of(case, 1);
-    let n = unscaled_length(case, 0);
-    let m = unscaled_length(case, 1);
+fn unscaled(case: &[u8], xs: &mut [i32], ys: &mut [i32]) -> Fetched {
+    let n = unscaled_length(case, load_words(case, 0, xs));
+    let m = unscaled_length(case, load_words(case, 1, ys));
     direct_zone::try_unscaled(&xs[..n], &ys[..m], long(case, 3))
 }
 
@@ -66,13 +57,16 @@ fn of_fetched(fetched: Fetched) -> Said {
     }
 }
 
-fn place_agrees(case: &[u8]) -> bool {
-    let place = match word(case, KIND) {
-        1 => fetched(case, list_of(case, 10, 4)),
-        2 => fetched(case, list_of(case, 8, 2)),
-        _ => unscaled(case),
-    };
+fn is_said(case: &[u8], place: Fetched) -> bool {
     of_fetched(place).agrees(Compared::nothing(), case)
+}
+
+fn place_agrees(case: &[u8], xs: &mut [i32], ys: &mut [i32]) -> bool {
+    match word(case, KIND) {
+        1 => is_said(case, fetched(case, list_of(case, 10, 4), xs, ys)),
+        2 => is_said(case, fetched(case, list_of(case, 8, 2), xs, ys)),
+        _ => is_said(case, unscaled(case, xs, ys)),
+    }
 }
 
 // ---- flags
@@ -109,10 +103,9 @@ fn flags_agree_over(case: &[u8], list: u64, flags: &mut [u8]) -> bool {
     said.agrees(compare_flags(case, list, flags), case)
 }
 
-fn flags_agree(case: &[u8]) -> bool {
+fn flags_agree(case: &[u8], flags: &mut [u8]) -> bool {
     let list = list_of(case, 12, 6);
-    let mut flags = flags_of(case, list);
-    let n = length_of(case, list, 16385);
+    let n = load_flags(case, list, flags);
     flags_agree_over(case, list, &mut flags[..n])
 }
 
@@ -132,17 +125,21 @@ fn iup_agrees_over(
 }
 
 // Along x or y, by the list of the unscaled coordinates.
-fn iup_agrees_along(case: &[u8], first: u64, axis: Axis) -> bool {
-    let unscaled = words_of(case, first);
-    let original = words_of(case, after(first, 2));
-    let mut current = words_of(case, after(first, 4));
-    let flags = flags_of(case, 6);
-    let contours = ends_of(case, 7);
-    let n = length_of(case, first, 16385);
-    let m = length_of(case, after(first, 2), 16385);
-    let k = length_of(case, after(first, 4), 16385);
-    let f = length_of(case, 6, 16385);
-    let e = length_of(case, 7, 4097);
+fn iup_agrees_along(
+    case: &[u8],
+    first: u64,
+    axis: Axis,
+    unscaled: &mut [i32],
+    original: &mut [i32],
+    current: &mut [i32],
+    flags: &mut [u8],
+    contours: &mut [u16],
+) -> bool {
+    let n = load_words(case, first, unscaled);
+    let m = load_words(case, after(first, 2), original);
+    let k = load_words(case, after(first, 4), current);
+    let f = load_flags(case, 6, flags);
+    let e = load_ends(case, 7, contours);
     iup_agrees_over(
         case,
         after(first, 4),
@@ -155,19 +152,51 @@ fn iup_agrees_along(case: &[u8], first: u64, axis: Axis) -> bool {
     )
 }
 
-fn iup_agrees(case: &[u8]) -> bool {
+fn iup_agrees(
+    case: &[u8],
+    unscaled: &mut [i32],
+    original: &mut [i32],
+    current: &mut [i32],
+    flags: &mut [u8],
+    contours: &mut [u16],
+) -> bool {
     if word(case, 7) == 1 {
-        iup_agrees_along(case, 0, Axis::X)
+        iup_agrees_along(
+            case,
+            0,
+            Axis::X,
+            unscaled,
+            original,
+            current,
+            flags,
+            contours,
+        )
     } else {
-        iup_agrees_along(case, 1, Axis::Y)
+        iup_agrees_along(
+            case,
+            1,
+            Axis::Y,
+            unscaled,
+            original,
+            current,
+            flags,
+            contours,
+        )
     }
 }
 
 // ---- every call
-pub fn agrees(case: &[u8]) -> bool {
+pub fn agrees(
+    case: &[u8],
+    unscaled: &mut [i32],
+    original: &mut [i32],
+    current: &mut [i32],
+    flags: &mut [u8],
+    contours: &mut [u16],
+) -> bool {
     match word(case, KIND) {
-        1..=3 => place_agrees(case),
-        4..=8 => flags_agree(case),
-        _ => iup_agrees(case),
+        1..=3 => place_agrees(case, original, current),
+        4..=8 => flags_agree(case, flags),
+        _ => iup_agrees(case, unscaled, original, current, flags, contours),
     }
 }

@@ -1,4 +1,4 @@
--- `test_displacements::displaced` is safe: each list is the part of its array that its length says. Assumes nothing.
+-- `test_displacements::displaced` is safe: each list is the part of its room that its length says. Assumes nothing.
 use mathlib.Core.Path.{sym}
 use native.Mathlib.Omega.{arith}
 use lib.Seq.{length-take-le}
@@ -6,56 +6,108 @@ use borrow.Author.Needs.{needs}
 use Rattle.test_displacements.proofs.displaced.Statement.{statement}
 use Rattle.test_displacements.proofs.displaced.Tie as tie
 
-words-of-requires : tie.Need-words-of-requires
-words-of-requires c κs = search needs
+-- the first of the lists, when two are loaded
+abbrev first : tie.After-load-words2 → tie.After-load-words
+first l = l .before .before .before
 
-words-of-requires-2 : tie.Need-words-of-requires-2
-words-of-requires-2 c κs = search needs
+load-words-requires : tie.Need-load-words-requires
+load-words-requires c κs = search needs
 
-words-of-requires-3 : tie.Need-words-of-requires-3
-words-of-requires-3 c κs = search needs
+load-words-requires-2 : tie.Need-load-words-requires-2
+load-words-requires-2 c κs = search needs
 
-words-of-requires-4 : tie.Need-words-of-requires-4
-words-of-requires-4 c κs = search needs
+load-words-requires-3 : tie.Need-load-words-requires-3
+load-words-requires-3 c κs = search needs
 
-length-of-requires : tie.Need-length-of-requires
-length-of-requires c κs = search needs
+load-words-requires-4 : tie.Need-load-words-requires-4
+load-words-requires-4 c κs = search needs
 
-length-of-requires-2 : tie.Need-length-of-requires-2
-length-of-requires-2 c κs = search needs
+load-words-requires-5 : tie.Need-load-words-requires-5
+load-words-requires-5 c κs = search needs
 
-length-of-requires-3 : tie.Need-length-of-requires-3
-length-of-requires-3 c κs = search needs
+load-words-requires-6 : tie.Need-load-words-requires-6
+load-words-requires-6 c κs = search needs
 
-length-of-requires-4 : tie.Need-length-of-requires-4
-length-of-requires-4 c κs = search needs
+load-words-requires-7 : tie.Need-load-words-requires-7
+load-words-requires-7 c κs = search needs
 
-array-share-prefix-gox : tie.Need-array-share-prefix-gox
-array-share-prefix-gox c = search needs
+load-words-requires-8 : tie.Need-load-words-requires-8
+load-words-requires-8 c κs = search needs
 
-slice-aggregate-displaced-with : tie.Need-slice-aggregate-displaced-with
-slice-aggregate-displaced-with c = sym (length-take-le _ _ (omega arith))
+slice-reshare-prefix-displaced-from : tie.Need-slice-reshare-prefix-displaced-from
+slice-reshare-prefix-displaced-from c = search needs
 
-array-share-prefix-goy : tie.Need-array-share-prefix-goy
-array-share-prefix-goy c = search needs
+slice-aggregate-displaced-from : tie.Need-slice-aggregate-displaced-from
+slice-aggregate-displaced-from c = sym (length-take-le _ _ (omega arith))
 
-slice-aggregate-displaced-with-2 : tie.Need-slice-aggregate-displaced-with-2
-slice-aggregate-displaced-with-2 c = sym (length-take-le _ _ (omega arith))
+slice-reshare-prefix-displaced-from-2 : tie.Need-slice-reshare-prefix-displaced-from-2
+slice-reshare-prefix-displaced-from-2 c = search needs
 
-array-share-prefix-gx : tie.Need-array-share-prefix-gx
-array-share-prefix-gx c = search needs
+slice-aggregate-displaced-from-2 : tie.Need-slice-aggregate-displaced-from-2
+slice-aggregate-displaced-from-2 c = sym (length-take-le _ _ (omega arith))
 
-slice-aggregate-displaced-with-3 : tie.Need-slice-aggregate-displaced-with-3
-slice-aggregate-displaced-with-3 c = sym (length-take-le _ _ (omega arith))
+slice-reshare-prefix-displaced-from-3 : tie.Need-slice-reshare-prefix-displaced-from-3
+slice-reshare-prefix-displaced-from-3 c = search needs
 
-array-share-prefix-gy : tie.Need-array-share-prefix-gy
-array-share-prefix-gy c = search needs
+slice-aggregate-displaced-from-3 : tie.Need-slice-aggregate-displaced-from-3
+slice-aggregate-displaced-from-3 c = sym (length-take-le _ _ (omega arith))
 
-slice-aggregate-displaced-with-4 : tie.Need-slice-aggregate-displaced-with-4
-slice-aggregate-displaced-with-4 c = sym (length-take-le _ _ (omega arith))
+slice-reshare-prefix-displaced-from-4 : tie.Need-slice-reshare-prefix-displaced-from-4
+slice-reshare-prefix-displaced-from-4 c = search needs
 
-displaced-with-requires : tie.Need-displaced-with-requires
-displaced-with-requires c κs = search needs
+slice-aggregate-displaced-from-4 : tie.Need-slice-aggregate-displaced-from-4
+slice-aggregate-displaced-from-4 c = sym (length-take-le _ _ (omega arith))
+
+slice-reshare-prefix-displaced-from-5 : tie.Need-slice-reshare-prefix-displaced-from-5
+slice-reshare-prefix-displaced-from-5 c = search needs
+
+slice-aggregate-displaced-from-5 : tie.Need-slice-aggregate-displaced-from-5
+slice-aggregate-displaced-from-5 c = sym (length-take-le _ _ (omega arith))
+
+slice-reshare-prefix-displaced-from-6 : tie.Need-slice-reshare-prefix-displaced-from-6
+slice-reshare-prefix-displaced-from-6 c = search needs
+
+slice-aggregate-displaced-from-6 : tie.Need-slice-aggregate-displaced-from-6
+slice-aggregate-displaced-from-6 c = sym (length-take-le _ _ (omega arith))
+
+slice-reshare-prefix-displaced-from-7 : tie.Need-slice-reshare-prefix-displaced-from-7
+slice-reshare-prefix-displaced-from-7 c = search needs
+
+slice-aggregate-displaced-from-7 : tie.Need-slice-aggregate-displaced-from-7
+slice-aggregate-displaced-from-7 c = sym (length-take-le _ _ (omega arith))
+
+slice-reshare-prefix-displaced-from-8 : tie.Need-slice-reshare-prefix-displaced-from-8
+slice-reshare-prefix-displaced-from-8 c = search needs
+
+slice-aggregate-displaced-from-8 : tie.Need-slice-aggregate-displaced-from-8
+slice-aggregate-displaced-from-8 c = sym (length-take-le _ _ (omega arith))
+
+displaced-from-requires : tie.Need-displaced-from-requires
+displaced-from-requires c κs = search needs
+
+same-length : tie.Need-same-length
+same-length c = let m : tie.After-load-words2 = search in first m .load-words .kept .1 .1 .0
+
+same-length-2 : tie.Need-same-length-2
+same-length-2 c = let l : tie.After-load-words2 = search in l .load-words2 .kept .1 .1 .0
+
+same-length-3 : tie.Need-same-length-3
+same-length-3 c = let l : tie.After-load-words3 = search in l .load-words3 .kept .1 .1 .0
+
+same-length-4 : tie.Need-same-length-4
+same-length-4 c = let l : tie.After-load-words4 = search in l .load-words4 .kept .1 .1 .0
+
+same-length-5 : tie.Need-same-length-5
+same-length-5 c = let l : tie.After-load-words5 = search in l .load-words5 .kept .1 .1 .0
+
+same-length-6 : tie.Need-same-length-6
+same-length-6 c = let l : tie.After-load-words6 = search in l .load-words6 .kept .1 .1 .0
+
+same-length-7 : tie.Need-same-length-7
+same-length-7 c = let l : tie.After-load-words7 = search in l .load-words7 .kept .1 .1 .0
+
+same-length-8 : tie.Need-same-length-8
+same-length-8 c = let l : tie.After-load-words8 = search in l .load-words8 .kept .1 .1 .0
 
 returns : tie.Need-returns
 returns c = search needs
@@ -64,21 +116,37 @@ pub displaced-spec : {M : Type 1} → statement M
 displaced-spec =
     tie.close
     (tie.spec
-    words-of-requires
-    words-of-requires-2
-    words-of-requires-3
-    words-of-requires-4
-    length-of-requires
-    length-of-requires-2
-    length-of-requires-3
-    length-of-requires-4
-    array-share-prefix-gox
-    slice-aggregate-displaced-with
-    array-share-prefix-goy
-    slice-aggregate-displaced-with-2
-    array-share-prefix-gx
-    slice-aggregate-displaced-with-3
-    array-share-prefix-gy
-    slice-aggregate-displaced-with-4
-    displaced-with-requires
+    load-words-requires
+    load-words-requires-2
+    load-words-requires-3
+    load-words-requires-4
+    load-words-requires-5
+    load-words-requires-6
+    load-words-requires-7
+    load-words-requires-8
+    slice-reshare-prefix-displaced-from
+    slice-aggregate-displaced-from
+    slice-reshare-prefix-displaced-from-2
+    slice-aggregate-displaced-from-2
+    slice-reshare-prefix-displaced-from-3
+    slice-aggregate-displaced-from-3
+    slice-reshare-prefix-displaced-from-4
+    slice-aggregate-displaced-from-4
+    slice-reshare-prefix-displaced-from-5
+    slice-aggregate-displaced-from-5
+    slice-reshare-prefix-displaced-from-6
+    slice-aggregate-displaced-from-6
+    slice-reshare-prefix-displaced-from-7
+    slice-aggregate-displaced-from-7
+    slice-reshare-prefix-displaced-from-8
+    slice-aggregate-displaced-from-8
+    displaced-from-requires
+    same-length
+    same-length-2
+    same-length-3
+    same-length-4
+    same-length-5
+    same-length-6
+    same-length-7
+    same-length-8
     returns)

@@ -1,4 +1,4 @@
--- `test_zone_calls::iup_agrees_along` is safe: each list is the part of its array that its length says. Assumes nothing.
+-- `test_zone_calls::iup_agrees_along` is safe: each list is the part of its room that its length says. Assumes nothing.
 use mathlib.Core.Path.{sym}
 use native.Mathlib.Omega.{arith}
 use lib.Seq.{length-take-le}
@@ -6,83 +6,77 @@ use borrow.Author.Needs.{needs}
 use Rattle.test_zone_calls.proofs.iup_agrees_along.Statement.{statement}
 use Rattle.test_zone_calls.proofs.iup_agrees_along.Tie as tie
 
-words-of-requires : tie.Need-words-of-requires
-words-of-requires c κs = search needs
+load-words-requires : tie.Need-load-words-requires
+load-words-requires c κs = search needs
 
 after-requires : tie.Need-after-requires
 after-requires c κs = search needs
 
-words-of-requires-2 : tie.Need-words-of-requires-2
-words-of-requires-2 c κs = search needs
+load-words-requires-2 : tie.Need-load-words-requires-2
+load-words-requires-2 c κs = search needs
 
 after-requires-2 : tie.Need-after-requires-2
 after-requires-2 c κs = search needs
 
-words-of-requires-3 : tie.Need-words-of-requires-3
-words-of-requires-3 c κs = search needs
+load-words-requires-3 : tie.Need-load-words-requires-3
+load-words-requires-3 c κs = search needs
 
-flags-of-requires : tie.Need-flags-of-requires
-flags-of-requires c κs = search needs
+load-flags-requires : tie.Need-load-flags-requires
+load-flags-requires c κs = search needs
 
-ends-of-requires : tie.Need-ends-of-requires
-ends-of-requires c κs = search needs
-
-length-of-requires : tie.Need-length-of-requires
-length-of-requires c κs = search needs
+load-ends-requires : tie.Need-load-ends-requires
+load-ends-requires c κs = search needs
 
 after-requires-3 : tie.Need-after-requires-3
 after-requires-3 c κs = search needs
 
-length-of-requires-2 : tie.Need-length-of-requires-2
-length-of-requires-2 c κs = search needs
-
-after-requires-4 : tie.Need-after-requires-4
-after-requires-4 c κs = search needs
-
-length-of-requires-3 : tie.Need-length-of-requires-3
-length-of-requires-3 c κs = search needs
-
-length-of-requires-4 : tie.Need-length-of-requires-4
-length-of-requires-4 c κs = search needs
-
-length-of-requires-5 : tie.Need-length-of-requires-5
-length-of-requires-5 c κs = search needs
-
-after-requires-5 : tie.Need-after-requires-5
-after-requires-5 c κs = search needs
-
-array-share-prefix-unscaled : tie.Need-array-share-prefix-unscaled
-array-share-prefix-unscaled c = search needs
+slice-reshare-prefix-iup-agrees-over : tie.Need-slice-reshare-prefix-iup-agrees-over
+slice-reshare-prefix-iup-agrees-over c = search needs
 
 slice-aggregate-iup-agrees-over : tie.Need-slice-aggregate-iup-agrees-over
 slice-aggregate-iup-agrees-over c = sym (length-take-le _ _ (omega arith))
 
-array-share-prefix-original : tie.Need-array-share-prefix-original
-array-share-prefix-original c = search needs
+slice-reshare-prefix-iup-agrees-over-2 : tie.Need-slice-reshare-prefix-iup-agrees-over-2
+slice-reshare-prefix-iup-agrees-over-2 c = search needs
 
 slice-aggregate-iup-agrees-over-2 : tie.Need-slice-aggregate-iup-agrees-over-2
 slice-aggregate-iup-agrees-over-2 c = sym (length-take-le _ _ (omega arith))
 
-array-borrow-prefix-current : tie.Need-array-borrow-prefix-current
-array-borrow-prefix-current c = search needs
+slice-relend-prefix-iup-agrees-over : tie.Need-slice-relend-prefix-iup-agrees-over
+slice-relend-prefix-iup-agrees-over c = search needs
 
 slice-aggregate-iup-agrees-over-3 : tie.Need-slice-aggregate-iup-agrees-over-3
 slice-aggregate-iup-agrees-over-3 c = sym (length-take-le _ _ (omega arith))
 
-array-share-prefix-flags : tie.Need-array-share-prefix-flags
-array-share-prefix-flags c = search needs
+slice-reshare-prefix-iup-agrees-over-3 : tie.Need-slice-reshare-prefix-iup-agrees-over-3
+slice-reshare-prefix-iup-agrees-over-3 c = search needs
 
 slice-aggregate-iup-agrees-over-4 : tie.Need-slice-aggregate-iup-agrees-over-4
 slice-aggregate-iup-agrees-over-4 c = sym (length-take-le _ _ (omega arith))
 
-array-share-prefix-contours : tie.Need-array-share-prefix-contours
-array-share-prefix-contours c = search needs
+slice-reshare-prefix-iup-agrees-over-4 : tie.Need-slice-reshare-prefix-iup-agrees-over-4
+slice-reshare-prefix-iup-agrees-over-4 c = search needs
 
 slice-aggregate-iup-agrees-over-5 : tie.Need-slice-aggregate-iup-agrees-over-5
 slice-aggregate-iup-agrees-over-5 c = sym (length-take-le _ _ (omega arith))
 
 iup-agrees-over-requires : tie.Need-iup-agrees-over-requires
 iup-agrees-over-requires c κs = search needs
+
+same-length : tie.Need-same-length
+same-length c = search needs
+
+same-length-2 : tie.Need-same-length-2
+same-length-2 c = search needs
+
+same-length-3 : tie.Need-same-length-3
+same-length-3 c = search needs
+
+same-length-4 : tie.Need-same-length-4
+same-length-4 c = search needs
+
+same-length-5 : tie.Need-same-length-5
+same-length-5 c = search needs
 
 returns : tie.Need-returns
 returns c = search needs
@@ -91,30 +85,28 @@ pub iup-agrees-along-spec : {M : Type 1} → statement M
 iup-agrees-along-spec =
     tie.close
     (tie.spec
-    words-of-requires
+    load-words-requires
     after-requires
-    words-of-requires-2
+    load-words-requires-2
     after-requires-2
-    words-of-requires-3
-    flags-of-requires
-    ends-of-requires
-    length-of-requires
+    load-words-requires-3
+    load-flags-requires
+    load-ends-requires
     after-requires-3
-    length-of-requires-2
-    after-requires-4
-    length-of-requires-3
-    length-of-requires-4
-    length-of-requires-5
-    after-requires-5
-    array-share-prefix-unscaled
+    slice-reshare-prefix-iup-agrees-over
     slice-aggregate-iup-agrees-over
-    array-share-prefix-original
+    slice-reshare-prefix-iup-agrees-over-2
     slice-aggregate-iup-agrees-over-2
-    array-borrow-prefix-current
+    slice-relend-prefix-iup-agrees-over
     slice-aggregate-iup-agrees-over-3
-    array-share-prefix-flags
+    slice-reshare-prefix-iup-agrees-over-3
     slice-aggregate-iup-agrees-over-4
-    array-share-prefix-contours
+    slice-reshare-prefix-iup-agrees-over-4
     slice-aggregate-iup-agrees-over-5
     iup-agrees-over-requires
+    same-length
+    same-length-2
+    same-length-3
+    same-length-4
+    same-length-5
     returns)
