@@ -17,7 +17,8 @@ static int32_t values[VALUES + MORE], sheet[WORDS + MORE];
 
 static int amiss = 0;
 
-/* A row of points 64 apart, the first and the last touched and the last moved by a pixel; every line of the sheet is SVTCA[y] but the last, IUP[y]. */
+/* A row of points 64 apart, the first and the last touched and the last moved by a pixel; every line of the sheet is SVTCA[y] but the last, IUP[y]. Of many
+ * contours the last has three points, two before it none, and the others one each. */
 static void make(size_t ends)
 {
     for (size_t k = 0; k <= POINTS; k++) {
@@ -32,7 +33,7 @@ static void make(size_t ends)
     flags[POINTS - 1] |= 4;
     current[1][POINTS - 1] += 64;
     for (size_t k = 0; k <= CONTOURS; k++)
-        contours[k] = (uint16_t)(ends == 1 || k >= POINTS ? POINTS - 1 : k);
+        contours[k] = (uint16_t)(ends == 1 || k >= CONTOURS - 1 ? POINTS - 1 : k < POINTS - 3 ? k : POINTS - 4);
     memset(sheet, 0, sizeof sheet);
     sheet[WORDS - 2] = 0x30;
 }
@@ -80,7 +81,9 @@ int main(void)
     number = run(POINTS, CONTOURS, 0, 0, WORDS, answer, &seconds);
     expect(number == TALEVIQA_FINISHED, "65,535 contours are answered", number);
     expect(seconds < 1, "the run over 65,535 contours took more than a second, milliseconds", (uint64_t)(seconds * 1000));
-    expect(current[1][1] == 64, "a point without a touched one in its contour moved", (uint64_t)current[1][1]);
+    expect(current[1][1] == 64 && current[1][POINTS - 4] == (POINTS - 4) * 64, "a point without a touched one in its contour moved", (uint64_t)current[1][1]);
+    for (size_t k = POINTS - 3; k < POINTS; k++)
+        expect(current[1][k] == (int32_t)k * 64 + 64, "the last contour doesn't follow its touched point", (uint64_t)current[1][k]);
 
     for (int k = 0; k < 5; k++) {
         size_t sizes[5];
