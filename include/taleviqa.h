@@ -47,14 +47,22 @@ enum taleviqa_state_word {
     TALEVIQA_DID_IUP_X = 23,
     TALEVIQA_DID_IUP_Y = 24,
     TALEVIQA_CUT_IN = 25, /* control value cut-in, in 64ths of a pixel */
-    TALEVIQA_WRAPPED_ROUNDINGS = 26, /* roundings of MDAP[1] and MIAP[1] that went past 32 bits on their way; stops at 4294967295 */
-    /* How many words a state has, no more and no fewer. A caller that was built when the state had 26, without the count of wrapped roundings, is
-     * refused with 16 on every call: nothing is changed but the answer, until it is built with this header. */
-    TALEVIQA_STATE_WORDS = 27
+    TALEVIQA_WRAPPED_ROUNDINGS = 26, /* roundings of MDAP, MIAP, MDRP and MIRP that went past 32 bits on their way; stops at 4294967295 */
+    TALEVIQA_MINIMUM_DISTANCE = 27, /* of MDRP and MIRP, in 64ths of a pixel */
+    TALEVIQA_SINGLE_WIDTH = 28,
+    TALEVIQA_SINGLE_WIDTH_CUT_IN = 29,
+    TALEVIQA_AUTO_FLIP = 30, /* a fact: 0 no, 1 yes */
+    TALEVIQA_SCALE = 31, /* from font units to 64ths of a pixel, 16.16: 0x10000 is 1 */
+    TALEVIQA_LAST_PUSHED = 32, /* what GC or MD pushed last */
+    TALEVIQA_PUSHES = 33, /* how often they did; stops at 4294967295 */
+    /* How many words a state has, no more and no fewer. A caller that was built when the state had 26, without the count of wrapped roundings, or
+     * 27, without those after it, is refused with 16 on every call: nothing is changed but the answer, until it is built with this header. */
+    TALEVIQA_STATE_WORDS = 34
 };
 
-/* The edition of the record that holds these words; edition 1 has all but the last, which is then 0. */
-enum { TALEVIQA_RECORD_EDITION = 2 };
+/* The edition of the record that holds these words. Edition 2 has all up to the count of wrapped roundings, edition 1 all before it; what they
+ * haven't is as in TALEVIQA_FRESH_STATE. */
+enum { TALEVIQA_RECORD_EDITION = 3 };
 
 enum taleviqa_round_mode {
     TALEVIQA_GRID = 0,
@@ -69,7 +77,7 @@ enum taleviqa_round_mode {
 
 /* The state that a glyph starts with: uint32_t state[TALEVIQA_STATE_WORDS] = TALEVIQA_FRESH_STATE; */
 #define TALEVIQA_FRESH_STATE \
-    { 0x4000, 0, 0x4000, 0, 0x4000, 0, TALEVIQA_GRID, 0, 0, 64, 0, 0, 0, 0, 0, 0, 1, 1, 1, 1, 0, 0, 0, 0, 0, 68, 0 }
+    { 0x4000, 0, 0x4000, 0, 0x4000, 0, TALEVIQA_GRID, 0, 0, 64, 0, 0, 0, 0, 0, 0, 1, 1, 1, 1, 0, 0, 0, 0, 0, 68, 0, 64, 0, 0, 1, 0, 0, 0 }
 
 /* What the call says: the places of the answer. */
 enum taleviqa_answer_word {

@@ -4,9 +4,10 @@ import struct
 
 from .calls import Bad
 
-# words of state by edition; the second has the count of wrapped roundings as its last one
-STATE_WORDS = {1: 26, 2: 27}
-EDITION = 2  # the one that is written
+# words of state by edition; the second adds the count of wrapped roundings, the third what measured distances need and what was pushed
+STATE_WORDS = {1: 26, 2: 27, 3: 34}
+EDITION = 3  # the one that is written
+AUTO_FLIP = 30  # a fact that doesn't stand with the other five
 TRAILER_WORDS = 8
 MOST_BYTES = 24 * 1024
 # one byte more than a record may have, so that a longer one is seen to be too long
@@ -32,7 +33,7 @@ MEANINGS = {
     12: "a contour that zp2's zone doesn't have; the detail is its number. Correct the SHC line, or clear the fact pedantic: then such a line does nothing",
     13: "SHPIX under backward compatibility. Take the line out, or clear that fact",
     15: "the record is refused: its sum is not that of its words, so something in it has changed",
-    16: "the record is refused: its length, its trailer or a word is out of range, so this is no record of edition 1 or 2, or it is damaged",
+    16: "the record is refused: its length, its trailer or a word is out of range, so this is no record of edition 1, 2 or 3, or it is damaged",
     17: "the record is refused: it has more than 24 KiB",
 }
 
@@ -63,16 +64,22 @@ def fresh():
     """What a record holds of a glyph that starts: the fresh state, no points and an empty sheet."""
     return {
         "vectors": [16384, 0] * 3, "round": [0, 0, 0, 64], "references": [0, 0, 0], "loop": 1, "pointers": [1, 1, 1],
-        "facts": [0] * 5, "cut-in": 68, "wrapped": 0, "edition": EDITION, **{name: [] for name in LISTS},
+        "facts": [0] * 5, "cut-in": 68, "wrapped": 0, "minimum-distance": 64, "single-width": [0, 0], "auto-flip": 1, "scale": 0,
+        "pushed": [0, 0], "edition": EDITION, **{name: [] for name in LISTS},
     }
 
 
-def to_bytes(held):
+def state_of(held):
+    """The words of the state in the newest edition."""
     words = held["vectors"] + held["round"]
     for reference in held["references"]:
         words += [reference & 0xFFFFFFFF, reference >> 32]
     words = words + [held["loop"]] + held["pointers"] + held["facts"] + [held["cut-in"], held["wrapped"]]
-    words = words[: STATE_WORDS[held["edition"]]]
+    return words + [held["minimum-distance"]] + held["single-width"] + [held["auto-flip"], held["scale"]] + held["pushed"]
+
+
+def to_bytes(held):
+    words = state_of(held)[: STATE_WORDS[held["edition"]]]
     for name in LISTS:
         words = words + held[name]
     back = 4 * len(words)
@@ -92,16 +99,20 @@ def from_bytes(data):
     n, contours, m, controls, sheet, edition, back, total = words[-TRAILER_WORDS:]
     sizes = [n] * 7 + [contours] + [m] * 5 + [controls, sheet]
     if edition not in STATE_WORDS:
-        raise Refused(16, f"edition {edition}, and 1 and 2 are known")
+        raise Refused(16, f"edition {edition}, and 1 to {EDITION} are known")
     at = STATE_WORDS[edition]
     if at + sum(sizes) + TRAILER_WORDS != len(words) or back != 4 * (len(words) - TRAILER_WORDS):
         raise Refused(16, "the trailer's counts or way back are not those of the record")
-    if words[6] > 7 or max(words[17:25]) > 1:
+    # what an older edition hasn't is as a glyph starts
+    state = words[:at] + state_of(fresh())[at:]
+    if state[6] > 7 or max(state[17:25] + [state[AUTO_FLIP]]) > 1:
         raise Refused(16, "a round mode above 7, or a zone pointer or fact above 1")
     held = {
         "vectors": [signed(word) for word in words[0:6]], "round": [words[6]] + [signed(word) for word in words[7:10]],
         "references": [words[k] + (words[k + 1] << 32) for k in (10, 12, 14)], "loop": words[16],
-        "pointers": words[17:20], "facts": words[20:25], "cut-in": signed(words[25]), "wrapped": (words[26:at] or [0])[0], "edition": edition,
+        "pointers": words[17:20], "facts": words[20:25], "cut-in": signed(words[25]), "wrapped": state[26],
+        "minimum-distance": signed(state[27]), "single-width": [signed(state[28]), signed(state[29])], "auto-flip": state[AUTO_FLIP],
+        "scale": signed(state[31]), "pushed": [signed(state[32]), state[33]], "edition": edition,
     }
     for name, size in zip(LISTS, sizes):
         own = words[at : at + size]
@@ -154,7 +165,7 @@ def no_room(data):
     """Why nothing is written of a record that is not refused."""
     return (
         f"nothing is written: in edition {EDITION} the record would have {newest_bytes(data)} bytes, and at most {MOST_BYTES} may be. "
-        "bin/replay prints its points; to write it, take a word out of its sheet, its control values or its contours"
+        "bin/replay prints its points; to write it, take words out of its sheet, its control values or its contours"
     )
 
 

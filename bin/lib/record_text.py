@@ -7,6 +7,7 @@ from .record import LISTS
 MODES = ["grid", "half-grid", "double-grid", "down", "up", "off", "super", "super45"]
 ZONES = ["twilight", "glyph"]
 FACTS = ["backward-compatibility", "pedantic", "native-cleartype-x", "iup-x", "iup-y"]
+YES_OR_NO = ["no", "yes"]
 NAMES = {
     "SVTCA[y]": 0x00, "SVTCA[x]": 0x01, "SPVTCA[y]": 0x02, "SPVTCA[x]": 0x03, "SFVTCA[y]": 0x04, "SFVTCA[x]": 0x05,
     "ISECT": 0x0F, "SRP0": 0x10, "SRP1": 0x11, "SRP2": 0x12, "SZP0": 0x13, "SZP1": 0x14, "SZP2": 0x15, "SZPS": 0x16,
@@ -14,7 +15,9 @@ NAMES = {
     "SHP[0]": 0x32, "SHP[1]": 0x33, "SHC[0]": 0x34, "SHC[1]": 0x35, "SHZ[0]": 0x36, "SHZ[1]": 0x37, "SHPIX": 0x38,
     "MSIRP[0]": 0x3A, "MSIRP[1]": 0x3B, "ALIGNRP": 0x3C, "RTDG": 0x3D, "MIAP[0]": 0x3E, "MIAP[1]": 0x3F,
     "SROUND": 0x76, "S45ROUND": 0x77, "ROFF": 0x7A, "RUTG": 0x7C, "RDTG": 0x7D, "FLIPPT": 0x80,
-    "FLIPRGON": 0x81, "FLIPRGOFF": 0x82,
+    "FLIPRGON": 0x81, "FLIPRGOFF": 0x82, "GC[0]": 0x46, "GC[1]": 0x47, "MD[0]": 0x49, "MD[1]": 0x4A,
+    # the five bits of the code, as OpenType's [abcde]
+    **{f"{name}[{bits:05b}]": first + bits for name, first in (("MDRP", 0xC0), ("MIRP", 0xE0)) for bits in range(32)},
 }
 OPCODES = {opcode: name for name, opcode in NAMES.items()}
 OPCODE_NAMES = textwrap.fill(" ".join(NAMES), 118, initial_indent="  ", subsequent_indent="  ", break_on_hyphens=False)
@@ -88,6 +91,18 @@ def read_line(held, word, rest):
         held["cut-in"] = numbers(rest, "cut-in N")[0]
     elif word == "wrapped-roundings":
         held["wrapped"] = numbers(rest, "wrapped-roundings N", 0, 2**32 - 1)[0]
+    elif word == "minimum-distance":
+        held["minimum-distance"] = numbers(rest, "minimum-distance N")[0]
+    elif word == "single-width":
+        counted(rest, "single-width N cut-in N")
+        held["single-width"] = [number(rest[k]) for k in (0, 2)]
+    elif word == "auto-flip":
+        held["auto-flip"] = one_of(counted(rest, "auto-flip YES|NO")[0], YES_OR_NO, "answer")
+    elif word == "scale":
+        held["scale"] = numbers(rest, "scale N")[0]
+    elif word == "pushed":
+        counted(rest, "pushed VALUE COUNT")
+        held["pushed"] = [number(rest[0]), number(rest[1], 0, 2**32 - 1)]
     elif word == "point":
         counted(rest, "point UX UY OX OY X Y FLAG")
         for name, text in zip(LISTS[:6], rest):
@@ -135,6 +150,9 @@ def make(data):
         raise Bad("the text is empty, and no record is made of that")
     if held["edition"] == 1 and held["wrapped"]:
         raise Bad("a record of edition 1 has no count of wrapped roundings")
+    kept = record.STATE_WORDS[held["edition"]]
+    if record.state_of(held)[kept:] != record.state_of(record.fresh())[kept:]:
+        raise Bad(f"a record of edition {held['edition']} has no minimum distance, single width, auto flip, scale or pushes")
     made = record.to_bytes(held)
     if len(made) > record.MOST_BYTES:
         raise Bad(f"the record would have {len(made)} bytes, and at most {record.MOST_BYTES} may be")
@@ -174,6 +192,14 @@ def show(data):
     ]
     if held["edition"] > 1:
         lines.append(f"wrapped-roundings {held['wrapped']}")
+    if held["edition"] > 2:
+        lines += [
+            f"minimum-distance {held['minimum-distance']}",
+            "single-width {} cut-in {}".format(*held["single-width"]),
+            f"auto-flip {YES_OR_NO[held['auto-flip']]}",
+            f"scale {held['scale']}",
+            "pushed {} {}".format(*held["pushed"]),
+        ]
     lines += ["point " + " ".join(str(held[name][k]) for name in LISTS[:7]) for k in range(len(held["x"]))]
     if held["contours"]:
         lines.append("contours " + " ".join(str(end) for end in held["contours"]))

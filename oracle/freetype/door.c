@@ -173,6 +173,12 @@ static void load_state(const World *world)
     context.GS.rp2 = (FT_UShort)state[REFERENCES + 4];
     context.GS.loop = (FT_Long)state[LOOP];
     context.GS.control_value_cutin = (int32_t)state[CUT_IN];
+    context.GS.minimum_distance = (int32_t)state[MINIMUM_DISTANCE];
+    context.GS.single_width_value = (int32_t)state[SINGLE_WIDTH];
+    context.GS.single_width_cutin = (int32_t)state[SINGLE_WIDTH_CUT_IN];
+    context.GS.auto_flip = state[AUTO_FLIP] != 0;
+    context.metrics.x_scale = (int32_t)state[SCALE];
+    context.metrics.y_scale = (int32_t)state[SCALE];
     context.pedantic_hinting = state[PEDANTIC] != 0;
     context.subpixel_hinting_lean = TRUE;
     context.backward_compatibility = state[COMPATIBLE] != 0;
@@ -207,6 +213,17 @@ static void store_state(World *world)
     state[ZONES + 2] = context.GS.gep2;
     state[X_DONE] |= context.iupx_called != 0;
     state[Y_DONE] |= context.iupy_called != 0;
+}
+
+/* What is left on the stack after a line that pushes is what it pushed. */
+static void store_pushed(World *world, uint8_t opcode)
+{
+    int pushes = opcode == 0x46 || opcode == 0x47 || opcode == 0x49 || opcode == 0x4A;
+
+    if (!pushes || context.top < 1)
+        return;
+    world->state[LAST_PUSHED] = (uint32_t)context.stack[context.top - 1];
+    world->state[PUSHES] += world->state[PUSHES] != UINT32_MAX;
 }
 
 /* FreeType's own SZP lines set the zone pointers, which are copies of zones. */
@@ -261,6 +278,8 @@ int door_line(World *world, uint8_t opcode, const int32_t *operands, uint32_t co
     store_state(world);
     store_glyph(world);
     store_twilight(world);
+    if (error == FT_Err_Ok)
+        store_pushed(world, opcode);
     return error != FT_Err_Ok;
 }
 

@@ -6,6 +6,7 @@ ONE = 16384
 SETTERS = [0, 1, 2, 3, 4, 5, 0x10, 0x11, 0x12, 0x13, 0x14, 0x15, 0x16, 0x17, 0x18, 0x19, 0x3D, 0x7D, 0x7C, 0x7A,
            0x76, 0x77]
 MOVERS = [0x0F, 0x2E, 0x2F, 0x2F, 0x30, 0x31, 0x32, 0x33, 0x3A, 0x3B, 0x3C, 0x3E, 0x3F, 0x3F, 0x80]
+DISTANCES = [0x46, 0x47, 0x49, 0x4A] * 8 + list(range(0xC0, 0x100))
 # Corners of 32-bit numbers, for wild cases.
 CORNERS = [0, 1, -1, 31, 32, 63, 64, -64, ONE, -ONE, 2**30, -2**30, 2**31 - 1, -2**31, -2**31 + 1]
 # Sane coordinates stay below these; ISECT multiplies two differences.
@@ -83,7 +84,16 @@ class Maker:
         loop = random.choice([1, 1, 1, 2, 3, 0])
         cut_in = self.number(random.choice([5, 200]))
         words = [*projection, *dual, *freedom, *self.rounding(), *halves, loop, *zones, *facts, cut_in, 0]
-        return [word % 2**32 for word in words]
+        return [word % 2**32 for word in words + self.distances()]
+
+    def distances(self):
+        """Minimum distance, single width and its cut-in, auto flip, scale, what was pushed."""
+        scale = self.random.choice([65536, 65536, 32768, 0, -65536, 1234, 98304])
+        if self.wild and self.chance(3):
+            scale = self.number(2**17)
+        widths = [self.number(200), self.random.choice([0, self.number(5), self.number(200)])]
+        pushes = self.random.choice([0, 0, 3, 2**32 - 2, 2**32 - 1])
+        return [self.random.choice([64, 64, self.number(200)]), *widths, self.random.randrange(2), scale, self.number(90), pushes]
 
     def lists(self, counts, reach):
         points, twilight, values = counts
@@ -124,13 +134,17 @@ class Maker:
                 **{code: lambda: [point(self.random.randrange(3))] for code in range(0x10, 0x13)},
                 **{code: lambda: [self.random.choice([0, 1, 1, 0, 1, 2, -1])] for code in range(0x13, 0x17)},
                 **{code: lambda: [self.selector()] for code in (0x76, 0x77)},
+                **{code: lambda: [point(2)] for code in (0x46, 0x47)},
+                **{code: lambda: [point(1), point(0)] for code in (0x49, 0x4A)},
+                **{code: lambda: [point(1)] for code in range(0xC0, 0xE0)},
+                **{code: lambda: [self.random.choice([self.index(counts[2]), -1]), point(1)] for code in range(0xE0, 0x100)},
                 }.get(opcode, list)()
 
     def sheet(self, state, counts, reach):
         """Lines whose operands suit the state as it will be: pointers and loop are followed."""
         state, words = list(state), []
         for _ in range(self.random.randint(1, 6)):
-            opcode = self.random.choice(SETTERS if self.chance(3) else MOVERS)
+            opcode = self.random.choice(SETTERS if self.chance(3) else MOVERS if self.chance(2) else DISTANCES)
             operands = self.operands(opcode, state, counts, reach)
             if self.chance(30):
                 operands = operands[1:]

@@ -7,10 +7,11 @@ import subprocess
 HERE = pathlib.Path(__file__).resolve().parent
 ORACLE = HERE.parent
 MASK = 0xFFFFFFFF
-FRESH = [16384, 0] * 3 + [0, 0, 0, 64] + [0] * 6 + [1] + [1] * 3 + [0] * 5 + [68, 0]
+FRESH = [16384, 0] * 3 + [0, 0, 0, 64] + [0] * 6 + [1] + [1] * 3 + [0] * 5 + [68, 0] + [64, 0, 0, 1, 0, 0, 0]
 STATE_NAMES = (["projection x", "projection y", "dual x", "dual y", "freedom x", "freedom y", "mode", "threshold",
                 "phase", "period", "rp0", "rp0 high", "rp1", "rp1 high", "rp2", "rp2 high", "loop", "zp0", "zp1",
-                "zp2", "compatible", "pedantic", "native", "x done", "y done", "cut-in", "wrapped"])
+                "zp2", "compatible", "pedantic", "native", "x done", "y done", "cut-in", "wrapped", "minimum", "width",
+                "width cut-in", "flips", "scale", "pushed", "pushes"])
 # FreeType has no count of wrapped roundings: it is the one word that isn't compared.
 WRAPPED = STATE_NAMES.index("wrapped")
 LIST_NAMES = ["unscaled x", "unscaled y", "original x", "original y", "x", "y", "flags", "contours",

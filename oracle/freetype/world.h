@@ -1,4 +1,4 @@
-/* A case's world: 27 words of state and fifteen lists, in one row of words. */
+/* A case's world: 34 words of state and fifteen lists, in one row of words. */
 #ifndef WORLD_H
 #define WORLD_H
 
@@ -6,7 +6,7 @@
 #include <stdint.h>
 
 enum {
-    STATE_WORDS = 27,
+    STATE_WORDS = 34,
     LIST_COUNT = 15,
     MOST_POINTS = 65535,
     MOST_CONTOURS = 65535,
@@ -31,7 +31,14 @@ enum {
     X_DONE = 23,
     Y_DONE = 24,
     CUT_IN = 25,
-    WRAPPED = 26 /* FreeType has no such count: it stays as it is */
+    WRAPPED = 26, /* FreeType has no such count: it stays as it is */
+    MINIMUM_DISTANCE = 27,
+    SINGLE_WIDTH = 28,
+    SINGLE_WIDTH_CUT_IN = 29,
+    AUTO_FLIP = 30,
+    SCALE = 31,
+    LAST_PUSHED = 32,
+    PUSHES = 33
 };
 
 /* The lists; a list of y stands right after its list of x. */

@@ -1,6 +1,7 @@
 //! What document 01 says in numbers, and what was found beside it: each claim
 //! with the smallest input known, run on the Rust.
 
+mod distances;
 mod selectors;
 mod shifts;
 mod wraps;
@@ -37,6 +38,7 @@ pub fn check_all() -> bool {
     shifts::check(&mut claims);
     selectors::check(&mut claims);
     wraps::check(&mut claims);
+    distances::check(&mut claims);
     budgets_add_up(&mut claims);
     println!("{} claims, {} fail", claims.count, claims.failed);
     claims.failed == 0

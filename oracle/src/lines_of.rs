@@ -70,10 +70,14 @@ pub fn accesses(case: &Case, line: &ReachedLine) -> Vec<Accessed> {
     };
     let one = |access: &Access| accessed(case, line, row, access);
     let mut accesses: Vec<Accessed> = row.accesses.iter().flat_map(one).collect();
-    let [_, zp1, _] = case.world.state.zones;
-    // MSIRP makes a twilight point from rp0, and so looks for that first.
-    if matches!(line.opcode, 0x3A | 0x3B) && zp1 == 0 {
+    let [zp0, zp1, _] = case.world.state.zones;
+    // MSIRP and MIRP make a twilight point from rp0, and so look for that first.
+    if matches!(line.opcode, 0x3A | 0x3B | 0xE0..=0xFF) && zp1 == 0 {
         accesses.reverse();
+    }
+    // An unscaled point that isn't there is (0, 0).
+    if line.opcode == 0x4A && zp0 == 1 && zp1 == 1 {
+        accesses.clear();
     }
     accesses
 }

@@ -3,11 +3,11 @@
 
 use std::ops::RangeInclusive;
 use Access::{Each, FirstPoint, Named, OfShift, PastTheEnd, Rp0};
-use Codes::{Axes, Flags, One};
-use Family::{Outline, Selector, Setter, Shift};
+use Codes::{Axes, FiveBits, Flags, One};
+use Family::{Distances, Outline, Selector, Setter, Shift};
 use Operand::{
-    Amount, Contour, ControlValue, Distance, High, LoopCount, Low, Point, PointNumber,
-    SelectorByte, ZoneNumber,
+    Amount, Contour, ControlValue, ControlValueOrNone, Distance, High, LoopCount, Low, Point,
+    PointNumber, SelectorByte, ZoneNumber,
 };
 use Zone::{Glyph, Zp0, Zp1, Zp2};
 
@@ -27,6 +27,8 @@ pub struct Row {
     pub refusals: &'static [u32],
     /// The bit of its codes that asks for rounding by the state; 0 if none does.
     rounding_bit: u8,
+    /// How many numbers it pushes where it is done.
+    pub pushes: usize,
 }
 
 /// The codes of an instruction, and how they are told apart.
@@ -37,6 +39,8 @@ enum Codes {
     Axes(u8),
     /// The first to the last, numbered from 0.
     Flags(u8, u8),
+    /// All that five bits make, from the first on: OpenType's [abcde].
+    FiveBits(u8),
 }
 
 /// The instructions that some cases are made of. New ones make a new family: the
@@ -51,6 +55,8 @@ pub enum Family {
     Shift,
     /// Document 02's SROUND and S45ROUND.
     Selector,
+    /// Document 02's GC, MD, MDRP and MIRP.
+    Distances,
 }
 
 /// What an operand is, and so which wrong ones are worth making.
@@ -66,6 +72,8 @@ pub enum Operand {
     /// How far SHPIX shifts.
     Amount,
     ControlValue,
+    /// The same, but that -1 stands for the value 0.
+    ControlValueOrNone,
     /// A contour of zp2's zone.
     Contour,
     SelectorByte,
@@ -107,7 +115,7 @@ pub struct Reference {
 }
 
 /// Every instruction. Chance and the sample go by the order within a family.
-pub static TABLE: [Row; 32] = [
+pub static TABLE: [Row; 36] = [
     row("SVTCA", Axes(0x00), Setter),
     row("SPVTCA", Axes(0x02), Setter),
     row("SFVTCA", Axes(0x04), Setter),
@@ -195,6 +203,26 @@ pub static TABLE: [Row; 32] = [
         .refuses(&[11]),
     row("SROUND", One(0x76), Selector).takes(&[SelectorByte]),
     row("S45ROUND", One(0x77), Selector).takes(&[SelectorByte]),
+    row("GC", Flags(0x46, 0x47), Distances)
+        .takes(&[Point(Zp2)])
+        .accesses(&[Named("point", 0)])
+        .refuses(&[7])
+        .pushes_one(),
+    row("MD", Flags(0x49, 0x4A), Distances)
+        .takes(&[Point(Zp1), Point(Zp0)])
+        .accesses(&[Named("point of zp0", 1), Named("point of zp1", 0)])
+        .refuses(&[7])
+        .pushes_one(),
+    row("MDRP", FiveBits(0xC0), Distances)
+        .takes(&[Point(Zp1)])
+        .accesses(&[Named("point", 0), Rp0])
+        .refuses(&[7])
+        .rounds_by(4),
+    row("MIRP", FiveBits(0xE0), Distances)
+        .takes(&[ControlValueOrNone, Point(Zp1)])
+        .accesses(&[Named("point", 1), Rp0])
+        .refuses(&[7, 8])
+        .rounds_by(4),
 ];
 
 /// A row that takes and looks for nothing.
@@ -208,6 +236,7 @@ const fn row(name: &'static str, codes: Codes, family: Family) -> Row {
         accesses: &[],
         refusals: &[],
         rounding_bit: 0,
+        pushes: 0,
     }
 }
 
@@ -235,6 +264,10 @@ impl Row {
             rounding_bit,
             ..self
         }
+    }
+
+    const fn pushes_one(self) -> Self {
+        Self { pushes: 1, ..self }
     }
 }
 
@@ -290,6 +323,7 @@ impl Row {
             Axes(y) if code == y => format!("{name}[y]"),
             Axes(_) => format!("{name}[x]"),
             Flags(first, _) => format!("{name}[{}]", code - first),
+            FiveBits(first) => format!("{name}[{:05b}]", code - first),
         }
     }
 }
@@ -300,6 +334,7 @@ impl Codes {
             One(code) => (code, code),
             Axes(y) => (y, y + 1),
             Flags(first, last) => (first, last),
+            FiveBits(first) => (first, first + 31),
         }
     }
 }

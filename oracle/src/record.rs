@@ -1,4 +1,4 @@
-//! The record of document 02 (editions 1 and 2) as a run's input.
+//! The record of document 02 (editions 1 to 3) as a run's input.
 
 use crate::world::*;
 
@@ -6,7 +6,7 @@ const TRAILER_WORDS: usize = 8;
 /// Where the trailer says the edition.
 const EDITION: usize = 5;
 /// The edition that is written.
-const NEWEST: u32 = 2;
+const NEWEST: u32 = 3;
 const MOST_BYTES: usize = 24 * 1024;
 
 /// Document 02's numbers for a refused record.
@@ -25,8 +25,8 @@ pub fn read(bytes: &[u8]) -> Result<World, u32> {
     let state_count = state_words_in(trailer[EDITION]).ok_or(OUT_OF_RANGE)?;
     let lengths = list_lengths(body.len(), state_count, trailer)?;
     let (of_state, mut left) = body.split_at(state_count);
-    // What an older edition doesn't have is 0.
-    let mut words_of_state = [0; STATE_WORDS];
+    // What an older edition doesn't have is as in a fresh state.
+    let mut words_of_state = state_words(&fresh_state());
     words_of_state[..state_count].copy_from_slice(of_state);
     let state = state_of(&words_of_state).map_err(|_| OUT_OF_RANGE)?;
     let mut lists: [Vec<u32>; LIST_COUNT] = Default::default();
@@ -52,7 +52,8 @@ pub fn read(bytes: &[u8]) -> Result<World, u32> {
 /// How many words of state a record of the edition has.
 fn state_words_in(edition: u32) -> Option<usize> {
     match edition {
-        1 => Some(STATE_WORDS - 1),
+        1 => Some(26),
+        2 => Some(27),
         NEWEST => Some(STATE_WORDS),
         _ => None,
     }

@@ -10,12 +10,22 @@ use crate::{
 use reference::door::{with_roundings, Machine, Rounded};
 
 /// A line that was reached: its opcode, whether it was done, the Rust's
-/// roundings on the way, and the count of wrapped ones before and after it.
+/// roundings on the way, and the count of wrapped ones before and after it;
+/// what it pushed, and the count of pushes before it.
 pub struct Step {
     pub opcode: u8,
     pub done: bool,
     pub roundings: Vec<Rounded>,
     pub counts: [u32; 2],
+    pub pushed: Vec<i32>,
+    pub pushes_before: u32,
+}
+
+/// The state's numbers that the Rust doesn't have.
+struct Kept {
+    wrapped_roundings: u32,
+    last_pushed: i32,
+    pushes: u32,
 }
 
 /// Runs a sheet from a place for at most so many lines.
@@ -43,12 +53,18 @@ pub fn watched(world: &mut World, start: u64, budget: u64, mut watch: impl FnMut
     }
     let mut buffers = world.buffers();
     let mut state = world.state.clone();
-    let mut count = state.wrapped_roundings;
+    let mut kept = Kept {
+        wrapped_roundings: state.wrapped_roundings,
+        last_pushed: state.last_pushed,
+        pushes: state.pushes,
+    };
     let answer = buffers.with_machine(&mut state, |machine| {
-        let mut line = |words: &[i32]| run_line(machine, words, &mut count, &mut watch);
+        let mut line = |words: &[i32]| run_line(machine, words, &mut kept, &mut watch);
         run_lines(&mut line, &sheet, start as usize, budget)
     });
-    state.wrapped_roundings = count;
+    state.wrapped_roundings = kept.wrapped_roundings;
+    state.last_pushed = kept.last_pushed;
+    state.pushes = kept.pushes;
     world.state = state;
     world.keep(&buffers);
     answer
@@ -88,11 +104,12 @@ fn run_lines(
 }
 
 /// Runs the line at the head of the words. One that is done adds its wrapped
-/// roundings to the count, which stops at its end; another leaves it.
+/// roundings to their count and its pushes to theirs, each of which stops at its
+/// end; another leaves them.
 fn run_line(
     machine: &mut Machine,
     words: &[i32],
-    count: &mut u32,
+    kept: &mut Kept,
     watch: &mut impl FnMut(Step),
 ) -> Said {
     let (opcode, row, operands) = line_of(words).ok_or((answer::LINE, 0))?;
@@ -100,29 +117,40 @@ fn run_line(
         return Err((answer::TOO_MANY, 0));
     }
     let (said, roundings) = match apart::decided(machine, opcode, operands) {
-        Some(decided) => (decided, Vec::new()),
+        Some(decided) => (decided.map(|()| Vec::new()), Vec::new()),
         None => with_roundings(|| by_the_rust(machine, opcode, operands)),
     };
-    let before = *count;
-    if said.is_ok() {
+    let (before, pushes_before) = (kept.wrapped_roundings, kept.pushes);
+    if let Ok(pushed) = &said {
+        assert!(pushed.len() == row.pushes, "{} pushed {pushed:?}", row.name);
         let wrapped = roundings.iter().filter(|one| shadow::wrapped(one)).count();
-        *count = before.saturating_add(wrapped as u32);
+        kept.wrapped_roundings = before.saturating_add(wrapped as u32);
+        kept.pushes = pushes_before.saturating_add(pushed.len() as u32);
+        kept.last_pushed = pushed.last().copied().unwrap_or(kept.last_pushed);
     }
     watch(Step {
         opcode,
         done: said.is_ok(),
         roundings,
-        counts: [before, *count],
+        counts: [before, kept.wrapped_roundings],
+        pushed: said.clone().unwrap_or_default(),
+        pushes_before,
     });
     said?;
     Ok(2 + operands.len())
 }
 
-fn by_the_rust(machine: &mut Machine, opcode: u8, operands: &[i32]) -> Result<(), (u32, u64)> {
+/// What the line pushed, or its refusal.
+fn by_the_rust(
+    machine: &mut Machine,
+    opcode: u8,
+    operands: &[i32],
+) -> Result<Vec<i32>, (u32, u64)> {
     let first_operand = operands.first().copied().unwrap_or_default();
     machine
         .instruct(opcode, operands)
-        .map_err(|refused| answer::of_refusal(&refused, first_operand))
+        .map_err(|refused| answer::of_refusal(&refused, first_operand))?;
+    Ok(machine.pushed().to_vec())
 }
 
 /// The opcode, its row and the operands, if the words start with a whole, known

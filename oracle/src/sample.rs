@@ -1,15 +1,16 @@
-//! The committed sample: eleven files, the same bytes every time.
+//! The committed sample: thirteen files, the same bytes every time.
 
 use crate::{
     case::Case,
     coverage,
     direct::Call,
     generate::{
-        every_length, every_limit, every_opcode, every_selector, every_setter, every_shift,
-        every_wrap, far_calls, far_references, iup_case, length_case, limit_cases, line_case,
+        distance_case, distance_run_case, every_distance, every_length, every_limit, every_opcode,
+        every_selector, every_setter, every_shift, every_wrap, far_calls, far_distances,
+        far_references, iup_case, largest_faces, length_case, limit_cases, line_case,
         long_iup_case, long_iup_shift_case, rounds_by_every_selector, run_case, runs_of_01,
-        selector_counts, selector_run_case, shift_case, shift_run_case, turns, wrap_case,
-        zone_case,
+        selector_counts, selector_run_case, set_words, shift_case, shift_run_case, turns,
+        wrap_case, zone_case,
     },
     math_rows, notable,
     opcodes::{rows_of, Family},
@@ -30,6 +31,7 @@ const SELECTORS_SEED: u64 = 0x7365_6C65;
 const LENGTHS_SEED: u64 = 0x6C65_6E67;
 const TURNS_SEED: u64 = 0x7475_726E;
 const WRAPS_SEED: u64 = 0x7772_6170;
+const DISTANCES_SEED: u64 = 0x6469_7374;
 const ZONE_CASES: usize = 5_000;
 const IUP_CASES: usize = 3_400;
 const LINES_EACH: usize = 480;
@@ -41,8 +43,12 @@ const SELECTOR_RUN_CASES: usize = 240;
 const LENGTH_CASES: usize = 400;
 const WRAP_CASES: usize = 600;
 const COUNTED_CALLS: usize = 60;
+/// Random lines of GC, MD, MDRP and MIRP.
+const DISTANCES_EACH: [usize; 4] = [320, 220, 260, 260];
+const DISTANCE_RUN_CASES: usize = 300;
+const DISTANCE_CALLS: usize = 60;
 
-const NAMES: [&str; 11] = [
+const NAMES: [&str; 13] = [
     "math",
     "projection",
     "zone",
@@ -54,9 +60,11 @@ const NAMES: [&str; 11] = [
     "lengths",
     "turns",
     "wraps",
+    "largest",
+    "distances",
 ];
 
-/// Writes the eleven files into a folder and says how large each is.
+/// Writes the thirteen files into a folder and says how large each is.
 pub fn write(folder: &Path) -> Result<(), String> {
     std::fs::create_dir_all(folder).map_err(|error| error.to_string())?;
     for name in NAMES {
@@ -118,7 +126,7 @@ fn make(name: &str) -> (usize, Vec<u32>) {
     }
 }
 
-/// The cases of one of the nine files that hold cases.
+/// The cases of one of the eleven files that hold cases.
 fn cases_of(name: &str) -> Vec<Case> {
     match name {
         "zone" => zone_cases(),
@@ -129,6 +137,8 @@ fn cases_of(name: &str) -> Vec<Case> {
         "selectors" => selectors(),
         "lengths" => lengths(),
         "wraps" => wraps(),
+        "largest" => largest_faces(),
+        "distances" => distances(),
         _ => turns_and_far_indices(),
     }
 }
@@ -232,6 +242,24 @@ fn wraps() -> Vec<Case> {
     };
     cases.extend((0..WRAP_CASES).map(|_| counted(wrap_case)));
     cases.extend((0..COUNTED_CALLS).map(|_| counted(zone_case)));
+    cases
+}
+
+/// Each of the distances where it turns, their far references, then random ones
+/// alone and among other lines, then direct calls, which keep all that they need.
+fn distances() -> Vec<Case> {
+    let mut random = Random::new(DISTANCES_SEED);
+    let mut cases = every_distance();
+    cases.extend(far_distances());
+    for (row, count) in rows_of(Family::Distances).into_iter().zip(DISTANCES_EACH) {
+        cases.extend((0..count).map(|_| distance_case(&mut random, row)));
+    }
+    cases.extend((0..DISTANCE_RUN_CASES).map(|_| distance_run_case(&mut random)));
+    cases.extend((0..DISTANCE_CALLS).map(|_| {
+        let mut case = zone_case(&mut random);
+        set_words(&mut random, &mut case.world.state);
+        case
+    }));
     cases
 }
 

@@ -3,8 +3,10 @@
 use crate::words::{halves, joined};
 use reference::door::{Buffers, Outline, Pair, Rounding, State};
 
-pub const STATE_WORDS: usize = 27;
+pub const STATE_WORDS: usize = 34;
 pub const LIST_COUNT: usize = 15;
+/// The place of the one fact that doesn't stand with the other five.
+pub const AUTO_FLIP: usize = 30;
 
 /// The lists' places in the order of the record of document 02. A list of y
 /// stands right after its list of x.
@@ -56,7 +58,7 @@ pub struct World {
     pub lists: [Vec<u32>; LIST_COUNT],
 }
 
-/// Document 01's fresh state.
+/// Document 01's fresh state, with document 02's numbers as older records read.
 pub fn fresh_state() -> State {
     State {
         vectors: [0x4000, 0, 0x4000, 0, 0x4000, 0],
@@ -76,6 +78,13 @@ pub fn fresh_state() -> State {
         y_interpolated: false,
         cut_in: 68,
         wrapped_roundings: 0,
+        min_distance: 64,
+        single_width: 0,
+        single_width_cut_in: 0,
+        auto_flip: true,
+        scale: 0,
+        last_pushed: 0,
+        pushes: 0,
     }
 }
 
@@ -106,6 +115,13 @@ pub fn state_words(state: &State) -> [u32; STATE_WORDS] {
     }
     words[25] = state.cut_in as u32;
     words[26] = state.wrapped_roundings;
+    words[27] = state.min_distance as u32;
+    words[28] = state.single_width as u32;
+    words[29] = state.single_width_cut_in as u32;
+    words[AUTO_FLIP] = u32::from(state.auto_flip);
+    words[31] = state.scale as u32;
+    words[32] = state.last_pushed as u32;
+    words[33] = state.pushes;
     words
 }
 
@@ -116,7 +132,8 @@ pub fn state_of(words: &[u32]) -> Result<State, String> {
     if words[6] > 7 {
         return Err(format!("round mode {} is none of 0 to 7", words[6]));
     }
-    if let Some(word) = words[17..25].iter().find(|word| **word > 1) {
+    let mut yes_or_no = words[17..25].iter().chain([&words[AUTO_FLIP]]);
+    if let Some(word) = yes_or_no.find(|word| **word > 1) {
         return Err(format!("a zone pointer or a fact is {word}, not 0 or 1"));
     }
     Ok(State {
@@ -137,6 +154,13 @@ pub fn state_of(words: &[u32]) -> Result<State, String> {
         y_interpolated: words[24] == 1,
         cut_in: number(25),
         wrapped_roundings: words[26],
+        min_distance: number(27),
+        single_width: number(28),
+        single_width_cut_in: number(29),
+        auto_flip: words[AUTO_FLIP] == 1,
+        scale: number(31),
+        last_pushed: number(32),
+        pushes: words[33],
     })
 }
 
@@ -169,11 +193,18 @@ pub const STATE_NAMES: [&str; STATE_WORDS] = [
     "y interpolated",
     "cut-in",
     "wrapped roundings",
+    "minimum distance",
+    "single width",
+    "single width cut-in",
+    "auto flip",
+    "scale",
+    "last pushed",
+    "pushes",
 ];
 
 /// True of the state's words that have no sign.
 pub fn is_unsigned(place: usize) -> bool {
-    matches!(STATE_NAMES[place], "loop" | "wrapped roundings")
+    matches!(STATE_NAMES[place], "loop" | "wrapped roundings" | "pushes")
 }
 
 impl World {

@@ -1,5 +1,6 @@
 /* What a call from C does by the number of its state words. Of any other number than TALEVIQA_STATE_WORDS, as of a caller that was built when the state
- * had no count of wrapped roundings, it answers 16 and changes nothing but the answer; with all of them it counts. Prints what is amiss. */
+ * had no count of wrapped roundings or nothing after it, it answers 16 and changes nothing but the answer; with all of them it counts. Prints what is
+ * amiss. */
 #include <inttypes.h>
 #include <stdio.h>
 #include <string.h>
@@ -8,8 +9,8 @@
 
 #define LENGTH(list) (sizeof(list) / sizeof((list)[0]))
 
-/* The words of a state before it had the count, which is the last. */
-enum { OLDER_STATE_WORDS = TALEVIQA_WRAPPED_ROUNDINGS };
+/* The words of a state before it had the count, and before it had anything after that. */
+enum { OLDER_STATE_WORDS = TALEVIQA_WRAPPED_ROUNDINGS, OLD_STATE_WORDS = TALEVIQA_MINIMUM_DISTANCE };
 
 /* SVTCA to the y axis; MDAP with rounding at point 0. */
 static const int32_t sheet[] = {0x00, 0, 0x2f, 1, 0};
@@ -90,6 +91,8 @@ int main(void)
     refused(0);
     refused(OLDER_STATE_WORDS - 1);
     refused(OLDER_STATE_WORDS);
+    refused(OLD_STATE_WORDS);
+    refused(TALEVIQA_STATE_WORDS - 1);
     refused(TALEVIQA_STATE_WORDS + 1);
     counts(40, 0, 64, 0);
     counts(40, 7, 64, 7);

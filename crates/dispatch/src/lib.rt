@@ -4,6 +4,7 @@
 // that the lists of each zone share one length, which the run tests once at its entry, and nothing else. That an opcode is known and the operands
 // aren't too many is tested by `opcodes::decode` before.
 use dispatch_distances::perform_distance;
+use dispatch_measures::perform_measure;
 use dispatch_shifts::perform_shift;
 use graphics::GraphicsState;
 use line::Stepped;
@@ -24,6 +25,7 @@ pub enum Kind {
     Iup,
     Shift,
     Distance,
+    Measure,
     Flippt,
     Fliprg,
     Set,
@@ -37,6 +39,7 @@ fn kind_of(opcode: usize) -> Kind
         0x30 | 0x31 => Kind::Iup,
         0x32..=0x38 => Kind::Shift,
         0x2E | 0x2F | 0x3A..=0x3C | 0x3E | 0x3F => Kind::Distance,
+        0x46 | 0x47 | 0x49 | 0x4A | 0xC0..=0xFF => Kind::Measure,
         0x80 => Kind::Flippt,
         0x81 | 0x82 => Kind::Fliprg,
         _ => Kind::Set,
@@ -91,6 +94,24 @@ pub fn perform(
             opcode,
             operands,
             controls,
+            gx,
+            gy,
+            gflags,
+            tox,
+            toy,
+            tx,
+            ty,
+            tflags,
+        ),
+        Kind::Measure => perform_measure(
+            s,
+            opcode,
+            operands,
+            controls,
+            gux,
+            guy,
+            gox,
+            goy,
             gx,
             gy,
             gflags,

@@ -4,10 +4,11 @@
 use mathlib.Core.Path.{_≡_, refl}
 use mathlib.Core.Bool.{Bool, true, false, _&&_}
 use Prim.Native.Nat.{ℕ}
+use lib.IntN.{ℤ}
 use Rattle.round.specs.Round.{usable, usableBy}
 use Rattle.round.specs.declared.RoundMode.{RoundMode}
 use Rattle.round.specs.declared.RoundState.{RoundState}
-use Rattle.graphics.specs.State.{xAxis, yAxis, inRange, vectorInRange, vectorsInRange, usableState, freshState, withReferences, withLoopCounter, withPointers, withFacts, withVectors, withRound, allAlong, measuredAlong, movedAlong, inMode, withRounding}
+use Rattle.graphics.specs.State.{xAxis, yAxis, inRange, vectorInRange, vectorsInRange, usableState, freshState, withReferences, withLoopCounter, withPointers, withFacts, withVectors, withRound, allAlong, measuredAlong, movedAlong, inMode, withPush, withRounding}
 use Rattle.graphics.specs.declared.Vector.{Vector}
 use Rattle.graphics.specs.declared.References.{References}
 use Rattle.graphics.specs.declared.ZonePointers.{ZonePointers}
@@ -57,6 +58,10 @@ usable-loop s count = refl
 pub usable-rounding : (wrapped : Bool) (s : GraphicsState) → usableState (withRounding wrapped s) ≡ usableState s
 unfolding usableState withRounding
 usable-rounding wrapped s = refl
+
+pub usable-push : (value : ℤ) (s : GraphicsState) → usableState (withPush value s) ≡ usableState s
+unfolding usableState withPush
+usable-push value s = refl
 
 pub usable-pointers : (s : GraphicsState) (p : ZonePointers) → usableState (withPointers s p) ≡ usableState s
 unfolding usableState

@@ -17,6 +17,7 @@ use Rattle.graphics.specs.declared.ZonePointer.the-variants.{Twilight, G
 use Rattle.graphics.specs.declared.References.{References}
 use Rattle.graphics.specs.declared.ZonePointers.{ZonePointers}
 use Rattle.graphics.specs.declared.Facts.{Facts}
+use Rattle.graphics.specs.declared.Measures.{Measures}
 use Rattle.graphics.specs.declared.Tallies.{Tallies}
 use Rattle.graphics.specs.declared.GraphicsState.{GraphicsState}
 
@@ -104,6 +105,10 @@ unfoldable pub usableState : GraphicsState → Bool
 usableState s = vectorsInRange (s .vectors) && usable (s .round)
 
 -- ---- the state that a glyph starts with
+-- "older ones read as 64, 0, 0, yes, 0": document 02, K7
+abbrev pub freshMeasures : Measures
+freshMeasures = record { «cut_in» = pos 68; «minimum_distance» = pos 64; «single_width» = pos 0; «single_width_cut_in» = pos 0; «auto_flip» = true; scale = pos 0 }
+
 abbrev pub freshState : GraphicsState
 freshState = record {
   vectors = allAlong xAxis;
@@ -111,9 +116,9 @@ freshState = record {
   references = record { rp0 = 0; rp1 = 0; rp2 = 0 };
   «loop_counter» = 1;
   pointers = allZones Glyph;
-  measures = record { «cut_in» = pos 68 };
+  measures = freshMeasures;
   facts = allNo;
-  tallies = record { «wrapped_roundings» = 0 };
+  tallies = record { «wrapped_roundings» = 0; «last_pushed» = pos 0; pushes = 0 };
 }
 
 -- ---- one group set, every other kept
@@ -144,7 +149,14 @@ oneMore n = min (suc n) 4294967295
 
 abbrev pub countedIn : Bool → Tallies → Tallies
 countedIn false t = t
-countedIn true t = record { «wrapped_roundings» = oneMore (t .«wrapped_roundings») }
+countedIn true t = record { «wrapped_roundings» = oneMore (t .«wrapped_roundings»); «last_pushed» = t .«last_pushed»; pushes = t .pushes }
 
 unfoldable pub withRounding : Bool → GraphicsState → GraphicsState
 withRounding wrapped s = withTallies s (countedIn wrapped (s .tallies))
+
+-- ---- document 02, K7: a value pushed is the last one, and counted as far
+abbrev pub pushedOn : ℤ → Tallies → Tallies
+pushedOn value t = record { «wrapped_roundings» = t .«wrapped_roundings»; «last_pushed» = value; pushes = oneMore (t .pushes) }
+
+unfoldable pub withPush : ℤ → GraphicsState → GraphicsState
+withPush value s = withTallies s (pushedOn value (s .tallies))

@@ -7,7 +7,7 @@ use int::within;
 use round::RoundMode;
 use round::RoundState;
 ghost use mathlib.Core.Path.{_≡_};
-ghost use Rattle.graphics.specs.State.{xAxis, yAxis, allAlong, measuredAlong, movedAlong, inMode, rp0At, rp1At, rp2At, isTwilight, allZones, zp0In, zp1In, zp2In, allNo, markedX, markedY, pastBothIups, vectorInRange, vectorsInRange, usableState, freshState, withVectors, withRound, withReferences, withLoopCounter, withPointers, withFacts, oneMore, countedIn, withRounding};
+ghost use Rattle.graphics.specs.State.{xAxis, yAxis, allAlong, measuredAlong, movedAlong, inMode, rp0At, rp1At, rp2At, isTwilight, allZones, zp0In, zp1In, zp2In, allNo, markedX, markedY, pastBothIups, vectorInRange, vectorsInRange, usableState, freshState, withVectors, withRound, withReferences, withLoopCounter, withPointers, withFacts, oneMore, countedIn, withRounding, freshMeasures, pushedOn, withPush};
 
 // 1 as a 2.14 number: a vector on an axis has it, and no component lies beyond it.
 pub const ONE: i32 = 0x4000;
@@ -194,12 +194,36 @@ impl Facts {
 pub struct Measures {
     // Control value cut-in.
     pub cut_in: i32,
+    pub minimum_distance: i32,
+    pub single_width: i32,
+    pub single_width_cut_in: i32,
+    pub auto_flip: bool,
+    // Pixels to a font unit, as a 16.16 number.
+    pub scale: i32,
+}
+
+impl Measures {
+    pub fn fresh() -> Measures
+        ensures { λ r. ⌜ r ≡ freshMeasures ⌝ }
+    {
+        Measures {
+            cut_in: 68,
+            minimum_distance: 64,
+            single_width: 0,
+            single_width_cut_in: 0,
+            auto_flip: true,
+            scale: 0,
+        }
+    }
 }
 
 // What is counted since the state was made.
 pub struct Tallies {
     // Roundings in which some operation went past 32 bits.
     pub wrapped_roundings: u32,
+    // What was pushed last, and how often something was.
+    pub last_pushed: i32,
+    pub pushes: u32,
 }
 
 // A count goes as far as 32 bits do.
@@ -217,9 +241,22 @@ impl Tallies {
         if wrapped {
             Tallies {
                 wrapped_roundings: one_more(self.wrapped_roundings),
+                last_pushed: self.last_pushed,
+                pushes: self.pushes,
             }
         } else {
             self
+        }
+    }
+
+    // A value pushed, and counted.
+    pub fn with_push(self, value: i32) -> Tallies
+        ensures { λ r. ⌜ r ≡ pushedOn value self ⌝ }
+    {
+        Tallies {
+            wrapped_roundings: self.wrapped_roundings,
+            last_pushed: value,
+            pushes: one_more(self.pushes),
         }
     }
 }
@@ -249,6 +286,7 @@ impl GraphicsState {
             rp2: 0,
         };
         let pointers = ZonePointers::all_in(ZonePointer::Glyph);
+        let measures = Measures::fresh();
         let facts = Facts::all_no();
         GraphicsState {
             vectors,
@@ -256,10 +294,12 @@ impl GraphicsState {
             references,
             loop_counter: 1,
             pointers,
-            measures: Measures { cut_in: 68 },
+            measures,
             facts,
             tallies: Tallies {
                 wrapped_roundings: 0,
+                last_pushed: 0,
+                pushes: 0,
             },
         }
     }
@@ -397,6 +437,14 @@ impl GraphicsState {
         ensures { λ r. ⌜ r ≡ withRounding wrapped self ⌝ }
     {
         self.tallies = self.tallies.with_rounding(wrapped);
+        self
+    }
+
+    // A value pushed, and counted.
+    pub fn with_push(mut self, value: i32) -> GraphicsState
+        ensures { λ r. ⌜ r ≡ withPush value self ⌝ }
+    {
+        self.tallies = self.tallies.with_push(value);
         self
     }
 }

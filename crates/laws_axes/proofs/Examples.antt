@@ -14,7 +14,13 @@ use Rattle.line_iup.specs.Iup.{iupLineOf, markedFor}
 use Rattle.line_isect.specs.Isect.{isectOf, putTouched}
 use Rattle.line_steps.specs.Numbers.{fromOrigin, stepFrom}
 use Rattle.line_steps.specs.Steps.{controlAt, five as takeFive, laidIn, madeIn, moveIn, one, pointOr, roundedMoveIn, two}
-use Rattle.line.specs.Places.{fetchIn}
+use Rattle.line.specs.Places.{fetchIn, placeIn}
+use Rattle.line_distance.specs.Distance.{atLeast, finished, flippedOf, minimumOf, onSideOf, roundedUnless, singleControl, singleOutline}
+use Rattle.line_distance.specs.Outline.{originalsApart, outlineOf, unscaledApart}
+use Rattle.line_mdrp.specs.Mdrp.{mdrpDistance, mdrpOf}
+use Rattle.line_measure.specs.Measure.{gcOf}
+use Rattle.line_mirp.specs.Mirp.{controlBy, mirpDistance, mirpOf}
+use Rattle.line_relative.specs.Relative.{bothThere, relatedBy}
 use Rattle.opcodes.specs.Table.{lineOf, needOf, rowOf}
 use Rattle.flags.specs.Flag.{bit}
 use Rattle.run_lines.specs.Onward.{Ran, onCall, replayOf}
@@ -27,7 +33,7 @@ use Rattle.laws_axes.specs.Reached.{afterCall, linesReached, none, reach
 use Rattle.flags.specs.declared.Axis.{Axis}
 use Rattle.flags.specs.declared.Axis.the-variants.{X, Y}
 use Rattle.int.specs.Word.{abs32, add32, maxZ, minZ, mul32, neg32, quot32, sub32, wrap32}
-use Rattle.graphics.specs.State.{allAlong, freshState, usableState, vectorInRange, vectorsInRange, withRounding, withVectors, yAxis}
+use Rattle.graphics.specs.State.{allAlong, freshState, usableState, vectorInRange, vectorsInRange, withPush, withRounding, withVectors, yAxis}
 use Rattle.projection.specs.Projection.{alongOf, axisOf, freedomAxisBy, notSmall, rawFdotp}
 use Rattle.moves.specs.Apply.{applyIn, applyOf}
 use Rattle.line_set.specs.Setters.{axisBy, setBy, setOf, vectorsBy}
@@ -150,6 +156,30 @@ pub refused-second :
     RefusedSecond (runOf (held here heights) refusing 9 0 (start here heights)) × RefusedSecond (runOf (held there heights) refusing 9 0 (start there heights))
 unfolding runOf runOnEntry entryOf fits glyphFits twilightFits pairFits placedFits usableState vectorsInRange vectorInRange replayOf stepOf onDecoded onCall decodeOf decodeBy needOf lineOf rowOf setOf one two takeFive controlAt pointOr fetchIn madeIn moveIn laidIn applyIn putTouched outsideMdap miapOf mdapOf mdapDistance fromOrigin roundingStep grid alongOf axisOf rawFdotp notSmall fetchOf applyOf moveOf stepBy freedomAxisBy add32 sub32 neg32 abs32 wrap32 maxZ minZ multipleBelow inward outward plus negated pastBits roundedMoveIn stepFrom withRounding
 refused-second = ((refl, refl, refl, refl), (refl, refl, refl, refl))
+
+-- ---- a pair that measures
+-- MDRP of point 1 from point 0, rounded and no nearer than the minimum distance, MIRP of point 2 by no control value, and GC of point 1
+abbrev measuring : List ℤ
+measuring = pos 0xCC ∷ pos 1 ∷ pos 1 ∷ pos 0xE0 ∷ pos 2 ∷ negsuc 0 ∷ pos 2 ∷ pos 0x46 ∷ pos 1 ∷ pos 1 ∷ []
+
+pub reaches-measuring : (a : Axis) → linesReached (glyph a here) measuring 3 0 (begun a here) ≡ 0xCC ∷ 0xE0 ∷ 0x46 ∷ []
+unfolding linesReached reachedOnEntry reachedFrom afterCall entryOf fits glyphFits twilightFits pairFits placedFits usableState vectorsInRange vectorInRange stepOf onDecoded decodeOf decodeBy needOf lineOf rowOf setOf one two pointOr fetchIn placeIn madeIn moveIn laidIn applyIn fetchOf applyOf moveOf stepBy freedomAxisBy axisOf rawFdotp notSmall alongOf fromOrigin stepFrom roundedMoveIn withRounding withPush relatedBy bothThere controlBy mdrpOf mdrpDistance mirpOf mirpDistance gcOf outlineOf unscaledApart originalsApart singleOutline singleControl onSideOf flippedOf finished roundedUnless atLeast minimumOf mulDiv halfUp withSign grid inward outward plus negated pastBits multipleBelow add32 sub32 neg32 abs32 wrap32 maxZ minZ
+reaches-measuring X = refl
+reaches-measuring Y = refl
+
+pub measure-alike : SameVertically (runOf (glyph Y here) measuring 3 0 (begun Y here)) (runOf (glyph Y there) measuring 3 0 (begun Y there))
+measure-alike =
+    vertical-runs-agree (glyph Y here) (glyph Y there) measuring 3 0 (begun Y here) (begun Y there) differ-in-x refl (ap (none (mixes Y)) (reaches-measuring Y))
+
+-- what is pushed is among the state: the same of both, along either axis
+abbrev Measured : Axis → Ran → Type 0
+Measured a r =
+    (coordinates a (r .world) ≡ five (pos 40) (pos 104) (pos 40) (pos 64) (pos 0)) × (r .world .state .tallies .«last_pushed» ≡ pos 104) × (r .world .state .tallies .pushes ≡ 1)
+
+pub measured : (a : Axis) → Measured a (runOf (glyph a here) measuring 3 0 (begun a here)) × Measured a (runOf (glyph a there) measuring 3 0 (begun a there))
+unfolding runOf runOnEntry replayOf onCall entryOf fits glyphFits twilightFits pairFits placedFits usableState vectorsInRange vectorInRange stepOf onDecoded decodeOf decodeBy needOf lineOf rowOf setOf one two pointOr fetchIn placeIn madeIn moveIn laidIn applyIn fetchOf applyOf moveOf stepBy freedomAxisBy axisOf rawFdotp notSmall alongOf fromOrigin stepFrom roundedMoveIn withRounding withPush relatedBy bothThere controlBy mdrpOf mdrpDistance mirpOf mirpDistance gcOf outlineOf unscaledApart originalsApart singleOutline singleControl onSideOf flippedOf finished roundedUnless atLeast minimumOf mulDiv halfUp withSign grid inward outward plus negated pastBits multipleBelow add32 sub32 neg32 abs32 wrap32 maxZ minZ
+measured X = ((refl, refl, refl), (refl, refl, refl))
+measured Y = ((refl, refl, refl), (refl, refl, refl))
 
 -- ---- what stays across the axis
 -- MDAP[1] of point 0, then IUP[y]

@@ -18,7 +18,7 @@ use Rattle.laws_axes.specs.Axes.{Still, Straight, across, markAcross, ma
 use Rattle.flags.specs.declared.Axis.the-variants.{X, Y}
 use Rattle.flags.specs.declared.Axis.{Axis}
 use Rattle.graphics.proofs.Laws.{and-left}
-use Rattle.graphics.specs.State.{pastBothIups, withRounding}
+use Rattle.graphics.specs.State.{pastBothIups, withPush, withRounding}
 use Rattle.graphics.specs.declared.GraphicsState.{GraphicsState}
 use Rattle.graphics.specs.declared.Vector.{Vector}
 use Rattle.graphics.specs.declared.Vectors.{Vectors}
@@ -28,7 +28,9 @@ use Rattle.int.proofs.Tests.{either}
 use Rattle.laws_lines.proofs.Stays.{Stays, laid, made-state}
 use Rattle.line_iup.specs.Iup.{iupLineOf, markedFor, walkedIn}
 use Rattle.line_miap.specs.Numbers.{controlPlace}
-use Rattle.line_msirp.specs.Msirp.{madePlace, referencesAfter}
+use Rattle.line_mirp.specs.Mirp.{mirpPlace}
+use Rattle.line_msirp.specs.Msirp.{madePlace}
+use Rattle.line_relative.specs.Relative.{relatedBy}
 use Rattle.line_steps.specs.Steps.{flagsIn, inState, madeIn}
 use Rattle.moves.specs.Apply.{applyIn}
 use Rattle.moves.specs.Move.{moveOf, zp2MoveOf}
@@ -43,24 +45,26 @@ use Rattle.zone.specs.Zone.{changeAt, flipOf, marked, markedAt, onCurve, overPa
 abbrev pub VectorsOf : GraphicsState → World → Type 0
 VectorsOf s w = w .state .vectors ≡ s .vectors
 
-after-held : (s : GraphicsState) (op at : ℕ) → referencesAfter s op at .vectors ≡ s .vectors
-unfolding referencesAfter
-after-held s op at = either (λ (t : GraphicsState). t .vectors ≡ s .vectors) (isOdd op) refl refl
+related-held : (s : GraphicsState) (sets : Bool) (at : ℕ) → relatedBy sets at s .vectors ≡ s .vectors
+unfolding relatedBy
+related-held s sets at = either (λ (t : GraphicsState). t .vectors ≡ s .vectors) sets refl refl
 
 -- along the axis where they were
 pub stays-straight : (a : Axis) (u : World) → Stays (u .state) (λ _. Unit {0}) (λ (w : World). Straight a (u .state) → Straight a (w .state))
-unfolding withRounding
+unfolding withPush withRounding
 stays-straight a u = let s = u .state in record {
   by-distance = λ zone d at w k. k;
   by-shift = λ zone dx dy touches at w k. k;
   by-control = λ control at zone w k h. ap (λ (t : GraphicsState). t .vectors) (made-state at (controlPlace (s .vectors .freedom) control) w zone) ∙ k h;
   from-original = λ d at zone w k h. ap (λ (t : GraphicsState). t .vectors) (made-state at (madePlace (s .vectors) d (placeOf (w .tox) (w .toy) at)) w zone) ∙ k h;
+  from-reference = λ control reference at zone w k h. ap (λ (t : GraphicsState). t .vectors) (made-state at (mirpPlace (s .vectors .freedom) control reference) w zone) ∙ k h;
   flipped = λ at w k. k;
   ranged = λ start end on w k. k;
   both-set = λ at w r k. k;
-  three-set = λ op at w r e k h. after-held s op at ∙ h;
+  three-set = λ sets at w r k h. related-held (w .state) sets at ∙ k h;
   counted = λ w k. k;
   rounded = λ wrapped w k. k;
+  pushed = λ value w fits k. k;
 }
 
 marked-held : (s : GraphicsState) (op : ℕ) → markedFor s op .vectors ≡ s .vectors
@@ -149,12 +153,14 @@ stays-still a u s e = record {
   by-shift = λ zone dx dy touches at w k. laid-still a u zone (zp2MoveOf (s .vectors) (s .facts) dx dy touches) (inert-zp2 a (s .vectors) e (s .facts) dx dy touches) at w k;
   by-control = λ control at zone w k. made-still a u at (controlPlace (s .vectors .freedom) control) zone w k;
   from-original = λ d at zone w k. made-still a u at (madePlace (s .vectors) d (placeOf (w .tox) (w .toy) at)) zone w k;
+  from-reference = λ control reference at zone w k. made-still a u at (mirpPlace (s .vectors .freedom) control reference) zone w k;
   flipped = λ at w k. marks-still a u w (flip-still a (w .gflags) at) k;
   ranged = λ start end on w k. marks-still a u w (set-still a (w .gflags) start end on) k;
   both-set = λ at w r k. k;
-  three-set = λ op at w r g k. k;
+  three-set = λ sets at w r k. k;
   counted = λ w k. k;
   rounded = λ wrapped w k. k;
+  pushed = λ value w fits k. k;
 }
 
 -- ---- IUP along the axis

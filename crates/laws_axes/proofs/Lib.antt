@@ -3,6 +3,7 @@ pub mod Inert
 pub mod Steps
 pub mod Walk
 pub mod Lines
+pub mod Distances
 pub mod Held
 pub mod Table
 pub mod Opcodes

@@ -32,7 +32,8 @@ use Rattle.line_iup.specs.Iup.{iupLineOf, markedFor, walkedIn, withX, withY}
 use Rattle.line_mdap.specs.Mdap.{mdapDistance, mdapOf, outsideMdap, roundingStep, roundsIn}
 use Rattle.line_miap.specs.Miap.{miapOf}
 use Rattle.line_miap.specs.Numbers.{controlPlace, miapDistance}
-use Rattle.line_msirp.specs.Msirp.{bothThere, madePlace, movedPlace, msirpOf, referencesAfter}
+use Rattle.line_msirp.specs.Msirp.{madePlace, movedPlace, msirpOf}
+use Rattle.line_relative.specs.Relative.{bothThere, related}
 use Rattle.line_shc_shz.specs.Shc.{pointAfter, shcOf, shzOf}
 use Rattle.line_span.specs.Span.{pointsFrom, sameZone, shiftBut, spanIn}
 use Rattle.line_shift.specs.Shift.{pixelMove, shpOf, shpixOf}
@@ -62,7 +63,7 @@ both-set-seen : (a : Axis) (at : ℕ) (v w : World) → Alike a v w → Same a (
 both-set-seen a at v w e = ap (λ (x : World). doneIn (onBoth at x)) (e .seen)
 
 -- a distance between places that look alike
-project-alike : (a : Axis) (v : Vectors) → v ≡ allAlong (unitOf a) → (p q r s : Vector) → placeSeen a p ≡ placeSeen a q → placeSeen a r ≡ placeSeen a s → projectOf v p r ≡ projectOf v q s
+pub project-alike : (a : Axis) (v : Vectors) → v ≡ allAlong (unitOf a) → (p q r s : Vector) → placeSeen a p ≡ placeSeen a q → placeSeen a r ≡ placeSeen a s → projectOf v p r ≡ projectOf v q s
 project-alike a v e p q r s h k = sym (project-seen a v e p r) ∙ ap₂ (projectOf v) h k ∙ project-seen a v e q s
 
 -- ---- MDAP
@@ -100,7 +101,7 @@ y-put : (a : Axis) (ys : List ℤ) (at : ℕ) (p q : Vector) → placeSeen a p �
 y-put X ys at p q e = level-by (set ys at (p .y)) (set ys at (q .y)) (length-set ys at (p .y) ∙ sym (length-set ys at (q .y)))
 y-put Y ys at p q e = ap (λ (v : Vector). set ys at (v .y)) e
 
-made-alike : (a : Axis) (at : ℕ) (p q : Vector) (zone : ZonePointer) (w : World) → placeSeen a p ≡ placeSeen a q → worldSeen a (madeIn at p w zone) ≡ worldSeen a (madeIn at q w zone)
+pub made-alike : (a : Axis) (at : ℕ) (p q : Vector) (zone : ZonePointer) (w : World) → placeSeen a p ≡ placeSeen a q → worldSeen a (madeIn at p w zone) ≡ worldSeen a (madeIn at q w zone)
 unfolding madeIn
 made-alike a at p q Glyph w e = refl
 made-alike a at p q Twilight w e =
@@ -146,14 +147,19 @@ made-from-seen a v d at zone w =
           ∙ made-seen a at (madePlace v d p) zone (world-again a w) .seen;
     }
 
-both-there-seen : (a : Axis) (at : ℕ) (w : World) (rest rest' : Lined) → Same a rest rest' → (zone : ZonePointer) → Same a (bothThere at (worldSeen a w) rest zone) (bothThere at w rest' zone)
+-- what ends with the references set
+pub related-seen : (a : Axis) (sets : Bool) (at : ℕ) (v w : World) → Alike a v w → Same a (doneIn (related sets at v)) (doneIn (related sets at w))
+related-seen a sets at v w e = ap (λ (u : World). doneIn (related sets at u)) (e .seen)
+
+pub both-there-seen : (a : Axis) (at : ℕ) (w : World) (out out' : Refusal → Lined) (rest rest' : Lined) → ((why : Refusal) → Same a (out why) (out' why)) → Same a rest rest' → (zone : ZonePointer)
+    → Same a (bothThere at (worldSeen a w) out rest zone) (bothThere at w out' rest' zone)
 unfolding bothThere
-both-there-seen a at w rest rest' h Glyph =
+both-there-seen a at w out out' rest rest' o h Glyph =
     let same = world-again a w in
-    point-seen a _ _ _ _ (passed-seen a same) (λ p q k. point-seen a _ _ _ _ (passed-seen a same) (λ p q k. h) (w .state .pointers .zp0) (w .state .references .rp0) same) Glyph at same
-both-there-seen a at w rest rest' h Twilight =
+    point-seen a _ _ _ _ o (λ p q k. point-seen a _ _ _ _ o (λ p q k. h) (w .state .pointers .zp0) (w .state .references .rp0) same) Glyph at same
+both-there-seen a at w out out' rest rest' o h Twilight =
     let same = world-again a w in
-    point-seen a _ _ _ _ (passed-seen a same) (λ p q k. point-seen a _ _ _ _ (passed-seen a same) (λ p q k. h) Twilight at same) (w .state .pointers .zp0) (w .state .references .rp0) same
+    point-seen a _ _ _ _ o (λ p q k. point-seen a _ _ _ _ o (λ p q k. h) Twilight at same) (w .state .pointers .zp0) (w .state .references .rp0) same
 
 pub msirp-seen : (a : Axis) → LineSeen a msirpOf
 unfolding msirpOf
@@ -163,12 +169,12 @@ msirp-seen a f op operands w straight =
     two-seen a (world-again a w) operands _ _ λ distance point.
     let at = indexOf point in
     let made = made-from-seen a (s .vectors) distance at zone w in
-    let end : World → Lined = λ v. doneIn (inState v (referencesAfter s op at)) in
-    both-there-seen a at w _ _
+    let end : World → Lined = λ v. doneIn (related (isOdd op) at v) in
+    both-there-seen a at w _ _ _ _ (passed-seen a (world-again a w))
     (point-seen a _ _ _ _ (refused-seen a made)
     (λ p q h. point-seen a _ _ _ _ (refused-seen a made)
     (λ r t k. ap (λ (d : ℤ). linedSeen a (moveIn zone (sub32 distance d) at (madeIn at (madePlace (s .vectors) distance (placeOf (xSeen a (w .tox)) (ySeen a (w .toy)) at)) (worldSeen a w) zone) end)) (project-alike a (s .vectors) straight p q r t h k)
-    ∙ move-seen a end end (λ u v e. ap end (e .seen)) zone (sub32 distance (projectOf (s .vectors) q t)) at made)
+    ∙ move-seen a end end (related-seen a (isOdd op) at) zone (sub32 distance (projectOf (s .vectors) q t)) at made)
     (s .pointers .zp0) (s .references .rp0) made)
     zone at made)
     zone

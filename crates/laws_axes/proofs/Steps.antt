@@ -82,7 +82,7 @@ fetch-in-seen a Glyph at w = fetch-seen a (w .gx) (w .gy) at
 fetch-in-seen a Twilight at w = fetch-seen a (w .tx) (w .ty) at
 
 module _ (a : Axis) (out out' : Refusal → Lined) (rest rest' : Vector → Lined) (outside : (why : Refusal) → Same a (out why) (out' why)) (there : (p q : Vector) → placeSeen a p ≡ placeSeen a q → Same a (rest p) (rest' q)) where
-  by-fetched-seen : (g h : Fetched) → fetchedSeen a g ≡ fetchedSeen a h → Same a (byFetched out rest g) (byFetched out' rest' h)
+  pub by-fetched-seen : (g h : Fetched) → fetchedSeen a g ≡ fetchedSeen a h → Same a (byFetched out rest g) (byFetched out' rest' h)
   by-fetched-seen (At p) (At q) e = there p q (cc)
   by-fetched-seen (RefusedPlace why) (RefusedPlace why') e = outside why ∙ ap (λ (y : Refusal). linedSeen a (out' y)) (cc)
   by-fetched-seen (At p) (RefusedPlace why) e = let z : _≡_ {A = ℕ} 0 1 = cc in absurd (omega arith)

@@ -28,6 +28,7 @@ use Rattle.flags.specs.declared.Axis.the-variants.{X, Y}
 use Rattle.flags.specs.declared.Axis.{Axis}
 use Rattle.line.specs.World.{Fixed, Lined, World}
 use Rattle.laws_axes.specs.Axes.{Straight, fixedSeen, interpolatesAcross, linedSeen, mixes, turnsAcross, worldSeen}
+use Rattle.laws_axes.proofs.Distances.{gc-seen, md-seen, mdrp-seen, mirp-seen}
 use Rattle.laws_axes.proofs.Held.{StillSince, alongIs, iup-held, iup-still, stays-still, stays-straight}
 use Rattle.laws_axes.proofs.Inert.{stays}
 use Rattle.laws_axes.proofs.Lines.{alignrp-seen, flippt-seen, fliprg-seen, iup-seen, mdap-seen, miap-seen, msirp-seen, shc-seen, shp-seen, shpix-seen, shz-seen}
@@ -73,11 +74,15 @@ rows-seen a =
     ▸ (λ op h m f operands w s. alignrp-seen a f op operands w s)
     ▸ (λ op h. set-seen a op)
     ▸ (λ op h m f operands w s. miap-seen a f op operands w s)
+    ▸ (λ op h m f operands w s. gc-seen a f op operands w s)
+    ▸ (λ op h m f operands w s. md-seen a f op operands w s)
     ▸ (λ op h. set-seen a op)
     ▸ (λ op h. set-seen a op)
     ▸ (λ op h. set-seen a op)
     ▸ (λ op h m f operands w s. flippt-seen a f op operands w s)
     ▸ (λ op h m f operands w s. fliprg-seen a f op operands w s)
+    ▸ (λ op h m f operands w s. mdrp-seen a f op operands w s)
+    ▸ (λ op h m f operands w s. mirp-seen a f op operands w s)
     ▸ elsewhere (set-seen a)
 
 pub line-seen : (a : Axis) (f : Fixed) (op : ℕ) (operands : List ℤ) (w : World) → Straight a (w .state) → mixes a op ≡ false

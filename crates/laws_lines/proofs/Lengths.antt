@@ -6,7 +6,7 @@ use mathlib.Core.Path.{_≡_, refl, sym, _∙_}
 use lib.Bits.{bitOr, bitXor}
 use lib.IntN.{ℤ}
 use lib.ListN.{length, length-set}
-use Rattle.graphics.specs.State.{pastBothIups, withLoopCounter, withRounding}
+use Rattle.graphics.specs.State.{pastBothIups, withLoopCounter, withPush, withRounding}
 use Rattle.graphics.specs.declared.GraphicsState.{GraphicsState}
 use Rattle.graphics.specs.declared.Vector.{Vector}
 use Rattle.graphics.specs.declared.ZonePointer.the-variants.{Glyph, Twilight}
@@ -17,7 +17,9 @@ use Rattle.crossing.specs.Crossing.{crossingOf}
 use Rattle.line_isect.specs.Isect.{isectOf, putTouched}
 use Rattle.line_iup.specs.Iup.{iupLineOf, markedFor, walkedIn}
 use Rattle.line_miap.specs.Numbers.{controlPlace}
-use Rattle.line_msirp.specs.Msirp.{madePlace, referencesAfter}
+use Rattle.line_mirp.specs.Mirp.{mirpPlace}
+use Rattle.line_msirp.specs.Msirp.{madePlace}
+use Rattle.line_relative.specs.Relative.{relatedBy}
 use Rattle.line_steps.specs.Steps.{bothAt, flagsIn, inState, madeIn}
 use Rattle.moves.proofs.Keeps.{apply-lengths}
 use Rattle.moves.specs.Apply.{applyIn}
@@ -84,12 +86,14 @@ module _ (u : World) where
     by-shift = λ zone dx dy touches at w k. laid-kept zone (zp2MoveOf (s .vectors) (s .facts) dx dy touches) at w k;
     by-control = λ control at zone w k. made-kept at (controlPlace (s .vectors .freedom) control) zone w k;
     from-original = λ d at zone w k. made-kept at (madePlace (s .vectors) d (placeOf (w .tox) (w .toy) at)) zone w k;
+    from-reference = λ control reference at zone w k. made-kept at (mirpPlace (s .vectors .freedom) control reference) zone w k;
     flipped = λ at w k. flags-kept w (flipOf (w .gflags) at) (marked-length (λ (flag : ℕ). bitXor flag 1) (w .gflags) at) k;
     ranged = λ start end on w k. flags-kept w (setOnCurveOf (w .gflags) start end on) (set-on-curve-length (w .gflags) start end on) k;
     both-set = λ at w r k. in-state-kept w (bothAt at (w .state)) k;
-    three-set = λ op at w r e k. in-state-kept w (referencesAfter s op at) k;
+    three-set = λ sets at w r k. in-state-kept w (relatedBy sets at (w .state)) k;
     counted = λ w k. in-state-kept w (withLoopCounter (w .state) 1) k;
     rounded = λ wrapped w k. in-state-kept w (withRounding wrapped (w .state)) k;
+    pushed = λ value w fits k. in-state-kept w (withPush value (w .state)) k;
   }
 
 -- ---- the lines that do something else

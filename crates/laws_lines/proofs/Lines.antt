@@ -12,7 +12,10 @@ use Rattle.line_flip.specs.Flip.{flipptOf, fliprgOf}
 use Rattle.line_isect.specs.Isect.{isectOf}
 use Rattle.line_iup.specs.Iup.{iupLineOf}
 use Rattle.line_mdap.specs.Mdap.{mdapOf}
+use Rattle.line_mdrp.specs.Mdrp.{mdrpOf}
+use Rattle.line_measure.specs.Measure.{gcOf, mdOf}
 use Rattle.line_miap.specs.Miap.{miapOf}
+use Rattle.line_mirp.specs.Mirp.{mirpOf}
 use Rattle.line_msirp.specs.Msirp.{msirpOf}
 use Rattle.line_set.specs.Setters.{setBy, setOf}
 use Rattle.line_shc_shz.specs.Shc.{shcOf, shzOf}
@@ -26,7 +29,7 @@ use Rattle.laws_lines.proofs.Lengths.{Kept, in-state-kept, isect-kept, 
 use Rattle.laws_lines.proofs.Rows.{RowsHave, row-has, within}
 use Rattle.laws_lines.proofs.Rows.RowsHave.{_▸_, elsewhere}
 use Rattle.laws_lines.proofs.Usable.{isect-usable, iup-usable, set-usable, stays-usable}
-use Rattle.laws_lines.proofs.Stays.{Stays, alignrp-stays, flippt-stays, fliprg-stays, mdap-stays, miap-stays, msirp-stays, shc-stays, shp-stays, shpix-stays, shz-stays}
+use Rattle.laws_lines.proofs.Stays.{Stays, alignrp-stays, flippt-stays, fliprg-stays, gc-stays, md-stays, mdap-stays, mdrp-stays, miap-stays, mirp-stays, msirp-stays, shc-stays, shp-stays, shpix-stays, shz-stays}
 
 -- what holds of each word holds of each
 every-of : {P Q : ℤ → Type 0} → ((z : ℤ) → P z → Q z) → {zs : List ℤ} → Every P zs → Every Q zs
@@ -57,11 +60,15 @@ module _ (Word : ℤ → Type 0) (Refers : ℕ → Type 0) (refers : (z : ℤ) �
         ▸ (λ op h f operands w g o. alignrp-stays f op operands w (stays op f w g) (start op f w g))
         ▸ (λ op h. set op)
         ▸ (λ op h f operands w g o. miap-stays f op operands w (stays op f w g) (start op f w g) (every-of refers o))
+        ▸ (λ op h f operands w g o. gc-stays f op operands w (stays op f w g) (start op f w g) (every-of refers o))
+        ▸ (λ op h f operands w g o. md-stays f op operands w (stays op f w g) (start op f w g) (every-of refers o))
         ▸ (λ op h. set op)
         ▸ (λ op h. set op)
         ▸ (λ op h. set op)
         ▸ (λ op h f operands w g o. flippt-stays f op operands w (stays op f w g) (start op f w g))
         ▸ (λ op h f operands w g o. fliprg-stays f op operands w (stays op f w g) (start op f w g))
+        ▸ (λ op h f operands w g o. mdrp-stays f op operands w (stays op f w g) (start op f w g) (every-of refers o))
+        ▸ (λ op h f operands w g o. mirp-stays f op operands w (stays op f w g) (start op f w g) (every-of refers o))
         ▸ elsewhere set
 
     pub line-leaves : (op : ℕ) → Has op lineOf

@@ -1,20 +1,21 @@
 -- What a line does to a world is one of a few things at a time. What these leave as it is, every line leaves: `…-stays`, a law for each line, whatever it is that
 -- stays. Assumes nothing.
 use Prim.Native.Nat.{ℕ, suc, zero, _-_}
-use mathlib.Core.Bool.{Bool, cond, false, true, _&&_}
+use mathlib.Core.Bool.{Bool, _&&_, _||_, cond, false, true}
 use mathlib.Core.List.{List, [], _∷_}
 use mathlib.Core.Path.{_≡_, ap, refl, subst, sym, _∙_}
-use lib.Dec.{eqb, ltb}
+use lib.Dec.{eqb, leb, ltb}
 use lib.IntN.{ℤ, pos}
 use lib.ListN.{getD, length}
+use mir.Syntax.{w32}
+use mir.Val.{SFits}
 use Rattle.round.specs.declared.Tracked.{Tracked}
 use Rattle.answer.specs.declared.Call.the-variants.{Done, Refused}
 use Rattle.answer.specs.declared.Call.{Call}
-use Rattle.answer.specs.declared.Refusal.the-variants.{Contour}
+use Rattle.answer.specs.declared.Refusal.the-variants.{Contour, ControlValue}
 use Rattle.answer.specs.declared.Refusal.{Refusal}
-use Rattle.graphics.specs.State.{pastBothIups, rp0At, rp1At, rp2At, withLoopCounter, withReferences}
+use Rattle.graphics.specs.State.{isTwilight, pastBothIups, withLoopCounter}
 use Rattle.graphics.specs.declared.GraphicsState.{GraphicsState}
-use Rattle.graphics.specs.declared.References.{References}
 use Rattle.graphics.specs.declared.Vector.{Vector}
 use Rattle.graphics.specs.declared.ZonePointer.the-variants.{Glyph, Twilight}
 use Rattle.graphics.specs.declared.ZonePointer.{ZonePointer}
@@ -27,10 +28,16 @@ use Rattle.line_isect.specs.Isect.{isectOf, putTouched}
 use Rattle.line_mdap.specs.Mdap.{mdapOf, outsideMdap}
 use Rattle.line_miap.specs.Miap.{miapOf}
 use Rattle.line_miap.specs.Numbers.{controlPlace}
-use Rattle.line_msirp.specs.Msirp.{bothThere, madePlace, msirpOf, referencesAfter}
+use Rattle.line_distance.specs.Distance.{setsRp0, singleControl}
+use Rattle.line_mdrp.specs.Mdrp.{mdrpOf}
+use Rattle.line_measure.specs.Measure.{gcOf, mdOf, mdOriginal, originalOr, pushes, zeroOr}
+use Rattle.line_mirp.specs.Mirp.{controlBy, mirpOf, mirpPlace}
+use Rattle.line_msirp.specs.Msirp.{madePlace, msirpOf}
+use Rattle.line_relative.specs.Relative.{bothThere, related, relatedOr}
 use Rattle.line_shc_shz.specs.Shc.{shcOf, shzOf}
 use Rattle.line_span.specs.Span.{pointsFrom, sameZone, shiftBut, spanIn}
 use Rattle.line_shift.specs.Shift.{shpOf, shpixOf}
+use Rattle.line_steps.specs.Numbers.{fromOrigin}
 use Rattle.line_steps.specs.Steps.{byCall, byDisplaced, byFetched, controlAt, referenceIn, referenceMoved, doneIn, eachIn, first, five, flagsIn, inState, laidIn, looped, madeIn, moveIn, onBoth, one, passedOver, pointOr, shiftPoint, two, withPoints, roundedIn, roundedMoveIn}
 use Rattle.math.specs.Fixed.{mulFix14}
 use Rattle.moves.specs.Apply.{applyIn}
@@ -41,7 +48,7 @@ use Rattle.moves.specs.declared.Displaced.{Displaced}
 use Rattle.moves.specs.declared.Displacement.{Displacement}
 use Rattle.moves.specs.declared.Move.{Move}
 use Rattle.line.specs.Operands.{isOdd}
-use Rattle.line.specs.Places.{fetchIn, sizeOf}
+use Rattle.line.specs.Places.{fetchIn, placeIn, sizeOf}
 use Rattle.projection.specs.Projection.{projectOf}
 use Rattle.words.proofs.Widths.{Every}
 use Rattle.words.proofs.Widths.Every.{one-word}
@@ -50,6 +57,7 @@ use Rattle.zone.specs.Zone.{flipOf, placeOf, setOnCurveOf}
 use Rattle.zone.specs.declared.Fetched.the-variants.{At}
 use Rattle.zone.specs.declared.Fetched.the-variants.{Refused as RefusedPlace}
 use Rattle.zone.specs.declared.Fetched.{Fetched}
+use Rattle.laws_lines.proofs.Measures.{along-fits, none-fits, outline-fits}
 
 -- ---- the things that a line does
 -- a move laid on a point
@@ -61,18 +69,21 @@ pub record Stays (s : GraphicsState) (Refers : ℕ → Type 0) (P : World → Ty
   -- moves by a distance, and shifts
   pub by-distance : (zone : ZonePointer) (d : ℤ) (at : ℕ) (w : World) → P w → P (laid zone (moveOf (s .vectors) (s .facts) d) at w)
   pub by-shift : (zone : ZonePointer) (dx dy : ℤ) (touches : Bool) (at : ℕ) (w : World) → P w → P (laid zone (zp2MoveOf (s .vectors) (s .facts) dx dy touches) at w)
-  -- a twilight point made: by a control value, and from its own original
+  -- a twilight point made: by a control value, from its own original, and by a control value from another point's
   pub by-control : (control : ℤ) (at : ℕ) (zone : ZonePointer) (w : World) → P w → P (madeIn at (controlPlace (s .vectors .freedom) control) w zone)
   pub from-original : (d : ℤ) (at : ℕ) (zone : ZonePointer) (w : World) → P w → P (madeIn at (madePlace (s .vectors) d (placeOf (w .tox) (w .toy) at)) w zone)
+  pub from-reference : (control : ℤ) (reference : Vector) (at : ℕ) (zone : ZonePointer) (w : World) → P w → P (madeIn at (mirpPlace (s .vectors .freedom) control reference) w zone)
   -- flags
   pub flipped : (at : ℕ) (w : World) → P w → P (flagsIn w (flipOf (w .gflags) at) .world)
   pub ranged : (start end : ℕ) (on : Bool) (w : World) → P w → P (flagsIn w (setOnCurveOf (w .gflags) start end on) .world)
   -- the state: references that become a point's number or another reference, and the counter
   pub both-set : (at : ℕ) (w : World) → Refers at → P w → P (onBoth at w)
-  pub three-set : (op at : ℕ) (w : World) → Refers at → w .state ≡ s → P w → P (inState w (referencesAfter s op at))
+  pub three-set : (sets : Bool) (at : ℕ) (w : World) → Refers at → P w → P (related sets at w)
   pub counted : (w : World) → P w → P (inState w (withLoopCounter (w .state) 1))
   -- a rounding that went past 32 bits, or not
   pub rounded : (wrapped : Bool) (w : World) → P w → P (roundedIn wrapped w)
+  -- a word pushed
+  pub pushed : (value : ℤ) (w : World) → SFits w32 value → P w → P (pushes value w .world)
 
 -- ---- the steps of a line: what is left where they go on and where they don't
 module _ (P : World → Type 0) where
@@ -101,6 +112,11 @@ module _ (P : World → Type 0) where
   unfolding controlAt
   control-stays f entry w rest p h = either Left (ltb entry (length (f .controls))) (h (getD (f .controls) entry (pos 0))) p
 
+  control-by-stays : (f : Fixed) (next : ℕ) (out : Refusal → Lined) (rest : ℤ → Lined) → ((why : Refusal) → Left (out why)) → ((z : ℤ) → Left (rest z)) → Left (controlBy f next out rest)
+  unfolding controlBy
+  control-by-stays f next out rest o h =
+      either Left (eqb next 0) (h (pos 0)) (either Left (leb next (length (f .controls))) (h (getD (f .controls) (next - 1) (pos 0))) (o (ControlValue (next - 1))))
+
   by-fetched-stays : (out : Refusal → Lined) (rest : Vector → Lined) → ((why : Refusal) → Left (out why)) → ((place : Vector) → Left (rest place)) → (g : Fetched) → Left (byFetched out rest g)
   by-fetched-stays out rest o h (At place) = h place
   by-fetched-stays out rest o h (RefusedPlace why) = o why
@@ -108,6 +124,10 @@ module _ (P : World → Type 0) where
   point-stays : (zone : ZonePointer) (at : ℕ) (w : World) (out : Refusal → Lined) (rest : Vector → Lined) → ((why : Refusal) → Left (out why)) → ((place : Vector) → Left (rest place)) → Left (pointOr zone at w out rest)
   unfolding pointOr
   point-stays zone at w out rest o h = by-fetched-stays out rest o h (fetchIn at (w .gx) (w .gy) (w .tx) (w .ty) zone)
+
+  original-stays : (f : Fixed) (zone : ZonePointer) (at : ℕ) (w : World) (out : Refusal → Lined) (rest : Vector → Lined) → ((why : Refusal) → Left (out why)) → ((place : Vector) → Left (rest place)) → Left (originalOr f zone at w out rest)
+  unfolding originalOr
+  original-stays f zone at w out rest o h = by-fetched-stays out rest o h (fetchIn at (f .gox) (f .goy) (w .tox) (w .toy) zone)
 
   by-displaced-stays : (w : World) (rest : Displacement → Lined) → P w → ((d : Displacement) → Left (rest d)) → (d : Displaced) → Left (byDisplaced w rest d)
   by-displaced-stays w rest p h (By d) = h d
@@ -227,14 +247,10 @@ module _ {Refers : ℕ → Type 0} {P : World → Type 0} (f : Fixed) (op : ℕ)
         point-stays P zone at (madeIn at place w zone) _ _ (λ why. m) λ own.
         rounded-stays zone _ at (madeIn at place w zone) _ (made-state at place w zone, m) λ v q. stays .both-set at v refers q
 
-    both-there-stays : (at : ℕ) (rest : Lined) → Left P rest → (zone : ZonePointer) → Left P (bothThere at w rest zone)
+    both-there-stays : (at : ℕ) (out : Refusal → Lined) (rest : Lined) → ((why : Refusal) → Left P (out why)) → Left P rest → (zone : ZonePointer) → Left P (bothThere at w out rest zone)
     unfolding bothThere
-    both-there-stays at rest q Glyph =
-        point-stays P Glyph at w _ _ (λ why. passed-stays P w why p) λ _.
-        point-stays P (s .pointers .zp0) (s .references .rp0) w _ _ (λ why. passed-stays P w why p) λ _. q
-    both-there-stays at rest q Twilight =
-        point-stays P (s .pointers .zp0) (s .references .rp0) w _ _ (λ why. passed-stays P w why p) λ _.
-        point-stays P Twilight at w _ _ (λ why. passed-stays P w why p) λ _. q
+    both-there-stays at out rest o q Glyph = point-stays P Glyph at w _ _ o λ _. point-stays P (s .pointers .zp0) (s .references .rp0) w _ _ o λ _. q
+    both-there-stays at out rest o q Twilight = point-stays P (s .pointers .zp0) (s .references .rp0) w _ _ o λ _. point-stays P Twilight at w _ _ o λ _. q
 
     pub msirp-stays : Left P (msirpOf f op operands w)
     unfolding msirpOf
@@ -244,11 +260,78 @@ module _ {Refers : ℕ → Type 0} {P : World → Type 0} (f : Fixed) (op : ℕ)
         let zone = s .pointers .zp1 in
         let place = madePlace (s .vectors) distance (placeOf (w .tox) (w .toy) at) in
         let m = stays .from-original distance at zone w p in
-        both-there-stays at _
+        both-there-stays at _ _ (λ why. passed-stays P w why p)
         (point-stays P zone at (madeIn at place w zone) _ _ (λ why. m) λ here.
         point-stays P (s .pointers .zp0) (s .references .rp0) (madeIn at place w zone) _ _ (λ why. m) λ reference.
-        moved-stays zone _ at (madeIn at place w zone) _ (made-state at place w zone, m) λ v q. stays .three-set op at v refers (q .0) (q .1))
+        moved-stays zone _ at (madeIn at place w zone) _ (made-state at place w zone, m) λ v q. stays .three-set (isOdd op) at v refers (q .1))
         zone
+
+    related-or-stays : (sets : Bool) (at : ℕ) → Refers at → (why : Refusal) → Left P (relatedOr sets at w why)
+    unfolding relatedOr
+    related-or-stays sets at refers why = either (Left P) (s .facts .pedantic) p (stays .three-set sets at w refers p)
+
+    pub mdrp-stays : Left P (mdrpOf f op operands w)
+    unfolding mdrpOf
+    mdrp-stays =
+        one-stays P Operand operands w _ o p λ point refers.
+        let at = indexOf point in
+        point-stays P (s .pointers .zp1) at w _ _ (related-or-stays (setsRp0 op) at refers) λ place.
+        point-stays P (s .pointers .zp0) (s .references .rp0) w _ _ (related-or-stays (setsRp0 op) at refers) λ reference.
+        rounded-stays (s .pointers .zp1) _ at w _ (refl, p) λ v q. stays .three-set (setsRp0 op) at v refers q
+
+    pub mirp-stays : Left P (mirpOf f op operands w)
+    unfolding mirpOf
+    mirp-stays =
+        two-stays P Operand operands w _ o p λ entry point refers.
+        let at = indexOf point in
+        control-by-stays P f _ _ _ (related-or-stays (setsRp0 op) at refers) λ value.
+        let zone = s .pointers .zp1 in
+        let control = singleControl (s .measures .«single_width_cut_in») (s .measures .«single_width») value in
+        let reference = placeIn (s .references .rp0) (f .gox) (f .goy) (w .tox) (w .toy) (s .pointers .zp0) in
+        let place = mirpPlace (s .vectors .freedom) control reference in
+        let m = stays .from-reference control reference at zone w p in
+        both-there-stays at _ _ (related-or-stays (setsRp0 op) at refers)
+        (point-stays P zone at (madeIn at place w zone) _ _ (λ why. m) λ here.
+        point-stays P (s .pointers .zp0) (s .references .rp0) (madeIn at place w zone) _ _ (λ why. m) λ there.
+        rounded-stays zone _ at (madeIn at place w zone) _ (made-state at place w zone, m) λ v q. stays .three-set (setsRp0 op) at v refers q)
+        zone
+
+    -- ---- what is pushed is a word
+    pushes-stays : (value : ℤ) → SFits w32 value → Left P (pushes value w)
+    pushes-stays value fits = stays .pushed value w fits p
+
+    zero-stays : (why : Refusal) → Left P (zeroOr w why)
+    unfolding zeroOr
+    zero-stays why = either (Left P) (s .facts .pedantic) p (pushes-stays (pos 0) none-fits)
+
+    pub gc-stays : Left P (gcOf f op operands w)
+    unfolding gcOf fromOrigin
+    gc-stays =
+        one-stays P Operand operands w _ o p λ point refers.
+        let zone = s .pointers .zp2 in
+        either (Left P) (isOdd op)
+        (original-stays P f zone (indexOf point) w _ _ zero-stays λ place. pushes-stays _ (along-fits (s .vectors .dual) place _))
+        (point-stays P zone (indexOf point) w _ _ zero-stays λ place. pushes-stays _ (along-fits (s .vectors .projection) place _))
+
+    md-original-stays : (here there : ℕ) → Left P (mdOriginal f here there w)
+    unfolding mdOriginal
+    md-original-stays here there =
+        let zp0 = s .pointers .zp0 in
+        let zp1 = s .pointers .zp1 in
+        let measured = pushes-stays _ (outline-fits f w zp0 here zp1 there) in
+        either (Left P) (isTwilight zp0 || isTwilight zp1)
+        (original-stays P f zp0 here w _ _ zero-stays λ _. original-stays P f zp1 there w _ _ zero-stays λ _. measured)
+        (either (Left P) (s .facts .pedantic || (ltb here (length (f .gux)) && ltb there (length (f .gux)))) measured (pushes-stays (pos 0) none-fits))
+
+    pub md-stays : Left P (mdOf f op operands w)
+    unfolding mdOf
+    md-stays =
+        two-stays P Operand operands w _ o p λ from to refers.
+        either (Left P) (isOdd op)
+        (point-stays P (s .pointers .zp0) (indexOf to) w _ _ zero-stays λ here.
+        point-stays P (s .pointers .zp1) (indexOf from) w _ _ zero-stays λ there.
+        pushes-stays _ (along-fits (s .vectors .projection) here there))
+        (md-original-stays (indexOf to) (indexOf from))
 
   -- ---- the loops
   align-point-stays : (z : ℤ) (v : World) → Q v → Left Q (alignPoint z v)

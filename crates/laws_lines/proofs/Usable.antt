@@ -7,7 +7,7 @@ use mathlib.Core.Path.{_≡_, ap, refl, _∙_}
 use lib.Dec.{eqb, ltb}
 use lib.IntN.{pos, ℤ}
 use lib.Signed.{nonNeg}
-use Rattle.graphics.proofs.Laws.{usable-all-vectors, usable-facts, usable-freedom-vector, usable-loop, usable-pointers, usable-projection-vectors, usable-references, usable-round, usable-round-mode, x-in-range, y-in-range, usable-rounding}
+use Rattle.graphics.proofs.Laws.{usable-all-vectors, usable-facts, usable-freedom-vector, usable-loop, usable-pointers, usable-projection-vectors, usable-references, usable-round, usable-round-mode, x-in-range, y-in-range, usable-push, usable-rounding}
 use Rattle.graphics.specs.State.{pastBothIups, usableState, vectorInRange}
 use Rattle.graphics.specs.declared.GraphicsState.{GraphicsState}
 use Rattle.graphics.specs.declared.Vector.{Vector}
@@ -21,7 +21,9 @@ use Rattle.line.specs.declared.Stepped.{Stepped}
 use Rattle.line_isect.specs.Isect.{isectOf}
 use Rattle.line_iup.specs.Iup.{iupLineOf, markedFor, walkedIn}
 use Rattle.line_miap.specs.Numbers.{controlPlace}
-use Rattle.line_msirp.specs.Msirp.{madePlace, referencesAfter}
+use Rattle.line_mirp.specs.Mirp.{mirpPlace}
+use Rattle.line_msirp.specs.Msirp.{madePlace}
+use Rattle.line_relative.specs.Relative.{relatedBy}
 use Rattle.line_set.specs.Setters.{axisBy, loopBy, modeBy, onOperand, operandBy, pointerBy, referenceBy, setBy, takesOperand, vectorsBy, zoneBy}
 use Rattle.line.specs.Operands.{isOdd}
 use Rattle.round.specs.Round.{usableBy}
@@ -103,9 +105,9 @@ UsableAs s w = usableState (w .state) ≡ usableState s
 abbrev UsableSince : World → World → Type 0
 UsableSince u w = usableState (u .state) ≡ true → usableState (w .state) ≡ true
 
-after-usable : (s : GraphicsState) (op at : ℕ) → usableState (referencesAfter s op at) ≡ usableState s
-unfolding referencesAfter
-after-usable s op at = either (λ (t : GraphicsState). usableState t ≡ usableState s) (isOdd op) (usable-references s _) (usable-references s _)
+related-usable : (sets : Bool) (at : ℕ) (s : GraphicsState) → usableState (relatedBy sets at s) ≡ usableState s
+unfolding relatedBy
+related-usable sets at s = either (λ (t : GraphicsState). usableState t ≡ usableState s) sets (usable-references s _) (usable-references s _)
 
 pub stays-usable : (u : World) → Stays (u .state) (λ _. Unit {0}) (UsableSince u)
 stays-usable u = let s = u .state in record {
@@ -113,12 +115,14 @@ stays-usable u = let s = u .state in record {
   by-shift = λ zone dx dy touches at w k. k;
   by-control = λ control at zone w k h. ap usableState (made-state at (controlPlace (s .vectors .freedom) control) w zone) ∙ k h;
   from-original = λ d at zone w k h. ap usableState (made-state at (madePlace (s .vectors) d (placeOf (w .tox) (w .toy) at)) w zone) ∙ k h;
+  from-reference = λ control reference at zone w k h. ap usableState (made-state at (mirpPlace (s .vectors .freedom) control reference) w zone) ∙ k h;
   flipped = λ at w k. k;
   ranged = λ start end on w k. k;
   both-set = λ at w r k h. usable-references (w .state) _ ∙ k h;
-  three-set = λ op at w r e k h. after-usable s op at ∙ h;
+  three-set = λ sets at w r k h. related-usable sets at (w .state) ∙ k h;
   counted = λ w k h. usable-loop (w .state) 1 ∙ k h;
   rounded = λ wrapped w k h. usable-rounding wrapped (w .state) ∙ k h;
+  pushed = λ value w fits k h. usable-push value (w .state) ∙ k h;
 }
 
 isect-same : (f : Fixed) (op : ℕ) (operands : List ℤ) (w : World) → UsableAs (w .state) (isectOf f op operands w .world)

@@ -1,11 +1,16 @@
 -- What is read is written again: `words-kept` holds of every byte string that `readOf` keeps, whatever its edition: the state's words, completed where the
--- edition is older, and all that stood between them and the trailer. Of the newest edition it is the same bytes: `written-as-read`. Assumes nothing.
+-- edition is older, and all that stood between them and the trailer. Of the newest edition it is the same bytes: `written-as-read`. What older ones
+-- are completed with is in `count-of-1` and `older-measures`. Assumes nothing.
+use mathlib.Core.Bool.{true}
 use mathlib.Core.List.{List, [], _++_, append-nil}
-use mathlib.Core.Path.{_∙_, _≡_, ap, ap₂, refl, sym}
-use Prim.Native.Nat.{_%_, _*_, _+_, _-_, _<_, _^_, suc, ℕ}
+use mathlib.Core.Path.{_∙_, _≡_, ap, ap₂, refl, subst, sym}
+use Prim.Native.Nat.{_%_, _*_, _+_, _-_, _<_, _^_, suc, zero, ℕ}
 use native.Mathlib.Omega.{arith}
+use lib.IntN.{pos, ℤ}
 use lib.ListN.{drop, getD, length}
 use Rattle.graphics.specs.State.{freshState}
+use Rattle.graphics.specs.declared.GraphicsState.{GraphicsState}
+use Rattle.graphics.specs.declared.Measures.{Measures}
 use Rattle.int.specs.Word.{ofBits}
 use Rattle.state_words.specs.Words.{stateOf, stateSize, stateWords}
 use Rattle.state_words.proofs.Back.{cons, written-read}
@@ -31,6 +36,24 @@ all-kept bytes e = ap (λ (k : ℕ). part bytes 0 (keptBy k) ++ drop (keptBy k) 
 no-count : (bytes : List ℕ) → trailerWord bytes 5 ≡ 1 → stateOf (stateIn bytes) .tallies .«wrapped_roundings» ≡ 0
 unfolding stateOf stateWords
 no-count bytes e = ap (λ (k : ℕ). getD (part bytes 0 (keptBy k) ++ drop (keptBy k) (stateWords freshState)) 26 0) e
+
+-- "64, 0, 0, yes, 0", beside the cut-in
+abbrev olderMeasures : ℤ → Measures
+olderMeasures cut =
+    record { «cut_in» = cut; «minimum_distance» = pos 64; «single_width» = pos 0; «single_width_cut_in» = pos 0; «auto_flip» = true; scale = pos 0 }
+
+-- and nothing pushed: "0, 0"
+pub record Older (s : GraphicsState) : Type 0 where
+  pub measures : s .measures ≡ olderMeasures (s .measures .«cut_in»)
+  pub last-pushed : s .tallies .«last_pushed» ≡ pos 0
+  pub pushes : s .tallies .pushes ≡ 0
+
+older-state : (bytes : List ℕ) (k : ℕ) → k < edition → Older (stateOf (part bytes 0 (keptBy k) ++ drop (keptBy k) (stateWords freshState)))
+unfolding stateOf stateWords
+older-state bytes zero h = record { measures = refl; last-pushed = refl; pushes = refl }
+older-state bytes (suc zero) h = record { measures = refl; last-pushed = refl; pushes = refl }
+older-state bytes (suc (suc zero)) h = record { measures = refl; last-pushed = refl; pushes = refl }
+older-state bytes (suc (suc (suc k))) h = absurd (omega arith)
 
 zero-on : (k : ℕ) → k ≡ 0 + k
 zero-on k = omega arith
@@ -196,3 +219,9 @@ pub count-of-1 : (bytes : List ℕ) (h : Held) → readOf bytes ≡ Kept h → t
 count-of-1 bytes h e one =
     let r = sound-held bytes (openOf bytes) refl h e in
     ap (λ (g : Held). g .world .state .tallies .«wrapped_roundings») (sym (r .0)) ∙ no-count bytes one
+
+-- and no edition before the newest has a measure but the cut-in, or a push
+pub older-measures : (bytes : List ℕ) (h : Held) → readOf bytes ≡ Kept h → trailerWord bytes 5 < edition → Older (h .world .state)
+older-measures bytes h e older =
+    let r = sound-held bytes (openOf bytes) refl h e in
+    subst (λ (g : Held). Older (g .world .state)) (r .0) (older-state bytes (trailerWord bytes 5) older)

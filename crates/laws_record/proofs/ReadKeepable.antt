@@ -62,12 +62,13 @@ module _ (ws : List ℕ) (f : Words ws) where
   state-fits : StateInWidth (stateOf ws)
   unfolding stateOf
   state-fits = record {
-    signed = record { vectors = ((at 0, at 1), (at 2, at 3), (at 4, at 5)); round = (at 7, at 8, at 9); cut-in = at 25 };
+    signed = record { vectors = ((at 0, at 1), (at 2, at 3), (at 4, at 5)); round = (at 7, at 8, at 9); measures = record { cut-in = at 25; minimum-distance = at 27; single-width = at 28; single-width-cut-in = at 29; scale = at 31 }; last-pushed = at 32 };
     loop = words-at ws 16 f;
     rp0 = long 10 11;
     rp1 = long 12 13;
     rp2 = long 14 15;
     wrapped = words-at ws 26 f;
+    pushes = words-at ws 33 f;
   }
 
 -- ---- what lies in bytes is within its width, wherever it lies

@@ -63,8 +63,8 @@ trailer-words-fit l h =
     let c : l .twilight < 2 ^ 32 = omega arith in
     let d : l .controls < 2 ^ 32 = omega arith in
     let e : l .words < 2 ^ 32 = omega arith in
-    let two : edition < 2 ^ 32 = omega arith in
-    more a (more b (more c (more d (more e (more two (more (low-small (atTrailer l * 4)) none))))))
+    let newest : edition < 2 ^ 32 = omega arith in
+    more a (more b (more c (more d (more e (more newest (more (low-small (atTrailer l * 4)) none))))))
 
 words-fit : (h : Held) → Keepable h → Words (wordsOf h)
 words-fit h k =

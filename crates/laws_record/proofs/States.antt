@@ -50,9 +50,11 @@ unfolding isState stateWords
 state-is s =
     let p = s .pointers in
     let f = s .facts in
-    both (mode-fits (s .round .mode))
+    both
+    (both (mode-fits (s .round .mode))
     (both (zone-fits (p .zp0)) (both (zone-fits (p .zp1)) (both (zone-fits (p .zp2))
-    (both (fact-fits (f .«backward_compatibility»)) (both (fact-fits (f .pedantic)) (both (fact-fits (f .«native_clear_type_x»)) (both (fact-fits (f .«did_iup_x»)) (both (fact-fits (f .«did_iup_y»)) refl))))))))
+    (both (fact-fits (f .«backward_compatibility»)) (both (fact-fits (f .pedantic)) (both (fact-fits (f .«native_clear_type_x»)) (both (fact-fits (f .«did_iup_x»)) (both (fact-fits (f .«did_iup_y»)) refl)))))))))
+    (fact-fits (s .measures .«auto_flip»))
 
 -- ---- every word of a state is one of 32 bits
 mode-small : (m : RoundMode) → modeWord m < 2 ^ 32
@@ -79,6 +81,7 @@ state-words-fit s k =
     let n = k .signed in
     let v = n .vectors in
     let r = n .round in
+    let m = n .measures in
     let p = s .pointers in
     let f = s .facts in
     let q = s .references in
@@ -88,17 +91,25 @@ state-words-fit s k =
     (more (k .loop)
     (more (zone-small (p .zp0)) (more (zone-small (p .zp1)) (more (zone-small (p .zp2))
     (more (fact-small (f .«backward_compatibility»)) (more (fact-small (f .pedantic)) (more (fact-small (f .«native_clear_type_x»)) (more (fact-small (f .«did_iup_x»)) (more (fact-small (f .«did_iup_y»))
-    (more (bits-small (n .cut-in)) (more (k .wrapped) none))))))))))))))))))))))))))
+    (more (bits-small (m .cut-in)) (more (k .wrapped)
+    (more (bits-small (m .minimum-distance)) (more (bits-small (m .single-width)) (more (bits-small (m .single-width-cut-in)) (more (fact-small (s .measures .«auto_flip»)) (more (bits-small (m .scale))
+    (more (bits-small (n .last-pushed)) (more (k .pushes) none)))))))))))))))))))))))))))))))))
 
 -- ---- the fresh state's among them
 fresh-fits : StateInWidth freshState
 fresh-fits = record {
-  signed = record { vectors = ((sfits-lit tt, sfits-lit tt), (sfits-lit tt, sfits-lit tt), (sfits-lit tt, sfits-lit tt)); round = (sfits-lit tt, sfits-lit tt, sfits-lit tt); cut-in = sfits-lit tt };
+  signed = record {
+    vectors = ((sfits-lit tt, sfits-lit tt), (sfits-lit tt, sfits-lit tt), (sfits-lit tt, sfits-lit tt));
+    round = (sfits-lit tt, sfits-lit tt, sfits-lit tt);
+    measures = record { cut-in = sfits-lit tt; minimum-distance = sfits-lit tt; single-width = sfits-lit tt; single-width-cut-in = sfits-lit tt; scale = sfits-lit tt };
+    last-pushed = sfits-lit tt;
+  };
   loop = omega arith;
   rp0 = omega arith;
   rp1 = omega arith;
   rp2 = omega arith;
   wrapped = omega arith;
+  pushes = omega arith;
 }
 
 pub fresh-words : Words (stateWords freshState)

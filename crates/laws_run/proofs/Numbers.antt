@@ -93,7 +93,7 @@ abbrev pub atFirst : GraphicsState → World
 atFirst s = holding s heights (flags 1 1 1)
 
 -- a state with these vectors, references rp0, rp1 and rp2, and pedantic or not; the rest is fresh: Grid with 0, 0, 64, loop 1, all pointers glyph,
--- cut-in 68, all other facts no, no rounding counted
+-- cut-in 68, minimum distance 64, single width, its cut-in and the scale 0, auto flip, all other facts no, no rounding counted, nothing pushed
 abbrev pub stateWith : Vector → ℕ → ℕ → ℕ → Bool → GraphicsState
 stateWith v rp0 rp1 rp2 pedantic = record {
   vectors = record { projection = v; dual = v; freedom = v };
@@ -101,9 +101,9 @@ stateWith v rp0 rp1 rp2 pedantic = record {
   references = record { rp0 = rp0; rp1 = rp1; rp2 = rp2 };
   «loop_counter» = 1;
   pointers = record { zp0 = Glyph; zp1 = Glyph; zp2 = Glyph };
-  measures = record { «cut_in» = pos 68 };
+  measures = record { «cut_in» = pos 68; «minimum_distance» = pos 64; «single_width» = pos 0; «single_width_cut_in» = pos 0; «auto_flip» = true; scale = pos 0 };
   facts = record { «backward_compatibility» = false; pedantic = pedantic; «native_clear_type_x» = false; «did_iup_x» = false; «did_iup_y» = false };
-  tallies = record { «wrapped_roundings» = 0 };
+  tallies = record { «wrapped_roundings» = 0; «last_pushed» = pos 0; pushes = 0 };
 }
 
 -- SVTCA[y], MDAP[1] of point 0, IUP[y]

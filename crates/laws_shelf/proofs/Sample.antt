@@ -53,13 +53,15 @@ sample-keepable = record {
         signed = record {
           vectors = ((sfits-lit tt, sfits-lit tt), (sfits-lit tt, sfits-lit tt), (sfits-lit tt, sfits-lit tt));
           round = (sfits-lit tt, sfits-lit tt, sfits-lit tt);
-          cut-in = sfits-lit tt;
+          measures = record { cut-in = sfits-lit tt; minimum-distance = sfits-lit tt; single-width = sfits-lit tt; single-width-cut-in = sfits-lit tt; scale = sfits-lit tt };
+          last-pushed = sfits-lit tt;
         };
         loop = omega arith;
         rp0 = omega arith;
         rp1 = omega arith;
         rp2 = omega arith;
         wrapped = omega arith;
+        pushes = omega arith;
       };
       gx = zeros-fit;
       gy = heights-fit;

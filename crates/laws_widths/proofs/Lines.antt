@@ -2,12 +2,12 @@
 use Prim.Native.Nat.{ℕ, _<_, _^_}
 use mathlib.Core.Bool.{Bool, cond, false, true}
 use mathlib.Core.List.{List}
-use mathlib.Core.Path.{_≡_, subst}
+use mathlib.Core.Path.{_≡_}
 use native.Mathlib.Omega.{arith}
 use lib.IntN.{ℤ}
 use mir.Syntax.{w32}
 use mir.Val.{SFits}
-use Rattle.graphics.specs.State.{markedX, markedY, pastBothIups, withLoopCounter, withRounding}
+use Rattle.graphics.specs.State.{markedX, markedY, pastBothIups, withLoopCounter, withPush, withRounding}
 use Rattle.graphics.specs.declared.GraphicsState.{GraphicsState}
 use Rattle.graphics.specs.declared.Vector.{Vector}
 use Rattle.graphics.specs.declared.Vectors.{Vectors}
@@ -21,7 +21,9 @@ use Rattle.laws_lines.proofs.Stays.{Stays, isect-stays, laid}
 use Rattle.line_isect.specs.Isect.{isectOf, putTouched}
 use Rattle.line_iup.specs.Iup.{iupLineOf, markedFor, walkedIn}
 use Rattle.line_miap.specs.Numbers.{controlPlace}
-use Rattle.line_msirp.specs.Msirp.{madePlace, referencesAfter}
+use Rattle.line_mirp.specs.Mirp.{mirpPlace}
+use Rattle.line_msirp.specs.Msirp.{madePlace}
+use Rattle.line_relative.specs.Relative.{relatedBy}
 use Rattle.line_steps.specs.Loop.{points}
 use Rattle.line_steps.specs.Steps.{flagsIn, inState, madeIn}
 use Rattle.math.specs.Fixed.{mulFix14}
@@ -38,7 +40,7 @@ use Rattle.words.proofs.Widths.{Below, every-set}
 use Rattle.line.specs.World.{Fixed, Lined, World}
 use Rattle.zone.specs.Zone.{Marked, flipOf, placeOf, setOnCurveOf}
 use Rattle.laws_widths.proofs.Contours.{iup-fits}
-use Rattle.laws_widths.proofs.Setters.{references-fit, reset-fits, rp0-fits, rp1-fits, rp2-fits, with-facts-fits, with-references-fits, with-rounding-fits}
+use Rattle.laws_widths.proofs.Setters.{references-fit, reset-fits, rp0-fits, rp1-fits, rp2-fits, with-facts-fits, with-push-fits, with-references-fits, with-rounding-fits}
 use Rattle.laws_widths.proofs.Steps.{PointsFit, apply-fits, flip-fits, move-small, on-curve-fits, or-fits, place-fits, zp2-small}
 
 -- ---- moves
@@ -82,15 +84,19 @@ made-place-fits v d p f =
     by true z d h = add32-fits z d
     by false z d h = h
 
+mirp-place-fits : (freedom : Vector) (control : ℤ) (reference : Vector) → VectorFits (mirpPlace freedom control reference)
+unfolding mirpPlace
+mirp-place-fits freedom control reference = (add32-fits (reference .x) _, add32-fits (reference .y) _)
+
 -- ---- the state
 pub in-state-fits : (w : World) (s : GraphicsState) → StateInWidth s → InWidth w → InWidth (inState w s)
 in-state-fits w s f k = record { state = f; gx = k .gx; gy = k .gy; gflags = k .gflags; tox = k .tox; toy = k .toy; tx = k .tx; ty = k .ty; tflags = k .tflags }
 
-after-fits : (s : GraphicsState) → StateInWidth s → (op at : ℕ) → at < 2 ^ 64 → StateInWidth (referencesAfter s op at)
-unfolding referencesAfter
-after-fits s f op at h =
+related-fits : (s : GraphicsState) → StateInWidth s → (sets : Bool) (at : ℕ) → at < 2 ^ 64 → StateInWidth (relatedBy sets at s)
+unfolding relatedBy
+related-fits s f sets at h =
     let r = rp2-fits (rp1-fits (references-fit f) (s .references .rp0) (f .rp0)) at h in
-    either StateInWidth (isOdd op) (with-references-fits f _ (rp0-fits r at h)) (with-references-fits f _ r)
+    either StateInWidth sets (with-references-fits f _ (rp0-fits r at h)) (with-references-fits f _ r)
 
 -- ---- flags
 flags-fit : (w : World) (m : Marked) → Below 256 (m .flags) → InWidth w → InWidth (flagsIn w m .world)
@@ -103,12 +109,14 @@ stays-in-width s = record {
   by-shift = λ zone dx dy touches at w k. laid-fits zone (zp2MoveOf (s .vectors) (s .facts) dx dy touches) (zp2-small (s .vectors) (s .facts) dx dy touches) at w k;
   by-control = λ control at zone w k. made-fits at (controlPlace (s .vectors .freedom) control) (control-fits (s .vectors .freedom) control) zone w k;
   from-original = λ d at zone w k. made-fits at (madePlace (s .vectors) d (placeOf (w .tox) (w .toy) at)) (made-place-fits (s .vectors) d (placeOf (w .tox) (w .toy) at) (place-fits (k .tox) (k .toy) at)) zone w k;
+  from-reference = λ control reference at zone w k. made-fits at (mirpPlace (s .vectors .freedom) control reference) (mirp-place-fits (s .vectors .freedom) control reference) zone w k;
   flipped = λ at w k. flags-fit w (flipOf (w .gflags) at) (flip-fits (k .gflags) at) k;
   ranged = λ start end on w k. flags-fit w (setOnCurveOf (w .gflags) start end on) (on-curve-fits (k .gflags) start end on) k;
   both-set = λ at w h k. in-state-fits w _ (with-references-fits (k .state) _ (rp1-fits (rp0-fits (references-fit (k .state)) at h) at h)) k;
-  three-set = λ op at w h e k. in-state-fits w (referencesAfter s op at) (after-fits s (subst StateInWidth e (k .state)) op at h) k;
+  three-set = λ sets at w h k. in-state-fits w (relatedBy sets at (w .state)) (related-fits (w .state) (k .state) sets at h) k;
   counted = λ w k. in-state-fits w (withLoopCounter (w .state) 1) (reset-fits (k .state)) k;
   rounded = λ wrapped w k. in-state-fits w (withRounding wrapped (w .state)) (with-rounding-fits (k .state) wrapped) k;
+  pushed = λ value w fits k. in-state-fits w (withPush value (w .state)) (with-push-fits (k .state) fits) k;
 }
 
 -- ---- ISECT

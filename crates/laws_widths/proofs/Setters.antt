@@ -11,10 +11,11 @@ use lib.Signed.{mag, natAbs-le, nonNeg, quotZ}
 use mir.Facts.{fits-ofZ, sfits-lit}
 use mir.Syntax.{w32}
 use mir.Val.{SFits}
-use Rattle.graphics.specs.State.{allAlong, inMode, measuredAlong, movedAlong, rp0At, rp1At, rp2At, withFacts, withLoopCounter, withPointers, withReferences, withRound, withRounding, withVectors}
+use Rattle.graphics.specs.State.{allAlong, inMode, measuredAlong, movedAlong, rp0At, rp1At, rp2At, withFacts, withLoopCounter, withPointers, withPush, withReferences, withRound, withRounding, withVectors}
 use Rattle.graphics.specs.declared.Facts.{Facts}
 use Rattle.graphics.specs.declared.GraphicsState.{GraphicsState}
 use Rattle.graphics.specs.declared.References.{References}
+use Rattle.graphics.specs.declared.Tallies.{Tallies}
 use Rattle.graphics.specs.declared.Vectors.{Vectors}
 use Rattle.graphics.specs.declared.ZonePointer.the-variants.{Glyph, Twilight}
 use Rattle.graphics.specs.declared.ZonePointer.{ZonePointer}
@@ -30,7 +31,7 @@ use Rattle.round.specs.declared.RoundState.{RoundState}
 use Rattle.super_round.proofs.Facts.{period-most}
 use Rattle.super_round.specs.Selector.{gridPeriod, periodBy, phaseBy, stateBy, superOf, thresholdBy}
 use Rattle.line_set.specs.Setters.{axisBy, loopBy, modeBy, onOperand, operandBy, pointerBy, referenceBy, setBy, takesOperand, vectorsBy, zoneBy}
-use Rattle.state_words.proofs.Back.{RoundFits, VectorFits, VectorsFit}
+use Rattle.state_words.proofs.Back.{MeasuresFit, RoundFits, VectorFits, VectorsFit}
 use Rattle.words.proofs.Widths.{Numbers, every-at, no-word, one-word}
 use Rattle.laws_widths.proofs.Steps.{zero-fits}
 
@@ -47,37 +48,63 @@ pub record ReferencesFit (p : References) : Type 0 where
   pub rp1 : p .rp1 < 2 ^ 64
   pub rp2 : p .rp2 < 2 ^ 64
 
+record TalliesFit (t : Tallies) : Type 0 where
+  pub wrapped : t .«wrapped_roundings» < 2 ^ 32
+  pub last-pushed : SFits w32 (t .«last_pushed»)
+  pub pushes : t .pushes < 2 ^ 32
+
 -- a state by its groups
-by-groups : (t : GraphicsState) → VectorsFit (t .vectors) → RoundFits (t .round) → ReferencesFit (t .references) → t .«loop_counter» < 2 ^ 32 → SFits w32 (t .measures .«cut_in») → t .tallies .«wrapped_roundings» < 2 ^ 32 → StateInWidth t
-by-groups t v r p n c x = record { signed = record { vectors = v; round = r; cut-in = c }; loop = n; rp0 = p .rp0; rp1 = p .rp1; rp2 = p .rp2; wrapped = x }
+by-groups :
+    (t : GraphicsState) → VectorsFit (t .vectors) → RoundFits (t .round) → ReferencesFit (t .references) → t .«loop_counter» < 2 ^ 32 → MeasuresFit (t .measures) → TalliesFit (t .tallies)
+    → StateInWidth t
+by-groups t v r p n m x = record {
+  signed = record { vectors = v; round = r; measures = m; last-pushed = x .last-pushed };
+  loop = n;
+  rp0 = p .rp0;
+  rp1 = p .rp1;
+  rp2 = p .rp2;
+  wrapped = x .wrapped;
+  pushes = x .pushes;
+}
 
 module _ {s : GraphicsState} (f : StateInWidth s) where
   pub references-fit : ReferencesFit (s .references)
   references-fit = record { rp0 = f .rp0; rp1 = f .rp1; rp2 = f .rp2 }
 
+  tallies-fit : TalliesFit (s .tallies)
+  tallies-fit = record { wrapped = f .wrapped; last-pushed = f .signed .last-pushed; pushes = f .pushes }
+
   pub with-vectors-fits : (v : Vectors) → VectorsFit v → StateInWidth (withVectors s v)
-  with-vectors-fits v g = by-groups (withVectors s v) g (f .signed .round) references-fit (f .loop) (f .signed .cut-in) (f .wrapped)
+  with-vectors-fits v g = by-groups (withVectors s v) g (f .signed .round) references-fit (f .loop) (f .signed .measures) tallies-fit
 
   pub with-round-fits : (r : RoundState) → RoundFits r → StateInWidth (withRound s r)
-  with-round-fits r g = by-groups (withRound s r) (f .signed .vectors) g references-fit (f .loop) (f .signed .cut-in) (f .wrapped)
+  with-round-fits r g = by-groups (withRound s r) (f .signed .vectors) g references-fit (f .loop) (f .signed .measures) tallies-fit
 
   pub with-references-fits : (p : References) → ReferencesFit p → StateInWidth (withReferences s p)
-  with-references-fits p g = by-groups (withReferences s p) (f .signed .vectors) (f .signed .round) g (f .loop) (f .signed .cut-in) (f .wrapped)
+  with-references-fits p g = by-groups (withReferences s p) (f .signed .vectors) (f .signed .round) g (f .loop) (f .signed .measures) tallies-fit
 
   pub with-loop-fits : (count : ℕ) → count < 2 ^ 32 → StateInWidth (withLoopCounter s count)
-  with-loop-fits count h = by-groups (withLoopCounter s count) (f .signed .vectors) (f .signed .round) references-fit h (f .signed .cut-in) (f .wrapped)
+  with-loop-fits count h = by-groups (withLoopCounter s count) (f .signed .vectors) (f .signed .round) references-fit h (f .signed .measures) tallies-fit
 
   pub with-pointers-fits : (p : ZonePointers) → StateInWidth (withPointers s p)
-  with-pointers-fits p = by-groups (withPointers s p) (f .signed .vectors) (f .signed .round) references-fit (f .loop) (f .signed .cut-in) (f .wrapped)
+  with-pointers-fits p = by-groups (withPointers s p) (f .signed .vectors) (f .signed .round) references-fit (f .loop) (f .signed .measures) tallies-fit
 
   pub with-facts-fits : (b : Facts) → StateInWidth (withFacts s b)
-  with-facts-fits b = by-groups (withFacts s b) (f .signed .vectors) (f .signed .round) references-fit (f .loop) (f .signed .cut-in) (f .wrapped)
+  with-facts-fits b = by-groups (withFacts s b) (f .signed .vectors) (f .signed .round) references-fit (f .loop) (f .signed .measures) tallies-fit
 
   -- a count goes as far as 32 bits do
   pub with-rounding-fits : (wrapped : Bool) → StateInWidth (withRounding wrapped s)
   unfolding withRounding
-  with-rounding-fits false = by-groups (withRounding false s) (f .signed .vectors) (f .signed .round) references-fit (f .loop) (f .signed .cut-in) (f .wrapped)
-  with-rounding-fits true = by-groups (withRounding true s) (f .signed .vectors) (f .signed .round) references-fit (f .loop) (f .signed .cut-in) (omega arith)
+  with-rounding-fits false = by-groups (withRounding false s) (f .signed .vectors) (f .signed .round) references-fit (f .loop) (f .signed .measures) tallies-fit
+  with-rounding-fits true =
+      by-groups (withRounding true s) (f .signed .vectors) (f .signed .round) references-fit (f .loop) (f .signed .measures)
+      (record { wrapped = omega arith; last-pushed = f .signed .last-pushed; pushes = f .pushes })
+
+  pub with-push-fits : {value : ℤ} → SFits w32 value → StateInWidth (withPush value s)
+  unfolding withPush
+  with-push-fits {value} g =
+      by-groups (withPush value s) (f .signed .vectors) (f .signed .round) references-fit (f .loop) (f .signed .measures)
+      (record { wrapped = f .wrapped; last-pushed = g; pushes = omega arith })
 
   -- a loop that has ended
   pub reset-fits : StateInWidth (withLoopCounter s 1)

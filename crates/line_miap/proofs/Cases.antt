@@ -2,7 +2,7 @@
 use Prim.Native.Nat.{ℕ, _≤_, _<_}
 use mathlib.Core.Bool.{Bool}
 use mathlib.Core.List.{List}
-use mathlib.Core.Path.{_∙_, _≡_, ap, ap₂}
+use mathlib.Core.Path.{_≡_}
 use lib.IntN.{ℤ, pos}
 use lib.ListN.{getD, length}
 use Rattle.answer.specs.declared.Refusal.the-variants.{ControlValue, Missing}
@@ -22,7 +22,7 @@ use Rattle.zone.specs.declared.Fetched.the-variants.{At}
 use Rattle.zone.specs.declared.Fetched.the-variants.{Refused as RefusedPlace}
 use Rattle.zone.specs.declared.Fetched.{Fetched}
 use Rattle.line_miap.specs.Miap.{miapOf}
-use Rattle.line_miap.specs.Numbers.{chosenOf, controlPlace, miapDistance}
+use Rattle.line_miap.specs.Numbers.{controlPlace, miapDistance}
 
 -- ---- the line
 module _ (f : Fixed) (opcode : ℕ) (operands : List ℤ) (w : World) {r : Lined} where
@@ -55,7 +55,3 @@ module _ (f : Fixed) (opcode : ℕ) (operands : List ℤ) (w : World) {r : Lined
         (rw (← v, ← q)
         (point-there made (w .state .pointers .zp0) at _ _ e t
         (rw (← o, ← u, ← x) (rounded-by made (w .state .pointers .zp0) at _ d y m b p))))))
-
--- what is chosen, of numbers as they are read back
-pub near-by : {c c' k k' o o' r : ℤ} → r ≡ chosenOf c' k' o' → c' ≡ c → k' ≡ k → o' ≡ o → r ≡ chosenOf c k o
-near-by {o' = o'} er ec ek eo = er ∙ ap₂ (λ (c k : ℤ). chosenOf c k o') ec ek ∙ ap (chosenOf _ _) eo

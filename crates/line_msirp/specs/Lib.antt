@@ -1,2 +1,1 @@
 pub mod Msirp
-pub mod Steps

@@ -20,7 +20,8 @@ use line::place_at;
 use line::place_in;
 use line::put_at;
 use line::refused;
-use line::size_of;
+use line_relative::reach;
+use line_relative::settle_relative;
 use moves::apply_in;
 use moves::move_of;
 use moves::original_move_of;
@@ -37,43 +38,8 @@ ghost use Rattle.int.specs.Word.{add32, sub32};
 ghost use Rattle.projection.specs.Projection.{projectOf};
 ghost use Rattle.line.specs.World.{Fixed, World, lined, world};
 ghost use Rattle.zone.specs.Zone.{placeOf};
-ghost use Rattle.line_steps.specs.Steps.{byCall, doneIn, inState, into, madeIn, passedOver};
-ghost use Rattle.line_msirp.specs.Msirp.{madePlace, msirpOf, referencesAfter};
-ghost use Rattle.line_msirp.specs.Steps.{bothInside, reachOf};
-
-// ---- whether its two points are there
-// The first is looked at first.
-fn both_inside(first: u64, firsts: usize, second: u64, seconds: usize) -> Call
-    ensures { λ r. ⌜ r ≡ bothInside first firsts second seconds ⌝ }
-{
-    let i = first as usize;
-    let j = second as usize;
-    if firsts <= i {
-        return Call::Refused(Refusal::Point(first));
-    }
-    if seconds <= j {
-        return Call::Refused(Refusal::Point(second));
-    }
-    Call::Done
-}
-
-// rp0 is looked at first where the point is in twilight, else the point.
-fn reach(
-    zone: ZonePointer,
-    at: u64,
-    other: ZonePointer,
-    reference: u64,
-    glyph: usize,
-    twilight: usize,
-) -> Call
-    ensures { λ r. ⌜ r ≡ reachOf at other reference glyph twilight zone ⌝ }
-{
-    let others = size_of(other, glyph, twilight);
-    match zone {
-        ZonePointer::Glyph => both_inside(at, glyph, reference, others),
-        ZonePointer::Twilight => both_inside(reference, others, at, twilight),
-    }
-}
+ghost use Rattle.line_steps.specs.Steps.{inState, into, madeIn, passedOver};
+ghost use Rattle.line_msirp.specs.Msirp.{madePlace, msirpOf};
 
 // Where a point is outside, the line is refused if pedantic, else passed over.
 fn pass_over(s: GraphicsState, why: Refusal) -> Stepped
@@ -136,25 +102,6 @@ fn distance_left(v: Vectors, distance: i32, place: Vector, reference: Vector) ->
     wrapping_sub(distance, project(v, place, reference))
 }
 
-// rp1 and rp2 set, and rp0 by an odd opcode.
-fn references_after(s: GraphicsState, opcode: usize, at: u64) -> GraphicsState
-    ensures { λ r. ⌜ r ≡ referencesAfter s opcode at ⌝ }
-{
-    let references = s.references;
-    let t = s.with_rp1(references.rp0).with_rp2(at);
-    if is_odd(opcode) { t.with_rp0(at) } else { t }
-}
-
-// What the line comes to once the point was moved.
-fn settle_msirp(s: GraphicsState, opcode: usize, at: u64, call: Call) -> Stepped
-    ensures { λ r. ⌜ ((w : World) → into w r ≡ byCall (inState w s) (λ (v : World). doneIn (inState v (referencesAfter s opcode at))) call) ⌝ }
-{
-    match call {
-        Call::Done => done(references_after(s, opcode, at)),
-        Call::Refused(why) => refused(s, why),
-    }
-}
-
 // ---- the line
 // MSIRP: a distance, and the point, in zp1; rp0 is in zp0, and read after the point is made, since it may be the very point.
 pub fn msirp(
@@ -194,7 +141,7 @@ pub fn msirp(
             let by = distance_left(vectors, distance, place, reference);
             let m = move_of(vectors, s.facts, by);
             let call = apply_in(zp1, m, at, gx, gy, gflags, tx, ty, tflags);
-            settle_msirp(s, opcode, at, call)
+            settle_relative(s, is_odd(opcode), at, false, call)
         }
     }
 }

@@ -1,14 +1,14 @@
 -- The line of an opcode, for a `match` over numbers and ranges. At a number the table is computed; an opcode that is none of them, where they have the opcodes of
 -- every row that does more than set the state, sets the state. Assumes nothing.
 use Prim.Native.Nat.{ℕ, suc, _≤_, _<_}
-use mathlib.Core.Bool.{Bool, _&&_, _||_, cond, false, true}
+use mathlib.Core.Bool.{Bool, _&&_, _||_, cond, false, true, true≢false}
 use mathlib.Core.List.{List, [], _∷_}
 use mathlib.Core.Logic.{_⊎_, inl, inr}
 use mathlib.Core.Path.{_≡_, ap, refl, sym, _∙_}
-use native.Mathlib.Decide.{decLt}
+use native.Mathlib.Nat.{le-of-suc-le-suc}
 use native.Mathlib.Omega.{arith}
-use borrow.Author.Tests.{leb-true}
-use lib.Dec.{leb}
+use borrow.Author.Tests.{le-leb, leb-true, ltb-true}
+use lib.Dec.{leb, ltb}
 use lib.IntN.{ℤ}
 use Rattle.graphics.proofs.Laws.{and-left, and-right}
 use Rattle.int.proofs.Tests.{either}
@@ -16,7 +16,38 @@ use Rattle.line_set.specs.Setters.{setOf}
 use Rattle.line.specs.World.{Fixed, Lined, World}
 use Rattle.opcodes.specs.Table.{Line, Row, has, lineOf, rowIn, rowOf, rows}
 
--- ---- at a number, or at one of two
+-- ---- at a number, or in a range within one row
+-- the row that has a range's first number has its last too, and the rows before it stand below
+abbrev pub InOne : List Row → ℕ → ℕ → Bool
+InOne [] first last = false
+InOne (r ∷ more) first last = cond (has r first) (leb last (r .last)) (ltb (r .last) first && InOne more first last)
+
+-- a number of the range
+module _ (opcode first last : ℕ) (h : first ≤ opcode) (k : opcode ≤ last) where
+  has-too : (r : Row) → has r first ≡ true → leb last (r .last) ≡ true → has r opcode ≡ true
+  has-too r e t =
+      let low = leb-true (r .first) first (and-left (leb (r .first) first) (leb first (r .last)) e) in
+      let high = leb-true last (r .last) t in
+      rw (le-leb (r .first) opcode (omega arith), le-leb opcode (r .last) (omega arith))
+
+  passes : (r : Row) → ltb (r .last) first ≡ true → has r opcode ≡ true → ⊥
+  passes r t e =
+      let below = ltb-true (r .last) first t in
+      let high = leb-true opcode (r .last) (and-right (leb (r .first) opcode) (leb opcode (r .last)) e) in
+      omega arith
+
+  by-tests : (r p q : Row) (rest a b : Bool) → has r first ≡ a → has r opcode ≡ b → cond a (leb last (r .last)) (ltb (r .last) first && rest) ≡ true → (rest ≡ true → p ≡ q)
+      → cond b r p ≡ cond a r q
+  by-tests r p q rest true true e d t same = refl
+  by-tests r p q rest true false e d t same = absurd (true≢false (sym (has-too r e t) ∙ d))
+  by-tests r p q rest false true e d t same = absurd (passes r (and-left (ltb (r .last) first) rest t) d)
+  by-tests r p q rest false false e d t same = same (and-right (ltb (r .last) first) rest t)
+
+  same-row : (rs : List Row) → InOne rs first last ≡ true → rowIn rs opcode ≡ rowIn rs first
+  same-row [] t = refl
+  same-row (r ∷ more) t =
+      by-tests r (rowIn more opcode) (rowIn more first) (InOne more first last) (has r first) (has r opcode) refl refl t (same-row more)
+
 module _ (f : Fixed) (opcode : ℕ) (operands : List ℤ) (w : World) {r : Lined} where
   by-line : (line : Line) → rowIn rows opcode .line ≡ line → r ≡ line f opcode operands w → r ≡ lineOf f opcode operands w
   unfolding lineOf rowOf
@@ -25,13 +56,10 @@ module _ (f : Fixed) (opcode : ℕ) (operands : List ℤ) (w : World) {r : Lined
   pub at-number : (n : ℕ) → opcode ≡ n → r ≡ rowIn rows n .line f opcode operands w → r ≡ lineOf f opcode operands w
   at-number n e = by-line (rowIn rows n .line) (ap (λ (m : ℕ). rowIn rows m .line) e)
 
-  pub at-two : (n : ℕ) → n ≤ opcode → opcode < suc (suc n) → rowIn rows (suc n) .line ≡ rowIn rows n .line → r ≡ rowIn rows n .line f opcode operands w
+  pub at-range : (first last : ℕ) → first ≤ opcode → opcode < suc last → InOne rows first last ≡ true → r ≡ rowIn rows first .line f opcode operands w
       → r ≡ lineOf f opcode operands w
-  at-two n h k same q =
-      elim (decLt opcode (suc n)) [
-        | yes less ↦ let e : opcode ≡ n = omega arith in at-number n e q
-        | no more ↦ let e : opcode ≡ suc n = omega arith in by-line (rowIn rows n .line) (ap (λ (m : ℕ). rowIn rows m .line) e ∙ same) q
-      ]
+  at-range first last h k t =
+      by-line (rowIn rows first .line) (ap (λ (row : Row). row .line) (same-row opcode first last h (le-of-suc-le-suc k) rows t))
 
 -- ---- at none of them
 -- the numbers, the last first, as a `match` says it

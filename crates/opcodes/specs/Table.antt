@@ -1,5 +1,5 @@
 -- The table of opcodes: what each opcode's line takes, and what it does. Document 01, "A sheet and its lines", and document 02, K1 (0x34 to 0x38, 0x81,
--- 0x82) and K2 (0x76, 0x77). Assumes nothing.
+-- 0x82), K2 (0x76, 0x77) and K7 (0x46, 0x47, 0x49, 0x4A, from 0xC0 on). Assumes nothing.
 use Prim.Native.Nat.{ℕ, suc, zero}
 use mathlib.Core.Bool.{Bool, _&&_, cond}
 use mathlib.Core.List.{List, [], _∷_}
@@ -10,7 +10,10 @@ use Rattle.line_flip.specs.Flip.{flipptOf, fliprgOf}
 use Rattle.line_isect.specs.Isect.{isectOf}
 use Rattle.line_iup.specs.Iup.{iupLineOf}
 use Rattle.line_mdap.specs.Mdap.{mdapOf}
+use Rattle.line_mdrp.specs.Mdrp.{mdrpOf}
+use Rattle.line_measure.specs.Measure.{gcOf, mdOf}
 use Rattle.line_miap.specs.Miap.{miapOf}
+use Rattle.line_mirp.specs.Mirp.{mirpOf}
 use Rattle.line_msirp.specs.Msirp.{msirpOf}
 use Rattle.line_set.specs.Setters.{setOf}
 use Rattle.line_shc_shz.specs.Shc.{shcOf, shzOf}
@@ -71,11 +74,15 @@ rows =
     ∷ row 0x3C 0x3C AsLooped alignrpOf  -- ALIGNRP
     ∷ row 0x3D 0x3D (Exactly 0) setOf  -- RTDG
     ∷ row 0x3E 0x3F (Exactly 2) miapOf  -- MIAP
+    ∷ row 0x46 0x47 (Exactly 1) gcOf  -- GC
+    ∷ row 0x49 0x4A (Exactly 2) mdOf  -- MD
     ∷ row 0x76 0x77 (Exactly 1) setOf  -- SROUND, S45ROUND
     ∷ row 0x7A 0x7A (Exactly 0) setOf  -- ROFF
     ∷ row 0x7C 0x7D (Exactly 0) setOf  -- RUTG, RDTG
     ∷ row 0x80 0x80 AsLooped flipptOf  -- FLIPPT
     ∷ row 0x81 0x82 (Exactly 2) fliprgOf  -- FLIPRGON, FLIPRGOFF
+    ∷ row 0xC0 0xDF (Exactly 1) mdrpOf  -- MDRP
+    ∷ row 0xE0 0xFF (Exactly 2) mirpOf  -- MIRP
     ∷ []
 
 -- ---- an opcode's row

@@ -1,4 +1,4 @@
--- A record: its edition, its limits, and where each list lies, counted in words from its first: document 02, K4 and K5. Assumes nothing.
+-- A record: its edition, its limits, and where each list lies, counted in words from its first: document 02, K4, K5 and K7. Assumes nothing.
 use Prim.Native.Nat.{ℕ, zero, suc, _+_, _*_}
 use mathlib.Core.List.{List, [], _∷_}
 use lib.ListN.{getD}
@@ -8,7 +8,7 @@ use Rattle.record_layout.specs.declared.Layout.{Layout}
 -- ---- the numbers of a record
 -- the newest edition, which is written
 abbrev pub edition : ℕ
-edition = 2
+edition = 3
 
 -- 24 KiB
 abbrev pub mostBytes : ℕ

@@ -1,4 +1,4 @@
-// Where the lists of a record lie: document 02, K4 and K5.
+// Where the lists of a record lie: document 02, K4, K5 and K7.
 //
 // A record is little-endian words: the state, fifteen lists, and a trailer of eight words. The places follow from the counts; edition, limits and order
 // stand here once, as constants and as definitions of specs/Order.antt, and nothing that reads or writes a record names a place itself.
@@ -7,7 +7,7 @@ ghost use Rattle.record_layout.specs.Order.{countOf, listPlace, atTraile
 ghost use Rattle.record_layout.specs.Steps.{capped};
 
 // The newest edition, which is written.
-pub const EDITION: u32 = 2;
+pub const EDITION: u32 = 3;
 
 // 24 KiB.
 pub const MOST_BYTES: usize = 24576;

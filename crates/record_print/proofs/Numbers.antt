@@ -10,7 +10,7 @@ use Rattle.record_print.specs.Text.{decimal, signedDecimal}
 
 -- what document 01's whole run says
 abbrev wholeRun : Replayed
-wholeRun = record { number = 0; place = 7; lines = 3; detail = 0; size = 256; layout = layout 27 3 1 0 0 7 }
+wholeRun = record { number = 0; place = 7; lines = 3; detail = 0; size = 284; layout = layout 34 3 1 0 0 7 }
 
 -- the text on the left is the bytes on the right
 pub record Row : Type 0 where

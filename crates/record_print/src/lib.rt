@@ -28,8 +28,8 @@ ghost use Rattle.record_print.specs.Steps.{endedBy, Put};
 // No text is longer: 872 points, each a line of 28 bytes at most, and the answer's line of 74.
 pub const TEXT_ROOM: usize = 24576;
 
-// 24 KiB, and the word of the state that a record of edition 1 gains.
-const RECORD_ROOM: usize = 24580;
+// 24 KiB, and the eight words of the state that a record of edition 1 gains.
+const RECORD_ROOM: usize = 24608;
 
 // ---- a number
 // Below, `at` is the place where a piece of the text begins, and the answer the place behind it.

@@ -12,24 +12,27 @@ use Rattle.state_words.specs.Words.{stateSize, stateWords, written}
 use Rattle.words.specs.Lists.{part}
 use Rattle.record_read.specs.Read.{keptBy, keptIn, stateIn, trailerWord}
 
-pub none-kept : (e : ℕ) → (e ≡ 1 → ⊥) → (e ≡ 2 → ⊥) → 0 ≡ keptBy e
-none-kept zero a b = refl
-none-kept (suc zero) a b = absurd (a refl)
-none-kept (suc (suc zero)) a b = absurd (b refl)
-none-kept (suc (suc (suc e))) a b = refl
+pub none-kept : (e : ℕ) → (e ≡ 1 → ⊥) → (e ≡ 2 → ⊥) → (e ≡ 3 → ⊥) → 0 ≡ keptBy e
+none-kept zero a b c = refl
+none-kept (suc zero) a b c = absurd (a refl)
+none-kept (suc (suc zero)) a b c = absurd (b refl)
+none-kept (suc (suc (suc zero))) a b c = absurd (c refl)
+none-kept (suc (suc (suc (suc e)))) a b c = refl
 
 pub kept-most : (e : ℕ) → keptBy e ≤ stateSize
 kept-most zero = omega arith
 kept-most (suc zero) = omega arith
 kept-most (suc (suc zero)) = omega arith
-kept-most (suc (suc (suc e))) = omega arith
+kept-most (suc (suc (suc zero))) = omega arith
+kept-most (suc (suc (suc (suc e)))) = omega arith
 
 -- an edition that there is keeps 26 at least
 pub kept-some : (e : ℕ) → 0 < keptBy e → 26 ≤ keptBy e
 kept-some zero h = omega (arith, h)
 kept-some (suc zero) h = omega arith
 kept-some (suc (suc zero)) h = omega arith
-kept-some (suc (suc (suc e))) h = omega (arith, h)
+kept-some (suc (suc (suc zero))) h = omega arith
+kept-some (suc (suc (suc (suc e)))) h = omega (arith, h)
 
 -- ---- the words that were read over the first of the fresh state's
 pub all-fresh : (words : List ℕ) {after : List ℕ} → length words ≡ stateSize → after ≡ written freshState words → after ≡ stateWords freshState

@@ -14,6 +14,7 @@ pub record StateInWidth (s : GraphicsState) : Type 0 where
   pub rp1 : s .references .rp1 < 2 ^ 64
   pub rp2 : s .references .rp2 < 2 ^ 64
   pub wrapped : s .tallies .«wrapped_roundings» < 2 ^ 32
+  pub pushes : s .tallies .pushes < 2 ^ 32
 
 -- what lines change
 pub record InWidth (w : World) : Type 0 where

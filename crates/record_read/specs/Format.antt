@@ -1,4 +1,4 @@
--- The record on the shelf: document 02, K4 and K5. `recordOf` is the byte string that is written for what is held. Assumes nothing.
+-- The record on the shelf: document 02, K4, K5 and K7. `recordOf` is the byte string that is written for what is held. Assumes nothing.
 use Prim.Native.Nat.{ℕ, _*_, _%_, _^_}
 use mathlib.Core.List.{List, [], _∷_, _++_}
 use lib.IntN.{ℤ}

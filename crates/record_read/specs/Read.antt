@@ -1,4 +1,4 @@
--- What a byte string holds, or why it is refused: document 02, K4 and K5. `readOf` answers for every byte string. Assumes nothing.
+-- What a byte string holds, or why it is refused: document 02, K4, K5 and K7. `readOf` answers for every byte string. Assumes nothing.
 use Prim.Native.Nat.{ℕ, _+_, _-_, _*_, _/_, _%_}
 use mathlib.Core.Bool.{Bool, cond, _&&_}
 use mathlib.Core.List.{List, [], _∷_, _++_}
@@ -26,9 +26,10 @@ wordCount bytes = length bytes / 4
 abbrev pub trailerWord : List ℕ → ℕ → ℕ
 trailerWord bytes k = word bytes ((wordCount bytes - trailerSize) + k)
 
--- how many words of the state an edition keeps, by its number; none of one that there isn't: K4's 26, and "one more" since K5
+-- how many words of the state an edition keeps, by its number; none of one that there isn't: K4's 26, "one more" since K5, and seven more
+-- since K7
 abbrev pub keptBy : ℕ → ℕ
-keptBy e = getD (0 ∷ 26 ∷ 27 ∷ []) e 0
+keptBy e = getD (0 ∷ 26 ∷ 27 ∷ 34 ∷ []) e 0
 
 abbrev pub keptIn : List ℕ → ℕ
 keptIn bytes = keptBy (trailerWord bytes 5)
@@ -55,7 +56,8 @@ trailerFits bytes l =
 abbrev pub framed : List ℕ → Bool
 framed bytes = lengthFits bytes && countsFit (layoutOf bytes) && trailerFits bytes (layoutOf bytes)
 
--- the words of the state: "the new reader takes edition 1 with the count 0", which is the fresh state's, as is whatever a later edition adds
+-- the words of the state: "the new reader takes edition 1 with the count 0", and older ones than 3 "read as 64, 0, 0, yes, 0, 0, 0": the fresh state's,
+-- as is whatever a later edition adds
 abbrev pub stateIn : List ℕ → List ℕ
 stateIn bytes = part bytes 0 (keptIn bytes) ++ drop (keptIn bytes) (stateWords freshState)
 

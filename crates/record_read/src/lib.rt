@@ -1,4 +1,4 @@
-// The record on the shelf, editions 1 and 2: document 02, K4 and K5. A record is little-endian words: the state, the lists, and a trailer of eight words that is
+// The record on the shelf, editions 1, 2 and 3: document 02, K4, K5 and K7. A record is little-endian words: the state, the lists, and a trailer of eight words that is
 // read from the end.
 //
 // `open` says for every byte string whether it is a record and how its lists lie, or why it is refused: one equation with `openOf` of
@@ -93,6 +93,7 @@ fn kept_by(edition: u32) -> u32
     match edition {
         1 => 26,
         2 => 27,
+        3 => 34,
         _ => 0,
     }
 }

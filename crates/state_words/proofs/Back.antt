@@ -15,6 +15,7 @@ use lib.IntN.{ℤ}
 use Rattle.round.specs.declared.RoundMode.the-variants.{DoubleGrid, DownToGrid, Grid, HalfGrid, Off, Super, Super45, UpToGrid}
 use Rattle.graphics.specs.declared.ZonePointer.the-variants.{Glyph, Twilight}
 use Rattle.graphics.specs.declared.GraphicsState.{GraphicsState}
+use Rattle.graphics.specs.declared.Measures.{Measures}
 use Rattle.round.specs.declared.RoundMode.{RoundMode}
 use Rattle.round.specs.declared.RoundState.{RoundState}
 use Rattle.graphics.specs.declared.Vector.{Vector}
@@ -25,7 +26,7 @@ use Rattle.int.specs.Word.{bitsOf, ofBits}
 use Rattle.words.specs.Lists.{allAtMost}
 use Rattle.state_words.specs.Words.{factOf, factWord, isState, modeOf, modeWord, stateOf, stateSize, stateWords, stateWord, zoneOf, zoneWord}
 use Rattle.state_words.proofs.Parts.{at-most-nth, part-nth}
-use Rattle.state_words.proofs.Same.{same-facts, same-pointers, same-references, same-round, same-state, same-vector, same-vectors}
+use Rattle.state_words.proofs.Same.{same-facts, same-measures, same-pointers, same-references, same-round, same-state, same-tallies, same-vector, same-vectors}
 
 -- ---- one word, written and read
 word-read : {z : ℤ} → SFits w32 z → ofBits (bitsOf z) ≡ z
@@ -62,11 +63,19 @@ VectorsFit v = VectorFits (v .projection) × VectorFits (v .dual) × VectorFits 
 abbrev pub RoundFits : RoundState → Type 0
 RoundFits r = SFits w32 (r .threshold) × SFits w32 (r .phase) × SFits w32 (r .period)
 
+pub record MeasuresFit (m : Measures) : Type 0 where
+  pub cut-in : SFits w32 (m .«cut_in»)
+  pub minimum-distance : SFits w32 (m .«minimum_distance»)
+  pub single-width : SFits w32 (m .«single_width»)
+  pub single-width-cut-in : SFits w32 (m .«single_width_cut_in»)
+  pub scale : SFits w32 (m .scale)
+
 -- each signed field is a word: from -2 ^ 31 up to 2 ^ 31 - 1
 pub record StateFits (s : GraphicsState) : Type 0 where
   pub vectors : VectorsFit (s .vectors)
   pub round : RoundFits (s .round)
-  pub cut-in : SFits w32 (s .measures .«cut_in»)
+  pub measures : MeasuresFit (s .measures)
+  pub last-pushed : SFits w32 (s .tallies .«last_pushed»)
 
 vector-read : (v : Vector) → VectorFits v → record { x = ofBits (bitsOf (v .x)); y = ofBits (bitsOf (v .y)) } ≡ v
 vector-read v f = same-vector (word-read (f .0)) (word-read (f .1))
@@ -94,10 +103,21 @@ facts-read s =
     let f = s .facts in
     same-facts (fact-read (f .«backward_compatibility»)) (fact-read (f .pedantic)) (fact-read (f .«native_clear_type_x»)) (fact-read (f .«did_iup_x»)) (fact-read (f .«did_iup_y»))
 
+measures-read : (s : GraphicsState) → MeasuresFit (s .measures) → stateOf (stateWords s) .measures ≡ s .measures
+unfolding stateOf stateWords
+measures-read s f =
+    same-measures (word-read (f .cut-in)) (word-read (f .minimum-distance)) (word-read (f .single-width)) (word-read (f .single-width-cut-in))
+    (fact-read (s .measures .«auto_flip»)) (word-read (f .scale))
+
+tallies-read : (s : GraphicsState) → SFits w32 (s .tallies .«last_pushed») → stateOf (stateWords s) .tallies ≡ s .tallies
+unfolding stateOf stateWords
+tallies-read s f = same-tallies refl (word-read f) refl
+
 pub read-written : (s : GraphicsState) → StateFits s → stateOf (stateWords s) ≡ s
 unfolding stateOf stateWords
 read-written s f =
-    same-state (vectors-read s (f .vectors)) (round-read s (f .round)) (references-read s) refl (pointers-read s) (word-read (f .cut-in)) (facts-read s) refl
+    same-state (vectors-read s (f .vectors)) (round-read s (f .round)) (references-read s) refl (pointers-read s) (measures-read s (f .measures)) (facts-read s)
+    (tallies-read s (f .last-pushed))
 
 -- ---- one word, read and written
 word-written : (n : ℕ) → n < 2 ^ 32 → bitsOf (ofBits n) ≡ n
@@ -150,12 +170,15 @@ cons e es = ap₂ (λ (x : ℕ) (xs : List ℕ). x ∷ xs) e es
 -- ---- words, read and written
 -- what `isState` says of each word
 module _ (ws : List ℕ) (e : isState ws ≡ true) where
-  all-in : eqb (length ws) stateSize && leb (stateWord ws 6) 7 && allAtMost 1 (take 8 (drop 17 ws)) ≡ true
+  all-in : eqb (length ws) stateSize && leb (stateWord ws 6) 7 && allAtMost 1 (take 8 (drop 17 ws)) && leb (stateWord ws 30) 1 ≡ true
   unfolding isState
   all-in = e
 
+  first-three : eqb (length ws) stateSize && leb (stateWord ws 6) 7 && allAtMost 1 (take 8 (drop 17 ws)) ≡ true
+  first-three = and-left _ (leb (stateWord ws 30) 1) all-in
+
   first-two : eqb (length ws) stateSize && leb (stateWord ws 6) 7 ≡ true
-  first-two = and-left _ (allAtMost 1 (take 8 (drop 17 ws))) all-in
+  first-two = and-left _ (allAtMost 1 (take 8 (drop 17 ws))) first-three
 
   pub size-is : length ws ≡ stateSize
   size-is = eqb-true (length ws) stateSize (and-left _ (leb (stateWord ws 6) 7) first-two)
@@ -165,8 +188,11 @@ module _ (ws : List ℕ) (e : isState ws ≡ true) where
 
   small : (j : ℕ) → j < 8 → stateWord ws (17 + j) ≤ 1
   small j h =
-      let within = at-most-nth 1 (take 8 (drop 17 ws)) j (and-right (eqb (length ws) stateSize && leb (stateWord ws 6) 7) _ all-in) in
+      let within = at-most-nth 1 (take 8 (drop 17 ws)) j (and-right (eqb (length ws) stateSize && leb (stateWord ws 6) 7) _ first-three) in
       omega (arith, within, part-nth ws 17 8 j h)
+
+  flip-in : stateWord ws 30 ≤ 1
+  flip-in = leb-true (stateWord ws 30) 1 (and-right (eqb (length ws) stateSize && leb (stateWord ws 6) 7 && allAtMost 1 (take 8 (drop 17 ws))) _ all-in)
 
 module _ (ws : List ℕ) (in-range : isState ws ≡ true) where
   zone-at : (j : ℕ) → j < 8 → zoneWord (zoneOf (stateWord ws (17 + j))) ≡ stateWord ws (17 + j)
@@ -194,7 +220,8 @@ module _ (ws : List ℕ) (in-range : isState ws ≡ true) where
         (cons refl
         (cons (zone-at 0 (omega arith)) (cons (zone-at 1 (omega arith)) (cons (zone-at 2 (omega arith))
         (cons (fact-at 3 (omega arith)) (cons (fact-at 4 (omega arith)) (cons (fact-at 5 (omega arith)) (cons (fact-at 6 (omega arith)) (cons (fact-at 7 (omega arith))
-        (cons (num 25) (cons refl refl))))))))))))))))))))))))))
+        (cons (num 25) (cons refl
+        (cons (num 27) (cons (num 28) (cons (num 29) (cons (fact-written (stateWord ws 30) (flip-in ws in-range)) (cons (num 31) (cons (num 32) (cons refl refl)))))))))))))))))))))))))))))))))
 
     pub written-read : stateWords (stateOf ws) ≡ ws
     written-read = each ∙ ap (λ (n : ℕ). listed 0 n ws) (sym (size-is ws in-range)) ∙ listed-all ws

@@ -14,7 +14,7 @@ use Rattle.words.specs.Lists.{allAtMost}
 
 -- ---- a part within a list
 -- what stands after a part is counted from its end
-past : (a b : List ℕ) (k : ℕ) → length a ≤ k → getD (a ++ b) k 0 ≡ getD b (k - length a) 0
+pub past : (a b : List ℕ) (k : ℕ) → length a ≤ k → getD (a ++ b) k 0 ≡ getD b (k - length a) 0
 past [] b k h = let e : k ≡ k - 0 = omega arith in ap (λ (j : ℕ). getD b j 0) e
 past (x ∷ a) b zero h = absurd (omega arith)
 past (x ∷ a) b (suc k) h = let e : k - length a ≡ suc k - suc (length a) = omega arith in past a b k (omega arith) ∙ ap (λ (j : ℕ). getD b j 0) e

@@ -6,8 +6,8 @@ use native.Mathlib.Omega.{arith}
 use lib.ListN.{length, getD, List·getD-append, List·getD-eq-default}
 use Rattle.int.specs.Word.{bitsOf}
 use Rattle.graphics.specs.declared.GraphicsState.{GraphicsState}
-use Rattle.state_words.specs.Words.{stateSize, vectorsWords, roundWords, referencesWords, pointersWords, factsWords, stateWords, wordOf}
-use Rattle.state_words.proofs.Parts.{in-part}
+use Rattle.state_words.specs.Words.{stateSize, vectorsWords, roundWords, referencesWords, pointersWords, factsWords, distanceWords, pushWords, stateWords, wordOf}
+use Rattle.state_words.proofs.Parts.{in-part, past}
 
 pub state-size : (s : GraphicsState) → length (stateWords s) ≡ stateSize
 unfolding stateWords
@@ -23,8 +23,14 @@ before17 s = before10 s ++ (referencesWords (s .references) ++ (s .«loop_counte
 abbrev before20 : GraphicsState → List ℕ
 before20 s = before17 s ++ pointersWords (s .pointers)
 
+abbrev before27 : GraphicsState → List ℕ
+before27 s = before20 s ++ (factsWords (s .facts) ++ (bitsOf (s .measures .«cut_in») ∷ s .tallies .«wrapped_roundings» ∷ []))
+
+abbrev before32 : GraphicsState → List ℕ
+before32 s = before27 s ++ distanceWords (s .measures)
+
 abbrev from25 : GraphicsState → List ℕ
-from25 s = bitsOf (s .measures .«cut_in») ∷ s .tallies .«wrapped_roundings» ∷ []
+from25 s = bitsOf (s .measures .«cut_in») ∷ s .tallies .«wrapped_roundings» ∷ (distanceWords (s .measures) ++ pushWords (s .tallies))
 
 abbrev from20 : GraphicsState → List ℕ
 from20 s = factsWords (s .facts) ++ from25 s
@@ -70,6 +76,15 @@ module _ (s : GraphicsState) (k : ℕ) where
   pub wrapped-at : 26 ≤ k → k < 27 → s .tallies .«wrapped_roundings» ≡ wordOf s k
   unfolding stateWords
   wrapped-at l h = let e : 26 ≡ k = omega arith in ap (wordOf s) e
+
+  pub distances-at : 27 ≤ k → k < 32 → getD (distanceWords (s .measures)) (k - 27) 0 ≡ wordOf s k
+  unfolding stateWords
+  distances-at l h = sym (in-part (before27 s) (distanceWords (s .measures)) (pushWords (s .tallies)) k l (omega arith))
+
+  -- the last part: outside it stands 0
+  pub pushes-at : 32 ≤ k → getD (pushWords (s .tallies)) (k - 32) 0 ≡ wordOf s k
+  unfolding stateWords
+  pushes-at l = sym (past (before32 s) (pushWords (s .tallies)) k l)
 
 -- 0 stands outside
 pub outside : (ws : List ℕ) (k : ℕ) → length ws ≤ k → 0 ≡ getD ws k 0

@@ -7,7 +7,9 @@ use Rattle.round.specs.declared.RoundMode.{RoundMode}
 use Rattle.round.specs.declared.RoundState.{RoundState}
 use Rattle.graphics.specs.declared.Facts.{Facts}
 use Rattle.graphics.specs.declared.GraphicsState.{GraphicsState}
+use Rattle.graphics.specs.declared.Measures.{Measures}
 use Rattle.graphics.specs.declared.References.{References}
+use Rattle.graphics.specs.declared.Tallies.{Tallies}
 use Rattle.graphics.specs.declared.Vector.{Vector}
 use Rattle.graphics.specs.declared.Vectors.{Vectors}
 use Rattle.graphics.specs.declared.ZonePointer.{ZonePointer}
@@ -49,13 +51,28 @@ facts5 a b c d e = record { «backward_compatibility» = a; pedantic = b; «nati
 pub same-facts : {a u b v c w d x e y : Bool} → a ≡ u → b ≡ v → c ≡ w → d ≡ x → e ≡ y → facts5 a b c d e ≡ facts5 u v w x y
 same-facts i j k l m = cc
 
-abbrev state8 : Vectors → RoundState → References → ℕ → ZonePointers → ℤ → Facts → ℕ → GraphicsState
-state8 v r p n z c f t =
-    record { vectors = v; round = r; references = p; «loop_counter» = n; pointers = z; measures = record { «cut_in» = c }; facts = f; tallies = record { «wrapped_roundings» = t } }
+abbrev measures6 : ℤ → ℤ → ℤ → ℤ → Bool → ℤ → Measures
+measures6 a b c d e f =
+    record { «cut_in» = a; «minimum_distance» = b; «single_width» = c; «single_width_cut_in» = d; «auto_flip» = e; scale = f }
+
+pub same-measures :
+    {a u b v c w d x : ℤ} {e y : Bool} {f z : ℤ}
+    → a ≡ u → b ≡ v → c ≡ w → d ≡ x → e ≡ y → f ≡ z → measures6 a b c d e f ≡ measures6 u v w x y z
+same-measures i j k l m n = cc
+
+abbrev tallies3 : ℕ → ℤ → ℕ → Tallies
+tallies3 a b c = record { «wrapped_roundings» = a; «last_pushed» = b; pushes = c }
+
+pub same-tallies : {a u : ℕ} {b v : ℤ} {c w : ℕ} → a ≡ u → b ≡ v → c ≡ w → tallies3 a b c ≡ tallies3 u v w
+same-tallies e f g = cc
+
+abbrev state8 : Vectors → RoundState → References → ℕ → ZonePointers → Measures → Facts → Tallies → GraphicsState
+state8 v r p n z m f t =
+    record { vectors = v; round = r; references = p; «loop_counter» = n; pointers = z; measures = m; facts = f; tallies = t }
 
 pub same-state :
-    {v v' : Vectors} {r r' : RoundState} {p p' : References} {n n' : ℕ} {z z' : ZonePointers} {c c' : ℤ} {f f' : Facts} {t t' : ℕ}
-    → v ≡ v' → r ≡ r' → p ≡ p' → n ≡ n' → z ≡ z' → c ≡ c' → f ≡ f' → t ≡ t' → state8 v r p n z c f t ≡ state8 v' r' p' n' z' c' f' t'
+    {v v' : Vectors} {r r' : RoundState} {p p' : References} {n n' : ℕ} {z z' : ZonePointers} {m m' : Measures} {f f' : Facts} {t t' : Tallies}
+    → v ≡ v' → r ≡ r' → p ≡ p' → n ≡ n' → z ≡ z' → m ≡ m' → f ≡ f' → t ≡ t' → state8 v r p n z m f t ≡ state8 v' r' p' n' z' m' f' t'
 same-state d e g h i j k l = cc
 
 pub same-and : {a u b v : Bool} → a ≡ u → b ≡ v → a && b ≡ u && v

@@ -1,6 +1,7 @@
 -- The graphics state as words: document 02, K4: "First the state, 26 words: projection, dual and freedom x, y; mode 0 to 7 in round.rs order;
--- threshold, phase, period; rp0, rp1, rp2, low word first; loop; zp0 to zp2 (0 twilight, 1 glyph); the five facts in 01's order; cut-in."; and K5:
--- "one more state word, the last", the count of wrapped roundings. A signed number is its 32 bits. Assumes nothing.
+-- threshold, phase, period; rp0, rp1, rp2, low word first; loop; zp0 to zp2 (0 twilight, 1 glyph); the five facts in 01's order; cut-in."; K5:
+-- "one more state word, the last", the count of wrapped roundings; and K7: "the minimum distance, single width and its cut-in, auto flip and the
+-- scale", "the last pushed value and a count of pushes", "these seven words last in this order". A signed number is its 32 bits. Assumes nothing.
 use Prim.Native.Nat.{ℕ, _+_, _*_, _/_, _%_, _^_}
 use mathlib.Core.Bool.{Bool, true, false, cond, _&&_}
 use mathlib.Core.List.{List, [], _∷_, _++_}
@@ -14,7 +15,9 @@ use Rattle.round.specs.declared.RoundMode.the-variants.{Grid, HalfGrid, DoubleG
 use Rattle.round.specs.declared.RoundState.{RoundState}
 use Rattle.graphics.specs.declared.Facts.{Facts}
 use Rattle.graphics.specs.declared.GraphicsState.{GraphicsState}
+use Rattle.graphics.specs.declared.Measures.{Measures}
 use Rattle.graphics.specs.declared.References.{References}
+use Rattle.graphics.specs.declared.Tallies.{Tallies}
 use Rattle.graphics.specs.declared.Vector.{Vector}
 use Rattle.graphics.specs.declared.Vectors.{Vectors}
 use Rattle.graphics.specs.declared.ZonePointer.{ZonePointer}
@@ -23,7 +26,7 @@ use Rattle.graphics.specs.declared.ZonePointers.{ZonePointers}
 
 -- how many words a state is
 abbrev pub stateSize : ℕ
-stateSize = 27
+stateSize = 34
 
 -- ---- the words of a state
 abbrev pub modeWord : RoundMode → ℕ
@@ -65,10 +68,19 @@ factsWords f =
     factWord (f .«backward_compatibility») ∷ factWord (f .pedantic) ∷ factWord (f .«native_clear_type_x»)
     ∷ factWord (f .«did_iup_x») ∷ factWord (f .«did_iup_y») ∷ []
 
+-- but the cut-in, which stands before them
+abbrev pub distanceWords : Measures → List ℕ
+distanceWords m =
+    bitsOf (m .«minimum_distance») ∷ bitsOf (m .«single_width») ∷ bitsOf (m .«single_width_cut_in») ∷ factWord (m .«auto_flip») ∷ bitsOf (m .scale) ∷ []
+
+abbrev pub pushWords : Tallies → List ℕ
+pushWords t = bitsOf (t .«last_pushed») ∷ t .pushes ∷ []
+
 unfoldable pub stateWords : GraphicsState → List ℕ
 stateWords s =
     vectorsWords (s .vectors) ++ (roundWords (s .round) ++ (referencesWords (s .references) ++ (s .«loop_counter»
-    ∷ (pointersWords (s .pointers) ++ (factsWords (s .facts) ++ (bitsOf (s .measures .«cut_in») ∷ s .tallies .«wrapped_roundings» ∷ []))))))
+    ∷ (pointersWords (s .pointers) ++ (factsWords (s .facts) ++ (bitsOf (s .measures .«cut_in») ∷ s .tallies .«wrapped_roundings»
+    ∷ (distanceWords (s .measures) ++ pushWords (s .tallies))))))))
 
 abbrev pub wordOf : GraphicsState → ℕ → ℕ
 wordOf s k = getD (stateWords s) k 0
@@ -112,11 +124,11 @@ stateOf ws = record {
   «loop_counter» = stateWord ws 16;
   pointers = record { zp0 = zoneOf (stateWord ws 17); zp1 = zoneOf (stateWord ws 18); zp2 = zoneOf (stateWord ws 19) };
   facts = record { «backward_compatibility» = factAt ws 20; pedantic = factAt ws 21; «native_clear_type_x» = factAt ws 22; «did_iup_x» = factAt ws 23; «did_iup_y» = factAt ws 24 };
-  measures = record { «cut_in» = numberAt ws 25 };
-  tallies = record { «wrapped_roundings» = stateWord ws 26 };
+  measures = record { «cut_in» = numberAt ws 25; «minimum_distance» = numberAt ws 27; «single_width» = numberAt ws 28; «single_width_cut_in» = numberAt ws 29; «auto_flip» = factAt ws 30; scale = numberAt ws 31 };
+  tallies = record { «wrapped_roundings» = stateWord ws 26; «last_pushed» = numberAt ws 32; pushes = stateWord ws 33 };
 }
 
 -- ---- which words are a state: refused with 16 where not. Vectors and period are left to the run's answer 3
--- the mode at most 7, zone pointers and facts at most 1
+-- the mode at most 7, zone pointers, facts and auto flip at most 1
 unfoldable pub isState : List ℕ → Bool
-isState ws = eqb (length ws) stateSize && leb (stateWord ws 6) 7 && allAtMost 1 (take 8 (drop 17 ws))
+isState ws = eqb (length ws) stateSize && leb (stateWord ws 6) 7 && allAtMost 1 (take 8 (drop 17 ws)) && leb (stateWord ws 30) 1

@@ -1,4 +1,4 @@
-// The graphics state as words, in the order of document 02, K4: what a record keeps and what a caller from C hands over.
+// The graphics state as words, in the order of document 02, K4, K5 and K7: what a record keeps and what a caller from C hands over.
 //
 // The public functions answer for every input, and each is an equation with a definition of specs/Words.antt: `is_state` tells words that are a
 // state from others, `read_state` gives the state that words stand for, and `write_state` the words of a state, `word_of` one of them. That
@@ -21,10 +21,10 @@ ghost use Prim.Native.Nat.{_%_, _/_, _^_, _+_, _*_};
 ghost use lib.ListN.{getD};
 ghost use lib.Dec.{leb};
 ghost use Rattle.words.specs.Lists.{allAtMost};
-ghost use Rattle.state_words.specs.Words.{stateWord, numberAt, vectorAt, longAt, modeOf, zoneOf, factOf, modeWord, zoneWord, factWord, vectorsWords, roundWords, referencesWords, pointersWords, factsWords, wordOf, stateOf, isState, written};
+ghost use Rattle.state_words.specs.Words.{stateWord, numberAt, vectorAt, longAt, modeOf, zoneOf, factOf, modeWord, zoneWord, factWord, vectorsWords, roundWords, referencesWords, pointersWords, factsWords, distanceWords, pushWords, wordOf, stateOf, isState, written};
 
 // How many words a state is: the one place of this number in the code.
-pub const STATE_WORDS: usize = 27;
+pub const STATE_WORDS: usize = 34;
 
 // The first word of each part; the vectors are first.
 const ROUND: usize = 6;
@@ -40,6 +40,12 @@ const FACTS: usize = 20;
 const CUT_IN: usize = 25;
 
 const WRAPPED_ROUNDINGS: usize = 26;
+
+const DISTANCES: usize = 27;
+
+const AUTO_FLIP: usize = 30;
+
+const PUSHES: usize = 32;
 
 // ---- one word
 // Word k, 0 outside.
@@ -216,6 +222,38 @@ fn facts_of(words: &[u32]) -> Facts
     }
 }
 
+fn measures_of(words: &[u32]) -> Measures
+    ensures { λ r. ⌜ r ≡ stateOf (now (words .entry)) .measures ⌝ }
+{
+    let cut_in = number(words, CUT_IN);
+    let minimum_distance = number(words, DISTANCES);
+    let single_width = number(words, DISTANCES + 1);
+    let single_width_cut_in = number(words, DISTANCES + 2);
+    let auto_flip = fact_of(word(words, AUTO_FLIP));
+    let scale = number(words, AUTO_FLIP + 1);
+    Measures {
+        cut_in,
+        minimum_distance,
+        single_width,
+        single_width_cut_in,
+        auto_flip,
+        scale,
+    }
+}
+
+fn tallies_of(words: &[u32]) -> Tallies
+    ensures { λ r. ⌜ r ≡ stateOf (now (words .entry)) .tallies ⌝ }
+{
+    let wrapped_roundings = word(words, WRAPPED_ROUNDINGS);
+    let last_pushed = number(words, PUSHES);
+    let pushes = word(words, PUSHES + 1);
+    Tallies {
+        wrapped_roundings,
+        last_pushed,
+        pushes,
+    }
+}
+
 // The state that words stand for: a word that is missing counts as 0.
 pub fn read_state(words: &[u32]) -> GraphicsState
     ensures { λ r. ⌜ r ≡ stateOf (now (words .entry)) ⌝ }
@@ -225,18 +263,18 @@ pub fn read_state(words: &[u32]) -> GraphicsState
     let references = references_of(words);
     let loop_counter = word(words, LOOP_COUNTER);
     let pointers = pointers_of(words);
-    let cut_in = number(words, CUT_IN);
+    let measures = measures_of(words);
     let facts = facts_of(words);
-    let wrapped_roundings = word(words, WRAPPED_ROUNDINGS);
+    let tallies = tallies_of(words);
     GraphicsState {
         vectors,
         round,
         references,
         loop_counter,
         pointers,
-        measures: Measures { cut_in },
+        measures,
         facts,
-        tallies: Tallies { wrapped_roundings },
+        tallies,
     }
 }
 
@@ -267,7 +305,9 @@ pub fn is_state(words: &[u32]) -> bool
     if words.len() != STATE_WORDS {
         return false;
     }
-    at_most(words, ROUND, 7) & all_at_most(&words[POINTERS..CUT_IN], 1)
+    at_most(words, ROUND, 7)
+        & all_at_most(&words[POINTERS..CUT_IN], 1)
+        & at_most(words, AUTO_FLIP, 1)
 }
 
 // ---- the words of a state
@@ -339,6 +379,30 @@ fn facts_word(f: Facts, k: usize) -> u32
     }
 }
 
+// The measures but the cut-in.
+fn distances_word(m: Measures, k: usize) -> u32
+    ensures { λ r. ⌜ r ≡ getD (distanceWords m) k 0 ⌝ }
+{
+    match k {
+        0 => to_bits(m.minimum_distance),
+        1 => to_bits(m.single_width),
+        2 => to_bits(m.single_width_cut_in),
+        3 => fact_word(m.auto_flip),
+        4 => to_bits(m.scale),
+        _ => 0,
+    }
+}
+
+fn pushes_word(t: Tallies, k: usize) -> u32
+    ensures { λ r. ⌜ r ≡ getD (pushWords t) k 0 ⌝ }
+{
+    match k {
+        0 => to_bits(t.last_pushed),
+        1 => t.pushes,
+        _ => 0,
+    }
+}
+
 // Word k of a state, 0 outside.
 pub fn word_of(s: GraphicsState, k: usize) -> u32
     ensures { λ r. ⌜ r ≡ wordOf s k ⌝ }
@@ -357,10 +421,12 @@ pub fn word_of(s: GraphicsState, k: usize) -> u32
         facts_word(s.facts, k - FACTS)
     } else if k < WRAPPED_ROUNDINGS {
         to_bits(s.measures.cut_in)
-    } else if k < STATE_WORDS {
+    } else if k < DISTANCES {
         s.tallies.wrapped_roundings
+    } else if k < PUSHES {
+        distances_word(s.measures, k - DISTANCES)
     } else {
-        0
+        pushes_word(s.tallies, k - PUSHES)
     }
 }
 

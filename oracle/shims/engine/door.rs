@@ -26,7 +26,7 @@ pub type Refused = HintErrorKind;
 /// A pair of coordinates.
 pub type Pair = (i32, i32);
 
-/// The graphics state of document 01, as numbers, and document 02's count.
+/// The graphics state of document 01, as numbers, and what document 02 adds.
 #[derive(Clone, PartialEq, Debug)]
 pub struct State {
     /// Projection, dual and freedom vector, x then y.
@@ -44,6 +44,16 @@ pub struct State {
     pub cut_in: i32,
     /// The Rust has no such number: it is the driver's, and stays here as it is.
     pub wrapped_roundings: u32,
+    pub min_distance: i32,
+    pub single_width: i32,
+    pub single_width_cut_in: i32,
+    pub auto_flip: bool,
+    /// From font units to 64ths of a pixel, 16.16.
+    pub scale: i32,
+    /// These two are the driver's as well: what the Rust's value stack was left
+    /// with, and how often something was.
+    pub last_pushed: i32,
+    pub pushes: u32,
 }
 
 /// The mode's number in round.rs order, and its three numbers.
@@ -228,6 +238,12 @@ impl<'a> Machine<'a> {
             .map_err(|error| error.kind)
     }
 
+    /// What a line that was done left on the value stack. It has taken all of
+    /// its operands, so that these are what it pushed, in order.
+    pub fn pushed(&self) -> &[i32] {
+        self.engine.value_stack.values()
+    }
+
     pub fn loop_counter(&self) -> u32 {
         self.engine.graphics.loop_counter
     }
@@ -397,6 +413,12 @@ fn load(graphics: &mut GraphicsState, state: &State) {
     graphics.did_iup_x = state.x_interpolated;
     graphics.did_iup_y = state.y_interpolated;
     graphics.retained.control_value_cutin = F26Dot6::from_bits(state.cut_in);
+    graphics.retained.min_distance = F26Dot6::from_bits(state.min_distance);
+    graphics.retained.single_width = F26Dot6::from_bits(state.single_width);
+    graphics.retained.single_width_cutin = F26Dot6::from_bits(state.single_width_cut_in);
+    graphics.retained.auto_flip = state.auto_flip;
+    // No glyph is a composite here, so that this is what unscaled points go by.
+    graphics.retained.scale = state.scale;
 }
 
 fn store(graphics: &GraphicsState, state: &mut State) {
@@ -417,6 +439,11 @@ fn store(graphics: &GraphicsState, state: &mut State) {
     state.x_interpolated = graphics.did_iup_x;
     state.y_interpolated = graphics.did_iup_y;
     state.cut_in = graphics.retained.control_value_cutin.to_bits();
+    state.min_distance = graphics.retained.min_distance.to_bits();
+    state.single_width = graphics.retained.single_width.to_bits();
+    state.single_width_cut_in = graphics.retained.single_width_cutin.to_bits();
+    state.auto_flip = graphics.retained.auto_flip;
+    state.scale = graphics.retained.scale;
 }
 
 const MODES: [RoundMode; 8] = [

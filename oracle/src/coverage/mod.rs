@@ -1,7 +1,9 @@
 //! Counts what came up, and names what is missing.
 
 mod branches;
+mod distances;
 mod keys;
+mod largest;
 mod lengths;
 mod required;
 mod rows;
@@ -100,6 +102,12 @@ impl Coverage {
             self.add(key);
         }
         for key in wraps::keys(case, outcome) {
+            self.add(key);
+        }
+        for key in largest::keys(case, outcome) {
+            self.add(key);
+        }
+        for key in distances::keys(case, outcome) {
             self.add(key);
         }
     }
@@ -271,6 +279,19 @@ impl Coverage {
         }
     }
 
+    /// Names what must come up more often than it did; true if there is none.
+    fn often_enough(&self) -> bool {
+        let mut enough = true;
+        for (key, fewest) in distances::fewest() {
+            let count = self.counts.get(&key).copied().unwrap_or_default();
+            if count < fewest {
+                println!(" TOO FEW  {key}: {count}, at least {fewest}");
+                enough = false;
+            }
+        }
+        enough
+    }
+
     /// Prints the counts; true if nothing that must come up is missing.
     fn report(&self) -> bool {
         let Self { cases, rows, .. } = self;
@@ -287,8 +308,9 @@ impl Coverage {
         for key in &missing {
             println!(" MISSING  {key}");
         }
+        let often_enough = self.often_enough();
         let (all, lacking) = (required.len(), missing.len());
         println!("{all} things must come up, {lacking} are missing");
-        missing.is_empty() && !self.counts.contains_key(UNEXPLAINED)
+        missing.is_empty() && often_enough && !self.counts.contains_key(UNEXPLAINED)
     }
 }

@@ -1,6 +1,6 @@
 //! What must come up in a run of the generator and in the sample.
 
-use super::{branches, keys::*, lengths, rows, selectors, shifts, wraps};
+use super::{branches, distances, keys::*, largest, lengths, rows, selectors, shifts, wraps};
 use crate::{
     opcodes::{name_of, rounds, row_of, Family, Row, TABLE},
     vectors,
@@ -26,6 +26,8 @@ pub fn required() -> Vec<String> {
     keys.extend(lengths::required());
     keys.extend(rows::required());
     keys.extend(wraps::required());
+    keys.extend(largest::required());
+    keys.extend(distances::required());
     keys
 }
 

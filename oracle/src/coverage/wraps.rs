@@ -15,7 +15,7 @@ use reference::door::Rounded;
 const ROW: &str = "row";
 const LINE: &str = "line";
 /// What a wrapped rounding does to the count, by what it was.
-const COUNTS: [&str; 4] = ["from 0", "between", "to its end", "at its end"];
+pub const COUNTS: [&str; 4] = ["from 0", "between", "to its end", "at its end"];
 /// Lines that keep a count above 0, by opcode and by what becomes of them.
 const KEPT: [(u8, &[&str]); 4] = [
     (0x2E, &["done"]),
@@ -121,7 +121,7 @@ fn wraps_without_native(case: &Case) -> bool {
     world.state.wrapped_roundings > 0
 }
 
-fn rounding_keys(by: &str, kind: &str, rounded: &Rounded) -> Vec<String> {
+pub fn rounding_keys(by: &str, kind: &str, rounded: &Rounded) -> Vec<String> {
     let (mode, negative) = (rounded.rounding.mode as usize, rounded.distance < 0);
     let passed = passed(rounded);
     let mut keys = vec![rounding_key(by, mode, negative, !passed.is_empty())];
@@ -134,7 +134,7 @@ fn rounding_keys(by: &str, kind: &str, rounded: &Rounded) -> Vec<String> {
     keys
 }
 
-fn count_kind(before: u32) -> &'static str {
+pub fn count_kind(before: u32) -> &'static str {
     match before {
         0 => COUNTS[0],
         u32::MAX => COUNTS[3],
@@ -151,7 +151,7 @@ fn sign(negative: bool) -> &'static str {
     }
 }
 
-fn rounding_key(by: &str, mode: usize, negative: bool, wrapped: bool) -> String {
+pub fn rounding_key(by: &str, mode: usize, negative: bool, wrapped: bool) -> String {
     let (mode, sign) = (MODES[mode], sign(negative));
     format!("{by} rounds by {mode} {sign}: wrapped {wrapped}")
 }
@@ -161,7 +161,7 @@ fn passed_key(by: &str, mode: usize, negative: bool, operation: &str) -> String 
     format!("{by} rounds by {mode} {sign}: past 32 bits by {operation}")
 }
 
-fn count_key(name: &str, kind: &str) -> String {
+pub fn count_key(name: &str, kind: &str) -> String {
     format!("{name} counts {kind}")
 }
 

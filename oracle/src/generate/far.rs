@@ -6,7 +6,7 @@ use super::{calls::every_call, lengths::peopled};
 use crate::{
     case::Case,
     direct::Call,
-    opcodes::{Operand, Row, TABLE},
+    opcodes::{rows_of, Family, Operand, Row, TABLE},
     random::Random,
     scene::Scene,
 };
@@ -69,39 +69,58 @@ fn far_ranges(far: u64, near: u64) -> Vec<Call> {
     calls
 }
 
-/// Each line that goes by a reference, in zones of every kind, pedantic or not.
+/// Each line that goes by a reference, in zones of every kind, pedantic or not;
+/// the distances, which have many codes, have their own.
 pub fn far_references() -> Vec<Case> {
     let mut cases = Vec::new();
-    for line in lines_by_reference() {
+    for line in lines_by_reference(older_rows()) {
         for zones in ZONES {
-            for (place, far) in FAR.into_iter().enumerate() {
-                let reference = far + place as u64 % POINTS;
-                let scene = Scene::new(&[(0, 10), (90, -70), (200, 33)])
-                    .original(&[(5, 0), (75, -64), (180, 30)])
-                    .twilight(&[(7, 1), (2, 8), (50, 60)], &[(9, 3), (4, 4), (70, 80)])
-                    .contours(&[2])
-                    .state(|state| {
-                        state.references = [reference; 3];
-                        state.zones = zones;
-                        state.pedantic = place % 2 == 1;
-                    });
-                cases.push(scene.sheet(&line).case(Call::Run {
-                    start: 0,
-                    budget: 1,
-                }));
-            }
+            cases.extend((0..FAR.len()).map(|place| far_reference(&line, zones, place)));
         }
     }
     cases
 }
 
-/// A line of each code that goes by a reference, its operands right: those of
-/// document 01 from the table's last to its first, then the others.
-fn lines_by_reference() -> Vec<Vec<i32>> {
-    let (mut rows, later): (Vec<&Row>, Vec<&Row>) =
-        TABLE.iter().partition(|row| row.family.is_of_01());
+/// Each code of the distances that goes by a reference, in zones of every kind,
+/// with one far reference after the other.
+pub fn far_distances() -> Vec<Case> {
+    let mut cases = Vec::new();
+    for line in lines_by_reference(rows_of(Family::Distances)) {
+        for zones in ZONES {
+            cases.push(far_reference(&line, zones, cases.len() % FAR.len()));
+        }
+    }
+    cases
+}
+
+fn far_reference(line: &[i32], zones: [u32; 3], place: usize) -> Case {
+    let reference = FAR[place] + place as u64 % POINTS;
+    let scene = Scene::new(&[(0, 10), (90, -70), (200, 33)])
+        .original(&[(5, 0), (75, -64), (180, 30)])
+        .twilight(&[(7, 1), (2, 8), (50, 60)], &[(9, 3), (4, 4), (70, 80)])
+        .contours(&[2])
+        .state(|state| {
+            state.references = [reference; 3];
+            state.zones = zones;
+            state.pedantic = place % 2 == 1;
+        });
+    scene.sheet(line).case(Call::Run {
+        start: 0,
+        budget: 1,
+    })
+}
+
+/// Those of document 01 from the table's last to its first, then the others.
+fn older_rows() -> Vec<&'static Row> {
+    let older = TABLE.iter().filter(|row| row.family != Family::Distances);
+    let (mut rows, later): (Vec<&Row>, Vec<&Row>) = older.partition(|row| row.family.is_of_01());
     rows.reverse();
     rows.extend(later);
+    rows
+}
+
+/// A line of each code that goes by a reference, its operands right.
+fn lines_by_reference(rows: Vec<&Row>) -> Vec<Vec<i32>> {
     let codes = rows
         .iter()
         .flat_map(|row| row.codes().map(|code| (*row, code)));
@@ -116,6 +135,7 @@ fn right_line(row: &Row, code: u8) -> Vec<i32> {
     let right = |operand: &Operand| match operand {
         Operand::Distance => 70,
         Operand::Contour => 0,
+        Operand::ControlValueOrNone => -1,
         _ => 1,
     };
     let looped = row.looped.map(|_| 1);

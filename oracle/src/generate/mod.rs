@@ -1,7 +1,10 @@
 //! Makes cases of every kind from a seed.
 
 mod calls;
+mod distance_grid;
+mod distances;
 mod far;
+mod largest;
 mod lengths;
 mod limits;
 mod lines;
@@ -17,7 +20,10 @@ mod worlds;
 mod wraps;
 
 pub use calls::{every_call, iup_case, zone_case};
-pub use far::{far_calls, far_references};
+pub use distance_grid::every_distance;
+pub use distances::{distance_case, distance_run_case, set_words};
+pub use far::{far_calls, far_distances, far_references};
+pub use largest::largest_faces;
 pub use lengths::{every_length, every_limit, length_case};
 pub use limits::{limit_cases, long_iup_case, long_iup_shift_case};
 pub use lines::line_case;
@@ -38,11 +44,12 @@ use crate::{
     random::Random,
     wraps::count,
 };
+use distances::any_distance;
 
 /// What no chance is left to: document 01's runs, the scenes of note, each
 /// opcode, each setter, each shift, each selector, the limits, lists that don't
-/// fit, far indices, what one rule alone decides, and each kind of wrapped
-/// rounding.
+/// fit, far indices, what one rule alone decides, each kind of wrapped rounding,
+/// the largest faces, and the distances.
 pub fn fixed_cases(random: &mut Random) -> Vec<Case> {
     let mut cases = runs_of_01().to_vec();
     cases.extend(notable::lines());
@@ -59,13 +66,22 @@ pub fn fixed_cases(random: &mut Random) -> Vec<Case> {
     cases.extend(far_references());
     cases.extend(turns());
     cases.extend(every_wrap());
+    cases.extend(largest_faces());
+    cases.extend(every_distance());
+    cases.extend(far_distances());
     cases
 }
 
 /// Any case at all, for comparisons, coverage and searches.
 pub fn any_case(random: &mut Random) -> Case {
+    if random.once_in(4) {
+        return any_distance(random);
+    }
     let mut case = uncounted_case(random);
     case.world.state.wrapped_roundings = count(random);
+    if random.once_in(3) {
+        set_words(random, &mut case.world.state);
+    }
     case
 }
 

@@ -60,6 +60,9 @@ fn operand(random: &mut Random, world: &World, kind: Operand) -> i32 {
         Operand::Distance => mixed(random),
         Operand::Amount => amount(random),
         Operand::ControlValue => point_operand(random, world.lists[CONTROL_VALUES].len()),
+        Operand::ControlValueOrNone => {
+            control_value_or_none(random, world.lists[CONTROL_VALUES].len())
+        }
         Operand::Contour => contour_operand(random, world),
         Operand::SelectorByte => selector(random),
         // The two ends of a range are drawn together.
@@ -93,6 +96,15 @@ fn point_operand(random: &mut Random, count: usize) -> i32 {
         1 => -1,
         2 => near_corner(random),
         _ => any_word(random),
+    }
+}
+
+/// A control value; -1, which is none; now and then one that isn't there.
+fn control_value_or_none(random: &mut Random, count: usize) -> i32 {
+    match random.weighted(&[14, 2, 1]) {
+        0 => point_operand(random, count),
+        1 => -1,
+        _ => random.pick(&[count as i32, -2, i32::MAX, i32::MIN, i32::MAX - 1]),
     }
 }
 

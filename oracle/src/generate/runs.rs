@@ -27,7 +27,7 @@ pub static MOVERS: LazyLock<Vec<u8>> = LazyLock::new(|| {
 });
 
 /// The movers with the shifts and range flips, the latter twice as likely.
-static ALL_MOVERS: LazyLock<Vec<u8>> = LazyLock::new(|| {
+pub static ALL_MOVERS: LazyLock<Vec<u8>> = LazyLock::new(|| {
     const SHIFTS: [u8; 14] = [
         0x34, 0x35, 0x36, 0x37, 0x38, 0x38, 0x81, 0x82, 0x34, 0x35, 0x36, 0x37, 0x81, 0x82,
     ];
@@ -64,7 +64,7 @@ pub fn selector_run_case(random: &mut Random) -> Case {
     })
 }
 
-fn setter_or(random: &mut Random, movers: &[u8]) -> u8 {
+pub fn setter_or(random: &mut Random, movers: &[u8]) -> u8 {
     if random.once_in(3) {
         random.pick(&SETTERS)
     } else {
@@ -72,7 +72,7 @@ fn setter_or(random: &mut Random, movers: &[u8]) -> u8 {
     }
 }
 
-fn run_of(random: &mut Random, state: State, choice: Choice) -> Case {
+pub fn run_of(random: &mut Random, state: State, choice: Choice) -> Case {
     let mut world = small_world(random, state);
     let places = fill_sheet(random, &mut world, choice);
     if random.once_in(40) {

@@ -22,7 +22,8 @@ pub fn sound_state(random: &mut Random) -> State {
         x_interpolated: random.flip(),
         y_interpolated: random.flip(),
         cut_in: cut_in(random),
-        wrapped_roundings: 0,
+        // What document 02 adds is fresh, and others draw it where it matters.
+        ..fresh_state()
     }
 }
 

@@ -47,16 +47,22 @@ after-distance c = search
 abbrev to-distance : tie.After-perform-distance-arg8 → tie.After-enum-told4
 to-distance c = search
 
-abbrev after-flippt : tie.After-slice-known9 → tie.After-flippt
+abbrev after-measure : tie.After-slice-known10 → tie.After-perform-measure
+after-measure c = search
+
+abbrev to-measure : tie.After-perform-measure-arg8 → tie.After-enum-told5
+to-measure c = search
+
+abbrev after-flippt : tie.After-slice-known11 → tie.After-flippt
 after-flippt c = search
 
-abbrev to-flippt : tie.After-flippt-arg → tie.After-enum-told5
+abbrev to-flippt : tie.After-flippt-arg → tie.After-enum-told6
 to-flippt c = c .before
 
-abbrev after-fliprg : tie.After-slice-known10 → tie.After-fliprg
+abbrev after-fliprg : tie.After-slice-known12 → tie.After-fliprg
 after-fliprg c = search
 
-abbrev to-fliprg : tie.After-fliprg-arg → tie.After-enum-told6
+abbrev to-fliprg : tie.After-fliprg-arg → tie.After-enum-told7
 to-fliprg c = c .before
 
 kind-of-requires : tie.Need-kind-of-requires
@@ -92,17 +98,25 @@ perform-distance-requires c κs = let e = to-distance c in let k = e .before .be
 enum-told-5 : tie.Need-enum-told-5
 enum-told-5 c = c .match .keys5
 
-flippt-requires : tie.Need-flippt-requires
-flippt-requires c κs = tt
+perform-measure-requires : tie.Need-perform-measure-requires
+unfolding Named
+perform-measure-requires c κs = let e = to-measure c in let k = e .before .before in let p = start k .pre in
+    (named k (e .enum-told5 .given .1), p .3 ∙ sym (p .2), p .4, p .5, p .6, p .7, p .8)
 
 enum-told-6 : tie.Need-enum-told-6
 enum-told-6 c = c .match .keys6
 
-fliprg-requires : tie.Need-fliprg-requires
-fliprg-requires c κs = tt
+flippt-requires : tie.Need-flippt-requires
+flippt-requires c κs = tt
 
 enum-told-7 : tie.Need-enum-told-7
 enum-told-7 c = c .match .keys7
+
+fliprg-requires : tie.Need-fliprg-requires
+fliprg-requires c κs = tt
+
+enum-told-8 : tie.Need-enum-told-8
+enum-told-8 c = c .match .keys8
 
 set-state-requires : tie.Need-set-state-requires
 set-state-requires c κs = tt
@@ -199,25 +213,52 @@ returns-4 : tie.Need-returns-4
 returns-4 c = let a = after-distance c in let s = start (to-distance (a .before) .before .before) .args in a .perform-distance .ensures (now (s .gux)) (now (s .guy)) (now (s .gox)) (now (s .goy)) (now (s .contours))
 
 same-length-26 : tie.Need-same-length-26
-same-length-26 c = search (after-flippt c .flippt .kept)
-
-returns-5 : tie.Need-returns-5
-unfolding Named
-returns-5 c = let a = after-flippt c in let e = to-flippt (a .before) in let k = e .before .before in let s = start k in let w = entry s in
-    a .flippt .ensures (read s) (s .args .opcode) (w .gx) (w .gy) (w .tox) (w .toy) (w .tx) (w .ty) (w .tflags) ∙ named k (e .enum-told5 .given .1) (read s) (now (s .args .operands)) (entry s)
+same-length-26 c = search (after-measure c .perform-measure .kept)
 
 same-length-27 : tie.Need-same-length-27
-same-length-27 c = search (after-fliprg c .fliprg .kept)
+same-length-27 c = search (after-measure c .perform-measure .kept)
+
+same-length-28 : tie.Need-same-length-28
+same-length-28 c = search (after-measure c .perform-measure .kept)
+
+same-length-29 : tie.Need-same-length-29
+same-length-29 c = search (after-measure c .perform-measure .kept)
+
+same-length-30 : tie.Need-same-length-30
+same-length-30 c = search (after-measure c .perform-measure .kept)
+
+same-length-31 : tie.Need-same-length-31
+same-length-31 c = search (after-measure c .perform-measure .kept)
+
+same-length-32 : tie.Need-same-length-32
+same-length-32 c = search (after-measure c .perform-measure .kept)
+
+same-length-33 : tie.Need-same-length-33
+same-length-33 c = search (after-measure c .perform-measure .kept)
+
+returns-5 : tie.Need-returns-5
+returns-5 c = let a = after-measure c in let s = start (to-measure (a .before) .before .before) .args in a .perform-measure .ensures (now (s .contours))
+
+same-length-34 : tie.Need-same-length-34
+same-length-34 c = search (after-flippt c .flippt .kept)
 
 returns-6 : tie.Need-returns-6
 unfolding Named
-returns-6 c = let a = after-fliprg c in let e = to-fliprg (a .before) in let k = e .before .before in let s = start k in let w = entry s in
-    a .fliprg .ensures (read s) (w .gx) (w .gy) (w .tox) (w .toy) (w .tx) (w .ty) (w .tflags) ∙ named k (e .enum-told6 .given .1) (read s) (now (s .args .operands)) (entry s)
+returns-6 c = let a = after-flippt c in let e = to-flippt (a .before) in let k = e .before .before in let s = start k in let w = entry s in
+    a .flippt .ensures (read s) (s .args .opcode) (w .gx) (w .gy) (w .tox) (w .toy) (w .tx) (w .ty) (w .tflags) ∙ named k (e .enum-told6 .given .1) (read s) (now (s .args .operands)) (entry s)
+
+same-length-35 : tie.Need-same-length-35
+same-length-35 c = search (after-fliprg c .fliprg .kept)
 
 returns-7 : tie.Need-returns-7
+unfolding Named
+returns-7 c = let a = after-fliprg c in let e = to-fliprg (a .before) in let k = e .before .before in let s = start k in let w = entry s in
+    a .fliprg .ensures (read s) (w .gx) (w .gy) (w .tox) (w .toy) (w .tx) (w .ty) (w .tflags) ∙ named k (e .enum-told7 .given .1) (read s) (now (s .args .operands)) (entry s)
+
+returns-8 : tie.Need-returns-8
 unfolding Named setOf
-returns-7 c = let e = c .before in let k = e .before .before in let s = start k in
-    ap (into (entry s)) (c .set-state .ensures) ∙ named k (e .enum-told7 .given .1) (read s) (now (s .args .operands)) (entry s)
+returns-8 c = let e = c .before in let k = e .before .before in let s = start k in
+    ap (into (entry s)) (c .set-state .ensures) ∙ named k (e .enum-told8 .given .1) (read s) (now (s .args .operands)) (entry s)
 
 pub perform-spec : {M : Type 1} → statement M
 perform-spec =
@@ -233,10 +274,12 @@ perform-spec =
     enum-told-4
     perform-distance-requires
     enum-told-5
-    flippt-requires
+    perform-measure-requires
     enum-told-6
-    fliprg-requires
+    flippt-requires
     enum-told-7
+    fliprg-requires
+    enum-told-8
     set-state-requires
     same-length
     same-length-2
@@ -268,7 +311,16 @@ perform-spec =
     same-length-25
     returns-4
     same-length-26
-    returns-5
     same-length-27
+    same-length-28
+    same-length-29
+    same-length-30
+    same-length-31
+    same-length-32
+    same-length-33
+    returns-5
+    same-length-34
     returns-6
-    returns-7)
+    same-length-35
+    returns-7
+    returns-8)

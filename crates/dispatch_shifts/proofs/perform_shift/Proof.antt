@@ -6,7 +6,7 @@ use Prim.Native.Nat.{ℕ, _≤_, _<_}
 use native.Mathlib.Omega.{arith}
 use denote.Ref.{now}
 use lib.IntN.{ℤ}
-use Rattle.opcodes.proofs.Rows.{at-number, at-two}
+use Rattle.opcodes.proofs.Rows.{at-number, at-range}
 use Rattle.line.specs.World.{Fixed, World, fixed, world}
 use Rattle.dispatch_shifts.proofs.perform_shift.Statement.{statement}
 use Rattle.dispatch_shifts.proofs.perform_shift.Tie as tie
@@ -85,7 +85,7 @@ same-length-6 c = search (after-shp c .shp .kept)
 
 returns : tie.Need-returns
 returns c = let k = after-shp c in let i = to-shp (k .before) in let s = start (i .before) in
-    λ controls gux guy. at-two (read s controls gux guy) (s .args .opcode) (now (s .args .operands)) (entry s) 0x32 (i .before .if1 .left) (i .if2 .taken) refl (k .shp .ensures controls gux guy (now (s .args .contours)))
+    λ controls gux guy. at-range (read s controls gux guy) (s .args .opcode) (now (s .args .operands)) (entry s) 0x32 0x33 (i .before .if1 .left) (i .if2 .taken) refl (k .shp .ensures controls gux guy (now (s .args .contours)))
 
 same-length-7 : tie.Need-same-length-7
 same-length-7 c = search (after-shc c .shc .kept)
@@ -107,7 +107,7 @@ same-length-12 c = search (after-shc c .shc .kept)
 
 returns-2 : tie.Need-returns-2
 returns-2 c = let k = after-shc c in let i = to-shc (k .before) in let s = start (i .before .before) in
-    λ controls gux guy. at-two (read s controls gux guy) (s .args .opcode) (now (s .args .operands)) (entry s) 0x34 (i .before .if2 .left) (i .if3 .taken) refl (k .shc .ensures controls gux guy)
+    λ controls gux guy. at-range (read s controls gux guy) (s .args .opcode) (now (s .args .operands)) (entry s) 0x34 0x35 (i .before .if2 .left) (i .if3 .taken) refl (k .shc .ensures controls gux guy)
 
 same-length-13 : tie.Need-same-length-13
 same-length-13 c = search (after-shz c .shz .kept)
@@ -129,7 +129,7 @@ same-length-18 c = search (after-shz c .shz .kept)
 
 returns-3 : tie.Need-returns-3
 returns-3 c = let k = after-shz c in let i = to-shz (k .before) in let s = start (i .before .before .before) in
-    λ controls gux guy. at-two (read s controls gux guy) (s .args .opcode) (now (s .args .operands)) (entry s) 0x36 (i .before .if3 .left) (i .if4 .taken) refl (k .shz .ensures controls gux guy)
+    λ controls gux guy. at-range (read s controls gux guy) (s .args .opcode) (now (s .args .operands)) (entry s) 0x36 0x37 (i .before .if3 .left) (i .if4 .taken) refl (k .shz .ensures controls gux guy)
 
 same-length-19 : tie.Need-same-length-19
 same-length-19 c = search (after-shpix c .shpix .kept)

@@ -32,10 +32,13 @@ placing n = search
 abbrev moving : tie.After-apply-in-arg6 → tie.After-move-of
 moving c = search
 
-abbrev applying : tie.After-settle-msirp → tie.After-apply-in
+abbrev applying : tie.After-settle-relative → tie.After-apply-in
 applying c = search
 
-abbrev made : tie.After-settle-msirp → tie.After-make-in
+abbrev settling : tie.After-settle-relative → tie.After-is-odd
+settling c = search
+
+abbrev made : tie.After-settle-relative → tie.After-make-in
 made c = making (placing (moving (applying c .before)))
 
 -- the world with the twilight point made
@@ -88,8 +91,11 @@ apply-in-requires c κs = let m = making (placing (moving c)) in let p = started
     let twilight = m .make-in .kept .1 .1 .1 .1 in let tx = twilight .1 .1 .0 in
     (p .0, p .1, twilight .1 .1 .1 .0 ∙ p .2 ∙ sym tx, p .3 ∙ sym tx)
 
-settle-msirp-requires : tie.Need-settle-msirp-requires
-settle-msirp-requires c κs = tt
+is-odd-requires : tie.Need-is-odd-requires
+is-odd-requires c κs = tt
+
+settle-relative-requires : tie.Need-settle-relative-requires
+settle-relative-requires c κs = tt
 
 returns-2 : tie.Need-returns-2
 returns-2 c = let t = c .before .before in let k = t .before .before in let i = indexed k in let d = i .before in let s = started i in
@@ -140,7 +146,8 @@ returns-3 c = let a = applying c in let n = moving (a .before) in let l = n .bef
     (back32 (l .distance-left .result) (l .distance-left .ok) ∙ l .distance-left .ensures)
     (n .move-of .ensures)
     (a .apply-in .ensures)
-    (c .settle-msirp .ensures (withPoints (madeWorld m) (bothMoved (a .apply-in .result) _ _ _ _ _ _)))
+    (settling c .is-odd .ensures)
+    (c .settle-relative .ensures (withPoints (madeWorld m) (bothMoved (a .apply-in .result) _ _ _ _ _ _)))
 
 pub msirp-spec : {M : Type 1} → statement M
 msirp-spec =
@@ -160,7 +167,8 @@ msirp-spec =
     distance-left-requires
     move-of-requires
     apply-in-requires
-    settle-msirp-requires
+    is-odd-requires
+    settle-relative-requires
     returns-2
     same-length
     same-length-2

@@ -11,7 +11,10 @@ returns-2 : tie.Need-returns-2
 returns-2 c = search needs
 
 returns-3 : tie.Need-returns-3
-returns-3 c = none-kept (c .before .args .edition) (c .match .rest .0 .1) (c .match .rest .1)
+returns-3 c = search needs
+
+returns-4 : tie.Need-returns-4
+returns-4 c = let other = c .match .rest in none-kept (c .before .args .edition) (other .0 .0 .1) (other .0 .1) (other .1)
 
 pub kept-by-spec : {M : Type 1} → statement M
-kept-by-spec = tie.close (tie.spec returns returns-2 returns-3)
+kept-by-spec = tie.close (tie.spec returns returns-2 returns-3 returns-4)

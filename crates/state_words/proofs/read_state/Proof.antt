@@ -1,6 +1,4 @@
 -- `state_words::read_state` meets its contract. Assumes nothing.
-use mathlib.Core.Path.{_∙_}
-use Rattle.int.proofs.Words.{back32}
 use Rattle.state_words.specs.Words.{stateOf}
 use Rattle.state_words.proofs.Same.{same-state}
 use Rattle.state_words.proofs.read_state.Tie as tie
@@ -21,21 +19,21 @@ word-requires c κs = tt
 pointers-of-requires : tie.Need-pointers-of-requires
 pointers-of-requires c κs = tt
 
-number-requires : tie.Need-number-requires
-number-requires c κs = tt
+measures-of-requires : tie.Need-measures-of-requires
+measures-of-requires c κs = tt
 
 facts-of-requires : tie.Need-facts-of-requires
 facts-of-requires c κs = tt
 
-word-requires-2 : tie.Need-word-requires-2
-word-requires-2 c κs = tt
+tallies-of-requires : tie.Need-tallies-of-requires
+tallies-of-requires c κs = tt
 
 returns : tie.Need-returns
 unfolding stateOf
 returns c =
-    let f = c .before in let n = f .before in let z = n .before in let l = z .before in let p = l .before in let r = p .before in
+    let f = c .before in let m = f .before in let z = m .before in let l = z .before in let p = l .before in let r = p .before in
     same-state (r .before .vectors-of .ensures) (r .round-of .ensures) (p .references-of .ensures) (l .word .ensures) (z .pointers-of .ensures)
-    (back32 (n .number .result) (n .number .ok) ∙ n .number .ensures) (f .facts-of .ensures) (c .word2 .ensures)
+    (m .measures-of .ensures) (f .facts-of .ensures) (c .tallies-of .ensures)
 
 pub read-state-spec : {M : Type 1} → statement M
 read-state-spec =
@@ -46,7 +44,7 @@ read-state-spec =
     references-of-requires
     word-requires
     pointers-of-requires
-    number-requires
+    measures-of-requires
     facts-of-requires
-    word-requires-2
+    tallies-of-requires
     returns)

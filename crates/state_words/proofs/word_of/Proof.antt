@@ -3,8 +3,7 @@ use mathlib.Core.Path.{_∙_, ap}
 use native.Mathlib.Omega.{arith}
 use Rattle.int.proofs.Words.{back32}
 use Rattle.int.specs.Word.{bitsOf}
-use Rattle.state_words.specs.Words.{stateWords}
-use Rattle.state_words.proofs.Places.{cut-in-at, facts-at, loop-at, outside, pointers-at, references-at, round-at, state-size, vectors-at, wrapped-at}
+use Rattle.state_words.proofs.Places.{cut-in-at, distances-at, facts-at, loop-at, pointers-at, pushes-at, references-at, round-at, vectors-at, wrapped-at}
 use Rattle.state_words.proofs.word_of.Tie as tie
 use Rattle.state_words.proofs.word_of.Statement.{statement}
 
@@ -29,6 +28,12 @@ facts-word-requires c κs = tt
 
 to-bits-requires : tie.Need-to-bits-requires
 to-bits-requires c κs = tt
+
+distances-word-requires : tie.Need-distances-word-requires
+distances-word-requires c κs = tt
+
+pushes-word-requires : tie.Need-pushes-word-requires
+pushes-word-requires c κs = tt
 
 returns : tie.Need-returns
 returns c = let a = c .before .before .args in c .vectors-word .ensures ∙ vectors-at (a .s) (a .k) (c .before .if1 .taken)
@@ -56,7 +61,12 @@ returns-8 : tie.Need-returns-8
 returns-8 c = let a = c .before .before .before .before .before .before .before .before .args in wrapped-at (a .s) (a .k) (c .before .if7 .left) (c .if8 .taken)
 
 returns-9 : tie.Need-returns-9
-returns-9 c = let a = c .before .before .before .before .before .before .before .before .args in outside (stateWords (a .s)) (a .k) (omega (arith, state-size (a .s), c .if8 .left))
+returns-9 c = let a = c .before .before .before .before .before .before .before .before .before .before .args in
+    c .distances-word .ensures ∙ distances-at (a .s) (a .k) (c .before .before .if8 .left) (c .before .if9 .taken)
+
+returns-10 : tie.Need-returns-10
+returns-10 c = let a = c .before .before .before .before .before .before .before .before .before .before .args in
+    c .pushes-word .ensures ∙ pushes-at (a .s) (a .k) (c .before .if9 .left)
 
 pub word-of-spec : {M : Type 1} → statement M
 word-of-spec =
@@ -68,6 +78,8 @@ word-of-spec =
     pointers-word-requires
     facts-word-requires
     to-bits-requires
+    distances-word-requires
+    pushes-word-requires
     returns
     returns-2
     returns-3
@@ -76,4 +88,5 @@ word-of-spec =
     returns-6
     returns-7
     returns-8
-    returns-9)
+    returns-9
+    returns-10)

@@ -1,6 +1,7 @@
 -- `graphics::Tallies::with_rounding` meets its contract: by whether the rounding wrapped. Assumes nothing.
 use mathlib.Core.Path.{ap, sym, _∙_}
 use native.Mathlib.Omega.{arith}
+use Rattle.int.proofs.Words.{back32}
 use Rattle.graphics.proofs.Seen.{counted, not-counted}
 use Rattle.graphics.proofs.Tallies.with_rounding.Statement.{statement}
 use Rattle.graphics.proofs.Tallies.with_rounding.Tie as tie
@@ -9,7 +10,8 @@ one-more-requires : tie.Need-one-more-requires
 one-more-requires c κs = tt
 
 returns : tie.Need-returns
-returns c = let e = c .before in counted (e .before .args .self) (e .if1 .taken) (c .one-more .ensures)
+returns c = let m = c .before in let e = m .before in let t = e .before .args .self in
+    counted t (e .if1 .taken) (m .one-more .ensures) (back32 (t .«last_pushed») (omega (arith, c .struct-told .given)))
 
 returns-2 : tie.Need-returns-2
 returns-2 c = let s = c .before in not-counted (s .args .self) (c .if1 .left)

@@ -1,0 +1,82 @@
+-- `line_measure::gc` meets its contract: by whether the operand is there, in any world that holds the lists lent. Assumes nothing.
+use Prim.Native.Nat.{ℕ}
+use mathlib.Core.List.{List}
+use mathlib.Core.Path.{ap}
+use denote.Ref.{now}
+use lib.IntN.{ℤ}
+use Rattle.line.specs.World.{Fixed, World, fixed, world}
+use Rattle.line_steps.specs.Steps.{into}
+use Rattle.line_measure.proofs.Cases.{gc-found, gc-missing}
+use Rattle.line_measure.proofs.gc.Statement.{statement}
+use Rattle.line_measure.proofs.gc.Tie as tie
+
+-- ---- places of the walk, found by their types
+abbrev entry : tie.Start → List ℕ → List ℕ → World
+entry s gflags tflags = let a = s .args in
+    world (a .s) (now (a .gx)) (now (a .gy)) gflags (now (a .tox)) (now (a .toy)) (now (a .tx)) (now (a .ty)) tflags
+
+abbrev held : tie.Start → List ℤ → List ℤ → List ℤ → List ℕ → Fixed
+held s controls gux guy contours = let a = s .args in fixed controls gux guy (now (a .gox)) (now (a .goy)) contours
+
+abbrev beginning : tie.After-refused → tie.Start
+beginning c = search
+
+abbrev started : tie.After-index-at → tie.Start
+started i = search
+
+abbrev indexed : tie.After-is-odd → tie.After-index-at
+indexed o = search
+
+abbrev asked : tie.After-look-up → tie.After-is-odd
+asked l = search
+
+abbrev looked : tie.After-apart → tie.After-look-up
+looked d = search
+
+abbrev measured : tie.After-settle-measured → tie.After-apart
+measured c = search
+
+refused-requires : tie.Need-refused-requires
+refused-requires c κs = tt
+
+returns : tie.Need-returns
+returns c = let s = beginning c in
+    λ controls gux guy contours gflags tflags. gc-missing (held s controls gux guy contours) (s .args .opcode) (now (s .args .operands)) (entry s gflags tflags) (c .before .if1 .taken)
+    (ap (into (entry s gflags tflags)) (c .refused .ensures))
+
+index-at-requires : tie.Need-index-at-requires
+index-at-requires c κs = tt
+
+is-odd-requires : tie.Need-is-odd-requires
+is-odd-requires c κs = tt
+
+look-up-requires : tie.Need-look-up-requires
+look-up-requires c κs = search
+
+apart-requires : tie.Need-apart-requires
+apart-requires c κs = tt
+
+settle-measured-requires : tie.Need-settle-measured-requires
+settle-measured-requires c κs = tt
+
+returns-2 : tie.Need-returns-2
+returns-2 c = let d = measured c in let l = looked d in let o = asked l in let i = indexed o in let s = started i in
+    λ controls gux guy contours gflags tflags. gc-found (held s controls gux guy contours) (s .args .opcode) (now (s .args .operands)) (entry s gflags tflags) (i .before .if1 .left)
+    (i .index-at .ensures)
+    (o .is-odd .ensures)
+    (l .look-up .ensures)
+    (d .apart .ensures)
+    (c .settle-measured .ensures (entry s gflags tflags))
+
+pub gc-spec : {M : Type 1} → statement M
+gc-spec =
+    tie.close
+    (tie.spec
+    refused-requires
+    returns
+    index-at-requires
+    is-odd-requires
+    look-up-requires
+    apart-requires
+    settle-measured-requires
+    returns-2)

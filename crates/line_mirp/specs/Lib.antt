@@ -1,0 +1,2 @@
+pub mod Mirp
+pub mod Steps

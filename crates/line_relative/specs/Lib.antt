@@ -1,0 +1,2 @@
+pub mod Relative
+pub mod Steps
