@@ -103,6 +103,7 @@ enum taleviqa_number {
     TALEVIQA_RANGE = 11,        /* FLIPRGON, FLIPRGOFF: a range of points that ends outside the glyph, or starts two or more above its end; detail: its start */
     TALEVIQA_CONTOUR = 12,      /* SHC, pedantic: a contour that the zone hasn't; detail: its number */
     TALEVIQA_COMPATIBILITY = 13, /* SHPIX under backward compatibility */
+    TALEVIQA_ENDS = 14,         /* contour ends that don't rise, or one at or above the number of points; nothing has changed */
     TALEVIQA_BAD_WORD = 16      /* the state is not TALEVIQA_STATE_WORDS words, each within its range, or the answer not TALEVIQA_ANSWER_WORDS */
 };
 
@@ -112,7 +113,8 @@ enum taleviqa_number {
  * answer is written: 16, start, 0, 0, where it has four places.
  *
  * sheet: opcode word, count word, operands, and so on. Coordinates are in 64ths of a pixel, unscaled ones in font units.
- * glyph: unscaled, original and current x and y and the flags, all of one length; contours: the number of each contour's last point.
+ * glyph: unscaled, original and current x and y and the flags, all of one length; contours: the number of each contour's last point, each
+ * above the one before it and below the number of points: with any others the answer is 14, after 2 and before 3.
  * twilight: original and current x and y and the flags, all of one length.
  * A flag byte has bit 0 on curve, bit 1 touched in x, bit 2 touched in y; other bits are kept.
  * At most 65,535 points in a zone, 65,535 contours, 16,384 control values and 262,144 words of sheet. */

@@ -17,6 +17,7 @@ LISTS = ["ux", "uy", "ox", "oy", "x", "y", "flag", "contours", "tox", "toy", "tx
 UNSIGNED = ("flag", "contours", "tflag")
 
 REFUSED = (15, 16, 17)
+ENDS = 14  # an answer of the replay, and not of the record: its points are printed
 MEANINGS = {
     0: "all lines are done",
     1: "the budget is used and words of the sheet remain",
@@ -32,6 +33,7 @@ MEANINGS = {
     11: "a range of points outside the zone; the detail is its start",
     12: "a contour that zp2's zone doesn't have; the detail is its number. Correct the SHC line, or clear the fact pedantic: then such a line does nothing",
     13: "SHPIX under backward compatibility. Take the line out, or clear that fact",
+    14: "contour ends that don't rise, or one at or above the number of points; nothing has changed. docs/ARCHIVISTS.md says what to do",
     15: "the record is refused: its sum is not that of its words, so something in it has changed",
     16: "the record is refused: its length, its trailer or a word is out of range, so this is no record of edition 1, 2 or 3, or it is damaged",
     17: "the record is refused: it has more than 24 KiB",
@@ -123,6 +125,18 @@ def from_bytes(data):
     if bits(sum(words[:-1])) != total:
         raise Refused(15, "the sum is not that of the words before it")
     return held
+
+
+def bad_end(data):
+    """The first contour of a lawful record that doesn't end behind the one before it and at a point, in words; nothing where none is so."""
+    held = from_bytes(data)
+    ends, points = held["contours"], len(held["x"])
+    for k, end in enumerate(ends):
+        if k and end <= ends[k - 1]:
+            return f"contour {k} ends at point {end}, and contour {k - 1} at {ends[k - 1]}"
+        if end >= points:
+            return f"contour {k} ends at point {end}, and there are {points} points, from 0 on"
+    return ""
 
 
 # ---- what a program wrote, held to the record: a program has no exit status, and a write of its may be cut short

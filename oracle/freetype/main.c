@@ -112,11 +112,11 @@ static void put_outcome(const Outcome *outcome, const uint32_t *before, const Wo
         }
 }
 
-static void answer_case(const uint32_t *given)
+static void answer_case(const uint32_t *given, int any_ends)
 {
     World world = world_of(given);
     uint32_t *before = words_for(world.words);
-    Call call = {given[1], given + ARGUMENTS, joined(given + START), joined(given + RUN_BUDGET)};
+    Call call = {given[1], given + ARGUMENTS, joined(given + START), joined(given + RUN_BUDGET), any_ends};
     Outcome outcome = {0};
 
     memcpy(before, world.state, world.words * sizeof *before);
@@ -127,12 +127,12 @@ static void answer_case(const uint32_t *given)
     free(world.state);
 }
 
-static void answer_cases(const uint32_t *given, size_t count)
+static void answer_cases(const uint32_t *given, size_t count, int any_ends)
 {
     for (size_t place = 0; place < count; place += given[place]) {
         if (given[place] < HEAD_WORDS + STATE_WORDS || given[place] > count - place)
             fail("a case's length is wrong");
-        answer_case(given + place);
+        answer_case(given + place, any_ends);
     }
 }
 
@@ -174,15 +174,16 @@ static void answer_projection(const uint32_t *given, size_t count)
 int main(int count, char **arguments)
 {
     const char *stream = count == 2 ? arguments[1] : "";
+    int any_ends = !strcmp(stream, "any-ends");
     size_t words;
     uint32_t *given;
 
-    if (strcmp(stream, "cases") && strcmp(stream, "math") && strcmp(stream, "projection"))
-        fail("usage: answer cases|math|projection, the stream on standard input");
+    if (!any_ends && strcmp(stream, "cases") && strcmp(stream, "math") && strcmp(stream, "projection"))
+        fail("usage: answer cases|any-ends|math|projection, the stream on standard input");
     door_open();
     given = read_all(&words);
-    if (!strcmp(stream, "cases"))
-        answer_cases(given, words);
+    if (any_ends || !strcmp(stream, "cases"))
+        answer_cases(given, words, any_ends);
     else if (!strcmp(stream, "math"))
         answer_math(given, words);
     else

@@ -4,7 +4,7 @@
 
 #include "world.h"
 
-/* 01's answers that the driver gives. FreeType names no index, so that the
+/* 01's answers that the driver gives, and document 02's for contour ends. FreeType names no index, so that the
    detail of a point or control value that it refuses is 0. */
 enum {
     END = 0,
@@ -16,7 +16,8 @@ enum {
     MISSING = 6,
     POINT = 7,
     ZONE = 9,
-    LOOP_BELOW_ZERO = 10
+    LOOP_BELOW_ZERO = 10,
+    ENDS = 14
 };
 
 typedef struct {
@@ -25,11 +26,13 @@ typedef struct {
     uint32_t value[2];
 } Outcome;
 
-/* The words of a call's arguments, as docs/ORACLE.md has them. */
+/* The words of a call's arguments, as docs/ORACLE.md has them; whether contour
+   ends are taken as they are. */
 typedef struct {
     uint32_t kind;
     const uint32_t *arguments;
     uint64_t start, budget;
+    int any_ends;
 } Call;
 
 /* 0 if FreeType has no such call. */

@@ -109,9 +109,9 @@ def ask_words(program, stream, words):
     return struct.unpack(f"<{len(done.stdout) // 4}I", done.stdout)
 
 
-def ask(program, cases):
+def ask(program, cases, stream="cases"):
     """The program's outcome of each case."""
-    words = ask_words(program, "cases", [word for case in cases for word in case.words()])
+    words = ask_words(program, stream, [word for case in cases for word in case.words()])
     outcomes, place = [], 0
     for _ in cases:
         number, *rest, count = words[place:place + 10]

@@ -17,6 +17,7 @@ pub const LOOP: u32 = 10;
 pub const RANGE: u32 = 11;
 pub const CONTOUR: u32 = 12;
 pub const SHIFT_BY_PIXELS: u32 = 13;
+pub const ENDS: u32 = 14;
 
 #[derive(Copy, Clone, PartialEq, Eq, Default, Debug)]
 pub struct Answer {

@@ -2,6 +2,7 @@
 //! with the smallest input known, run on the Rust.
 
 mod distances;
+mod ends;
 mod selectors;
 mod shifts;
 mod wraps;
@@ -39,6 +40,7 @@ pub fn check_all() -> bool {
     selectors::check(&mut claims);
     wraps::check(&mut claims);
     distances::check(&mut claims);
+    ends::check(&mut claims);
     budgets_add_up(&mut claims);
     println!("{} claims, {} fail", claims.count, claims.failed);
     claims.failed == 0
@@ -192,40 +194,6 @@ fn easy_to_get_wrong(claims: &mut Claims) {
         "MSIRP into twilight: current",
         msirp.twilight_point(1),
         (1164, 9),
-    );
-    empty_glyph(claims);
-}
-
-/// IUP on no points: 7 with detail 0, and the mark stays.
-fn empty_glyph(claims: &mut Claims) {
-    let scene = Scene::new(&[]).contours(&[0]).sheet(&[48, 0]);
-    let played = scene
-        .clone()
-        .state(|state| state.backward_compatibility = true)
-        .play();
-    claims.same("01: IUP on no points", played.said(), (7, 0));
-    claims.same(
-        "01: its mark stays",
-        played.world.state.y_interpolated,
-        true,
-    );
-    let unmarked = scene.play();
-    claims.same(
-        "01: no mark otherwise",
-        unmarked.world.state.y_interpolated,
-        false,
-    );
-    let skipped = scene
-        .state(|state| {
-            state.backward_compatibility = true;
-            state.x_interpolated = true;
-            state.y_interpolated = true;
-        })
-        .play();
-    claims.same(
-        "01: skipped once both marks are set",
-        skipped.said(),
-        (0, 0),
     );
 }
 
@@ -524,12 +492,6 @@ fn direct_calls(claims: &mut Claims) {
         "iup on no points and no contour",
         empty.call(along_x).said(),
         (0, 0),
-    );
-    let contour = empty.contours(&[5]);
-    claims.same(
-        "iup on no points and a contour",
-        contour.call(along_x).said(),
-        (7, 0),
     );
     let unlike = Scene::new(&[(0, 0), (0, 0)]).original(&[(0, 0)]);
     for rp1 in [0, 1] {

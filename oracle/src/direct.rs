@@ -158,6 +158,9 @@ impl Call {
         if !lists_fit || takes_contours && !entry::contours_fit(world) {
             return Some(answer::SIZES);
         }
+        if takes_contours && !entry::ends_rise(world) {
+            return Some(answer::ENDS);
+        }
         let takes_state = self.own_zone().is_none();
         let unsound = takes_state && !entry::state_is_sound(&world.state);
         unsound.then_some(answer::STATE)

@@ -1,4 +1,5 @@
-//! The tests that come before any step: sizes for answer 2, state for answer 3.
+//! The tests that come before any step: sizes for answer 2, contour ends for
+//! answer 14, state for answer 3.
 
 use crate::{vectors, world::*};
 use reference::door::State;
@@ -28,6 +29,16 @@ pub fn everything_fits(world: &World) -> bool {
         && contours_fit(world)
         && world.lists[CONTROL_VALUES].len() <= MOST_CONTROL_VALUES
         && world.lists[SHEET].len() <= MOST_SHEET_WORDS
+}
+
+/// Whether each contour ends behind the one before it, and at a point: document
+/// 02, K8. The Rust takes any ends.
+pub fn ends_rise(world: &World) -> bool {
+    let ends = &world.lists[CONTOURS];
+    let rise = ends.windows(2).all(|pair| pair[0] < pair[1]);
+    rise && ends
+        .last()
+        .is_none_or(|end| (*end as usize) < world.points())
 }
 
 pub fn state_is_sound(state: &State) -> bool {

@@ -84,7 +84,6 @@ pub fn accesses(case: &Case, line: &ReachedLine) -> Vec<Accessed> {
 
 fn accessed(case: &Case, line: &ReachedLine, row: &Row, access: &Access) -> Vec<Accessed> {
     let pointers = case.world.state.zones;
-    let [_, _, zp2] = pointers;
     let called = |name: &str, (zone, index): (u32, u64)| Accessed {
         name: name.into(),
         zone,
@@ -112,14 +111,6 @@ fn accessed(case: &Case, line: &ReachedLine, row: &Row, access: &Access) -> Vec<
             }
             found
         }
-        Access::PastTheEnd => {
-            let points = points_shifted(case, line);
-            // The points before it are there.
-            let missing = points.start.max(case.world.points_of(zp2) as u64);
-            let beyond = (missing < points.end).then(|| called(name, (zp2, missing)));
-            beyond.into_iter().collect()
-        }
-        Access::FirstPoint => vec![called(name, (1, 0))],
         Access::Rp0 | Access::OfShift => {
             let reference = access.reference(line.opcode).into_iter();
             let place = reference.map(|reference| place_of(case, reference));

@@ -35,7 +35,7 @@ use std::{io::Write, path::Path, process::ExitCode};
 
 const USAGE: &str = "\
 usage: oracle/run COMMAND
-  sample FOLDER            write the thirteen sample files, the same bytes every time
+  sample FOLDER            write the fourteen sample files, the same bytes every time
   check FOLDER             make them again and compare with the folder's
   show FILE                print a sample file as text
   coverage N SEED          make N cases, count what came up, fail if a kind is missing

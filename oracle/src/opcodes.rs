@@ -2,7 +2,7 @@
 //! and coverage read it, so that what they share of an instruction is said once.
 
 use std::ops::RangeInclusive;
-use Access::{Each, FirstPoint, Named, OfShift, PastTheEnd, Rp0};
+use Access::{Each, Named, OfShift, Rp0};
 use Codes::{Axes, FiveBits, Flags, One};
 use Family::{Distances, Outline, Selector, Setter, Shift};
 use Operand::{
@@ -101,10 +101,6 @@ pub enum Access {
     OfShift,
     /// Each point of the loop, and after it these.
     Each(&'static [Access]),
-    /// The first of SHC's or SHZ's points that isn't there.
-    PastTheEnd,
-    /// The glyph's, for IUP.
-    FirstPoint,
 }
 
 /// A reference point: which of rp0 to rp2, and where it is looked for.
@@ -179,16 +175,14 @@ pub static TABLE: [Row; 36] = [
             Named("point", 4),
         ])
         .refuses(&[7]),
-    row("IUP", Axes(0x30), Outline)
-        .accesses(&[FirstPoint])
-        .refuses(&[7]),
+    row("IUP", Axes(0x30), Outline),
     row("SHC", Flags(0x34, 0x35), Shift)
         .takes(&[Contour])
-        .accesses(&[OfShift, PastTheEnd])
+        .accesses(&[OfShift])
         .refuses(&[7, 12]),
     row("SHZ", Flags(0x36, 0x37), Shift)
         .takes(&[ZoneNumber])
-        .accesses(&[OfShift, PastTheEnd])
+        .accesses(&[OfShift])
         .refuses(&[7, 9]),
     row("SHPIX", One(0x38), Shift)
         .takes(&[Amount])
@@ -371,8 +365,6 @@ impl Access {
             Rp0 => "rp0",
             OfShift => "reference",
             Each(_) => "point",
-            PastTheEnd => "point past n",
-            FirstPoint => "first point",
         }
     }
 

@@ -44,6 +44,9 @@ pub fn watched(world: &mut World, start: u64, budget: u64, mut watch: impl FnMut
     if !entry::everything_fits(world) {
         return at_entry(answer::SIZES);
     }
+    if !entry::ends_rise(world) {
+        return at_entry(answer::ENDS);
+    }
     if !entry::state_is_sound(&world.state) {
         return at_entry(answer::STATE);
     }

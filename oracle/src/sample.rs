@@ -1,16 +1,17 @@
-//! The committed sample: thirteen files, the same bytes every time.
+//! The committed sample: fourteen files, the same bytes every time.
 
 use crate::{
+    answer,
     case::Case,
     coverage,
     direct::Call,
     generate::{
-        distance_case, distance_run_case, every_distance, every_length, every_limit, every_opcode,
-        every_selector, every_setter, every_shift, every_wrap, far_calls, far_distances,
-        far_references, iup_case, largest_faces, length_case, limit_cases, line_case,
-        long_iup_case, long_iup_shift_case, rounds_by_every_selector, run_case, runs_of_01,
-        selector_counts, selector_run_case, set_words, shift_case, shift_run_case, turns,
-        wrap_case, zone_case,
+        distance_case, distance_run_case, every_distance, every_end, every_length, every_limit,
+        every_opcode, every_selector, every_setter, every_shift, every_wrap, far_calls,
+        far_distances, far_references, iup_case, largest_faces, length_case, limit_cases,
+        line_case, long_iup_case, long_iup_shift_case, mended, rounds_by_every_selector, run_case,
+        runs_of_01, selector_counts, selector_run_case, set_words, shift_case, shift_run_case,
+        turns, wrap_case, zone_case,
     },
     math_rows, notable,
     opcodes::{rows_of, Family},
@@ -48,7 +49,7 @@ const DISTANCES_EACH: [usize; 4] = [320, 220, 260, 260];
 const DISTANCE_RUN_CASES: usize = 300;
 const DISTANCE_CALLS: usize = 60;
 
-const NAMES: [&str; 13] = [
+const NAMES: [&str; 14] = [
     "math",
     "projection",
     "zone",
@@ -62,9 +63,13 @@ const NAMES: [&str; 13] = [
     "wraps",
     "largest",
     "distances",
+    "ends",
 ];
 
-/// Writes the thirteen files into a folder and says how large each is.
+/// Those that hold no cases, and the last.
+const UNLIKE_BEFORE: [&str; 3] = ["math", "projection", "ends"];
+
+/// Writes the fourteen files into a folder and says how large each is.
 pub fn write(folder: &Path) -> Result<(), String> {
     std::fs::create_dir_all(folder).map_err(|error| error.to_string())?;
     for name in NAMES {
@@ -126,7 +131,7 @@ fn make(name: &str) -> (usize, Vec<u32>) {
     }
 }
 
-/// The cases of one of the eleven files that hold cases.
+/// The cases of one of the twelve files that hold cases.
 fn cases_of(name: &str) -> Vec<Case> {
     match name {
         "zone" => zone_cases(),
@@ -139,6 +144,7 @@ fn cases_of(name: &str) -> Vec<Case> {
         "wraps" => wraps(),
         "largest" => largest_faces(),
         "distances" => distances(),
+        "ends" => ends(),
         _ => turns_and_far_indices(),
     }
 }
@@ -261,6 +267,22 @@ fn distances() -> Vec<Case> {
         case
     }));
     cases
+}
+
+/// Every way that ends are sloppy or right; then each case of the files before
+/// whose ends are why it is refused, with its ends mended.
+fn ends() -> Vec<Case> {
+    let before = NAMES.iter().filter(|name| !UNLIKE_BEFORE.contains(name));
+    let refused = before
+        .flat_map(|name| cases_of(name))
+        .filter(is_refused_for_its_ends);
+    let mut cases = every_end();
+    cases.extend(refused.map(mended));
+    cases
+}
+
+fn is_refused_for_its_ends(case: &Case) -> bool {
+    case.outcome().returned.answer.number == answer::ENDS
 }
 
 fn is_run(case: &Case) -> bool {

@@ -95,6 +95,10 @@ impl Scene {
         (refused, Played { answer, world })
     }
 
+    pub fn world(&self) -> &World {
+        &self.world
+    }
+
     pub fn case(&self, call: Call) -> Case {
         Case {
             call,

@@ -1,5 +1,6 @@
-/* A run of the largest face through the C call, within a second: 65,535 points in one contour that ends at 65,534, as many twilight points, 65,535 contours in
- * another run, a sheet of 262,144 words to its last line, 16,384 control values; one more of each is answer 2. Prints what is amiss. */
+/* A run of the largest face through the C call, within a second: 65,535 points in one contour that ends at 65,534, as many twilight points, a sheet of
+ * 262,144 words to its last line, 16,384 control values; one more of each is answer 2. Then 65,533 contours, and 65,535, one for each point; where the
+ * first two end at one point, or the last at 65,535, the answer is 14 and nothing is changed. Prints what is amiss. */
 #include <inttypes.h>
 #include <stdio.h>
 #include <stdlib.h>
@@ -17,8 +18,8 @@ static int32_t values[VALUES + MORE], sheet[WORDS + MORE];
 
 static int amiss = 0;
 
-/* A row of points 64 apart, the first and the last touched and the last moved by a pixel; every line of the sheet is SVTCA[y] but the last, IUP[y]. Of many
- * contours the last has three points, two before it none, and the others one each. */
+/* A row of points 64 apart, the first and the last touched and the last moved by a pixel; every line of the sheet is SVTCA[y] but the last, IUP[y]. Each
+ * contour has one point, and the last all that are left. */
 static void make(size_t ends)
 {
     for (size_t k = 0; k <= POINTS; k++) {
@@ -33,7 +34,7 @@ static void make(size_t ends)
     flags[POINTS - 1] |= 4;
     current[1][POINTS - 1] += 64;
     for (size_t k = 0; k <= CONTOURS; k++)
-        contours[k] = (uint16_t)(ends == 1 || k >= CONTOURS - 1 ? POINTS - 1 : k < POINTS - 3 ? k : POINTS - 4);
+        contours[k] = (uint16_t)(k + 1 < ends ? k : POINTS - 1);
     memset(sheet, 0, sizeof sheet);
     sheet[WORDS - 2] = 0x30;
 }
@@ -61,6 +62,20 @@ static void expect(int holds, const char *what, uint64_t number)
     }
 }
 
+/* Contour ends as they stand are refused, and nothing is changed by it. */
+static void sloppy(const char *what)
+{
+    static const uint64_t wanted[TALEVIQA_ANSWER_WORDS] = {TALEVIQA_ENDS, 0, 0, 0};
+    uint64_t answer[TALEVIQA_ANSWER_WORDS] = {99, 99, 99, 99};
+    double seconds;
+    uint32_t number = run(POINTS, CONTOURS, 0, 0, WORDS, answer, &seconds);
+
+    expect(number == TALEVIQA_ENDS && memcmp(answer, wanted, sizeof wanted) == 0, what, number);
+    expect(seconds < 1, "and took more than a second, milliseconds", (uint64_t)(seconds * 1000));
+    for (size_t k = 0; k < POINTS; k++)
+        expect(current[1][k] == (int32_t)k * 64 + (k == POINTS - 1 ? 64 : 0), "and a point moved", k);
+}
+
 int main(void)
 {
     static const size_t most[5] = {POINTS, 1, POINTS, VALUES, WORDS};
@@ -77,13 +92,27 @@ int main(void)
     expect(current[1][0] == 0 && current[1][POINTS - 1] == (POINTS - 1) * 64 + 64, "a touched point moved", 0);
     expect(current[1][32767] == 32767 * 64 + 32, "the middle isn't interpolated", (uint64_t)current[1][32767]);
 
+    make(CONTOURS - 2);
+    number = run(POINTS, CONTOURS - 2, 0, 0, WORDS, answer, &seconds);
+    expect(number == TALEVIQA_FINISHED, "65,533 contours are answered", number);
+    expect(seconds < 1, "the run over 65,533 contours took more than a second, milliseconds", (uint64_t)(seconds * 1000));
+    expect(current[1][1] == 64 && current[1][POINTS - 4] == (POINTS - 4) * 64, "a point without a touched one in its contour moved", (uint64_t)current[1][1]);
+    for (size_t k = POINTS - 3; k < POINTS; k++)
+        expect(current[1][k] == (int32_t)k * 64 + 64, "the last contour doesn't follow its touched point", (uint64_t)current[1][k]);
+
     make(CONTOURS);
     number = run(POINTS, CONTOURS, 0, 0, WORDS, answer, &seconds);
     expect(number == TALEVIQA_FINISHED, "65,535 contours are answered", number);
     expect(seconds < 1, "the run over 65,535 contours took more than a second, milliseconds", (uint64_t)(seconds * 1000));
-    expect(current[1][1] == 64 && current[1][POINTS - 4] == (POINTS - 4) * 64, "a point without a touched one in its contour moved", (uint64_t)current[1][1]);
-    for (size_t k = POINTS - 3; k < POINTS; k++)
-        expect(current[1][k] == (int32_t)k * 64 + 64, "the last contour doesn't follow its touched point", (uint64_t)current[1][k]);
+    for (size_t k = 0; k < POINTS; k++)
+        expect(current[1][k] == (int32_t)k * 64 + (k == POINTS - 1 ? 64 : 0), "a contour's one point moved", k);
+
+    make(CONTOURS);
+    contours[1] = 0;
+    sloppy("the first two of 65,535 contours end at one point, and the answer is");
+    make(CONTOURS);
+    contours[CONTOURS - 1] = POINTS;
+    sloppy("the last of 65,535 contours ends at 65,535, and the answer is");
 
     for (int k = 0; k < 5; k++) {
         size_t sizes[5];

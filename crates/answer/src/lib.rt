@@ -31,6 +31,8 @@ pub enum Refusal {
     Contour(u64),
     // A line that backward compatibility shuts out.
     Compatibility,
+    // Contour ends that don't rise strictly, or one at or above the number of points.
+    Ends,
 }
 
 impl Refusal {
@@ -50,6 +52,7 @@ impl Refusal {
             Refusal::Range(_) => 11,
             Refusal::Contour(_) => 12,
             Refusal::Compatibility => 13,
+            Refusal::Ends => 14,
         }
     }
 
@@ -69,6 +72,7 @@ impl Refusal {
             Refusal::Range(start) => start,
             Refusal::Contour(at) => at,
             Refusal::Compatibility => 0,
+            Refusal::Ends => 0,
         }
     }
 }

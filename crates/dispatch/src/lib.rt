@@ -1,7 +1,7 @@
 // Each opcode's line, with the lists that it is lent.
 //
 // `perform` is one equation with `lineOf` of the crate opcodes: what the line says, the state, and every list that it may change, refused or not. It asks
-// that the lists of each zone share one length, which the run tests once at its entry, and nothing else. That an opcode is known and the operands
+// that the lists of each zone share one length and the contours' ends rise, which the run tests once at its entry, and nothing else. That an opcode is known and the operands
 // aren't too many is tested by `opcodes::decode` before.
 use dispatch_distances::perform_distance;
 use dispatch_measures::perform_measure;
@@ -14,7 +14,7 @@ use line_isect::isect;
 use line_iup::iup;
 use line_set::set_state;
 ghost use mathlib.Core.Path.{_≡_};
-ghost use Rattle.line.specs.World.{Alike, fixed, lined, world};
+ghost use Rattle.line.specs.World.{Sound, fixed, lined, world};
 ghost use Rattle.opcodes.specs.Table.{lineOf};
 ghost use Rattle.dispatch.specs.Steps.{Named};
 
@@ -66,7 +66,7 @@ pub fn perform(
     ty: &mut [i32],
     tflags: &mut [u8],
 ) -> Stepped
-    requires { ⌜ Alike (fixed (now controls) (now gux) (now guy) (now gox) (now goy) (now contours)) (world s (now gx) (now gy) (now gflags) (now tox) (now toy) (now tx) (now ty) (now tflags)) ⌝ }
+    requires { ⌜ Sound (fixed (now controls) (now gux) (now guy) (now gox) (now goy) (now contours)) (world s (now gx) (now gy) (now gflags) (now tox) (now toy) (now tx) (now ty) (now tflags)) ⌝ }
     ensures { λ r. ⌜ lined r (now (gx .exit)) (now (gy .exit)) (now (gflags .exit)) (now (tox .exit)) (now (toy .exit)) (now (tx .exit)) (now (ty .exit)) (now (tflags .exit)) ≡ lineOf (fixed (now (controls .entry)) (now (gux .entry)) (now (guy .entry)) (now (gox .entry)) (now (goy .entry)) (now (contours .entry))) opcode (now (operands .entry)) (world s (now (gx .entry)) (now (gy .entry)) (now (gflags .entry)) (now (tox .entry)) (now (toy .entry)) (now (tx .entry)) (now (ty .entry)) (now (tflags .entry))) ⌝ }
 {
     let kind = kind_of(opcode);

@@ -1,20 +1,20 @@
 -- What the definitions of IUP leave alone: the number of coordinates, every touched point, every point outside the contours; and a contour's
--- result is its own points' alone. Each goes contour by contour. Assumes nothing.
+-- result is its own points' alone. Each goes contour by contour; that the ends rise is asked by what lies outside alone. Assumes nothing.
 use mathlib.Core.Path.{_≡_, refl, sym, ap, _∙_}
-use mathlib.Core.Bool.{Bool, true, false, _&&_}
+use mathlib.Core.Bool.{Bool, true, false}
 use mathlib.Core.List.{List, [], _∷_, _++_, map}
 use Prim.Native.Nat.{ℕ, zero, suc, _+_, _-_, _≤_, _<_}
 use native.Mathlib.Omega.{arith}
-use borrow.Author.Tests.{ltb-true, ltb-false, lt-ltb, le-ltb}
-use lib.Dec.{ltb, eqb}
+use native.Mathlib.Numerals.{add-one}
 use lib.IntN.{ℤ, pos}
 use lib.ListN.{length, take, drop, getD, length-drop, take-append-drop}
 use lib.Seq.{take-at, drop-at, length-take-le, drop-drop}
+use Rattle.contour_ends.proofs.Rising.{in-order}
+use Rattle.contour_ends.specs.Ends.{risingFrom}
 use Rattle.iup.proofs.Fill.{getD-map}
 use Rattle.iup.proofs.Points.{Shown, shown, map-drop}
-use Rattle.iup.proofs.Walks.{past-le}
 use Rattle.iup.specs.Contour.{Point, offset, between, touchedPlaces, headOr, lastOf, spread, shiftedBy, currentOf, byTouched, contourOf, pointsOf}
-use Rattle.iup.specs.Iup.{past, walkOf, reached, iupOf}
+use Rattle.iup.specs.Iup.{walkOf, reached, iupOf}
 use Rattle.iup.specs.declared.Place.{Place}
 use Rattle.flags.specs.Axis.{touchBit}
 use Rattle.flags.specs.Flag.{hasAny}
@@ -68,85 +68,65 @@ pub keeps-contour : (ps : List Point) → Keeps ps (contourOf ps)
 unfolding contourOf
 keeps-contour ps = keeps-by ps (touchedPlaces ps)
 
-keeps-walk-by : (n at end : ℕ) (ends : List ℕ) (ps : List Point) (b : Bool) → ltb at (past end n) ≡ b → ((m : ℕ) (qs : List Point) → Keeps qs (walkOf n m ends qs)) → Keeps ps (walkOf n at (end ∷ ends) ps)
+pub keeps-walk : (at : ℕ) (ends : List ℕ) (ps : List Point) → Keeps ps (walkOf at ends ps)
 unfolding walkOf
-keeps-walk-by n at end ends ps true t k =
-    let j : Keeps (take (past end n - at) ps ++ drop (past end n - at) ps) (contourOf (take (past end n - at) ps) ++ walkOf n (past end n) ends (drop (past end n - at) ps)) =
-    keeps-append (keeps-contour (take (past end n - at) ps)) (k (past end n) (drop (past end n - at) ps)) in
-    rw t (rw (take-append-drop (past end n - at) ps) at j)
-keeps-walk-by n at end ends ps false t k = rw t (k at ps)
-
-pub keeps-walk : (n at : ℕ) (ends : List ℕ) (ps : List Point) → Keeps ps (walkOf n at ends ps)
-unfolding walkOf
-keeps-walk n at [] ps = keeps-current ps
-keeps-walk n at (end ∷ ends) ps = keeps-walk-by n at end ends ps (ltb at (past end n)) refl (λ m qs. keeps-walk n m ends qs)
+keeps-walk at [] ps = keeps-current ps
+keeps-walk at (end ∷ ends) ps =
+    let k = suc end - at in
+    let j : Keeps (take k ps ++ drop k ps) (contourOf (take k ps) ++ walkOf (suc end) ends (drop k ps)) = keeps-append (keeps-contour (take k ps)) (keeps-walk (suc end) ends (drop k ps)) in
+    rw (take-append-drop k ps) at j
 
 -- ---- one contour
 -- the first contour's points come out by themselves, and the others go on as if they stood alone
-module _ (n at end : ℕ) (ends : List ℕ) (ps : List Point) (g : at < past end n) (h : past end n - at ≤ length ps) where
+module _ (at end : ℕ) (ends : List ℕ) (ps : List Point) (h : suc end - at ≤ length ps) where
   abbrev k : ℕ
-  k = past end n - at
-
-  cut : walkOf n at (end ∷ ends) ps ≡ contourOf (take k ps) ++ walkOf n (past end n) ends (drop k ps)
-  unfolding walkOf
-  cut = rw (lt-ltb at (past end n) g)
+  k = suc end - at
 
   size : length (contourOf (take k ps)) ≡ k
   size = keeps-length (keeps-contour (take k ps)) ∙ length-take-le k ps h
 
-  pub walk-head : take k (walkOf n at (end ∷ ends) ps) ≡ contourOf (take k ps)
-  walk-head = ap (take k) cut ∙ take-at (contourOf (take k ps)) (walkOf n (past end n) ends (drop k ps)) k size
+  pub walk-head : take k (walkOf at (end ∷ ends) ps) ≡ contourOf (take k ps)
+  unfolding walkOf
+  walk-head = take-at (contourOf (take k ps)) (walkOf (suc end) ends (drop k ps)) k size
 
-  pub walk-tail : drop k (walkOf n at (end ∷ ends) ps) ≡ walkOf n (past end n) ends (drop k ps)
-  walk-tail = ap (drop k) cut ∙ drop-at (contourOf (take k ps)) (walkOf n (past end n) ends (drop k ps)) k size
+  pub walk-tail : drop k (walkOf at (end ∷ ends) ps) ≡ walkOf (suc end) ends (drop k ps)
+  unfolding walkOf
+  walk-tail = drop-at (contourOf (take k ps)) (walkOf (suc end) ends (drop k ps)) k size
 
 -- ---- outside
-reached-by : (n at end : ℕ) (ends : List ℕ) (b : Bool) → ltb at (past end n) ≡ b → at ≤ n → ((m : ℕ) → m ≤ n → (m ≤ reached n m ends) × (reached n m ends ≤ n)) → (at ≤ reached n at (end ∷ ends)) × (reached n at (end ∷ ends) ≤ n)
-unfolding reached
-reached-by n at end ends true t h f =
-    let l : at < past end n = ltb-true at (past end n) t in
-    let m = f (past end n) (past-le end n) in
-    rw t (omega (arith, m .0), m .1)
-reached-by n at end ends false t h f = rw t (f at h)
+-- the first end of ends that rise, and the others
+first-end : (at n end : ℕ) (ends : List ℕ) → risingFrom at n (end ∷ ends) ≡ true → (at < suc end) × (suc end ≤ n) × (risingFrom (suc end) n ends ≡ true)
+first-end at n end ends r =
+    let (a, b, s) = in-order at n (end ∷ ends) 0 (omega arith) refl r in
+    (omega (arith, a), omega (arith, b), ap (λ (i : ℕ). risingFrom i n ends) (sym (add-one end)) ∙ s)
 
-pub reached-le : (n at : ℕ) (ends : List ℕ) → at ≤ n → (at ≤ reached n at ends) × (reached n at ends ≤ n)
+pub reached-le : (n at : ℕ) (ends : List ℕ) → risingFrom at n ends ≡ true → at ≤ n → (at ≤ reached at ends) × (reached at ends ≤ n)
 unfolding reached
-reached-le n at [] h = (omega arith, h)
-reached-le n at (end ∷ ends) h = reached-by n at end ends (ltb at (past end n)) refl h (λ m g. reached-le n m ends g)
+reached-le n at [] r h = (omega arith, h)
+reached-le n at (end ∷ ends) r h =
+    let (a, b, s) = first-end at n end ends r in
+    let (c, d) = reached-le n (suc end) ends s b in
+    (omega (arith, a, c), d)
 
-walk-on : (n at end : ℕ) (ends : List ℕ) (ps : List Point) → past end n ≤ at → walkOf n at (end ∷ ends) ps ≡ walkOf n at ends ps
+outside-none : (at : ℕ) (ps : List Point) → drop (at - at) (walkOf at [] ps) ≡ currentOf (drop (at - at) ps)
 unfolding walkOf
-walk-on n at end ends ps g = rw (le-ltb at (past end n) g)
-
-outside-by :
-    (n at end : ℕ) (ends : List ℕ) (ps : List Point) (b : Bool) →
-    ltb at (past end n) ≡ b →
-    at ≤ n →
-    n - at ≤ length ps →
-    ((m : ℕ) (qs : List Point) → m ≤ n → n - m ≤ length qs → drop (reached n m ends - m) (walkOf n m ends qs) ≡ currentOf (drop (reached n m ends - m) qs)) →
-    drop (reached n at (end ∷ ends) - at) (walkOf n at (end ∷ ends) ps) ≡ currentOf (drop (reached n at (end ∷ ends) - at) ps)
-unfolding reached
-outside-by n at end ends ps true t h l f =
-    let e = past end n in
-    let g : at < e = ltb-true at (past end n) t in
-    let u : e ≤ n = past-le end n in
-    let r = reached n e ends in
-    let w : (e ≤ r) × (r ≤ n) = reached-le n e ends u in
-    let d : r - at ≡ (e - at) + (r - e) = omega (arith, w .0) in
-    rw (t, d)
-    (sym (drop-drop (r - e) (e - at) (walkOf n at (end ∷ ends) ps))
-    ∙ ap (drop (r - e)) (walk-tail n at end ends ps g (omega arith))
-    ∙ f e (drop (e - at) ps) u (omega (arith, length-drop (e - at) ps))
-    ∙ ap currentOf (drop-drop (r - e) (e - at) ps))
-outside-by n at end ends ps false t h l f =
-    let g : past end n ≤ at = ltb-false at (past end n) t in
-    rw t (ap (drop (reached n at ends - at)) (walk-on n at end ends ps g) ∙ f at ps h l)
+outside-none at ps = map-drop (λ p. p .place .current) (at - at) ps
 
 -- the points from where the walk ends keep their coordinates
-pub outside : (n at : ℕ) (ends : List ℕ) (ps : List Point) → at ≤ n → n - at ≤ length ps → drop (reached n at ends - at) (walkOf n at ends ps) ≡ currentOf (drop (reached n at ends - at) ps)
-unfolding walkOf reached
-outside n at [] ps h l = map-drop (λ p. p .place .current) (at - at) ps
-outside n at (end ∷ ends) ps h l = outside-by n at end ends ps (ltb at (past end n)) refl h l (λ m qs g k. outside n m ends qs g k)
+pub outside : (n at : ℕ) (ends : List ℕ) (ps : List Point) → risingFrom at n ends ≡ true → n - at ≤ length ps → drop (reached at ends - at) (walkOf at ends ps) ≡ currentOf (drop (reached at ends - at) ps)
+unfolding reached
+outside n at [] ps r l = outside-none at ps
+outside n at (end ∷ ends) ps r l =
+    let (a, b, s) = first-end at n end ends r in
+    let e = suc end in
+    let z = reached e ends in
+    let w : (e ≤ z) × (z ≤ n) = reached-le n e ends s b in
+    let d : z - at ≡ (e - at) + (z - e) = omega (arith, w .0, a) in
+    rw d
+    (sym (drop-drop (z - e) (e - at) (walkOf at (end ∷ ends) ps))
+    ∙ ap (drop (z - e)) (walk-tail at end ends ps (omega (arith, b)))
+    ∙ outside n e ends (drop (e - at) ps) s (omega (arith, length-drop (e - at) ps))
+    ∙ ap currentOf (drop-drop (z - e) (e - at) ps))
 
 -- ---- the call
 module _ (axis : Axis) (fs es : List ℕ) (us os cs : List ℤ) (a : length us ≡ length cs) (b : length os ≡ length cs) (c : length fs ≡ length cs) where
@@ -156,19 +136,15 @@ module _ (axis : Axis) (fs es : List ℕ) (us os cs : List ℤ) (a : length us �
   s : Shown (touchBit axis) fs us os cs ps
   s = shown (touchBit axis) fs us os cs a b c
 
-  keeps-iup-by : (t : Bool) → (eqb (length cs) 0 && ltb 0 (length es)) ≡ t → Keeps ps (iupOf axis fs es us os cs .current)
+  pub keeps-iup : Keeps ps (iupOf axis fs es us os cs)
   unfolding iupOf
-  keeps-iup-by true t = rw t (rw (sym (s .current)) at (keeps-current ps))
-  keeps-iup-by false t = rw t (keeps-walk (length cs) 0 es ps)
+  keeps-iup = keeps-walk 0 es ps
 
-  pub keeps-iup : Keeps ps (iupOf axis fs es us os cs .current)
-  keeps-iup = keeps-iup-by (eqb (length cs) 0 && ltb 0 (length es)) refl
-
-  pub iup-length : length (iupOf axis fs es us os cs .current) ≡ length cs
+  pub iup-length : length (iupOf axis fs es us os cs) ≡ length cs
   iup-length = keeps-length keeps-iup ∙ sym (s .size)
 
   -- a touched point never moves
-  pub iup-touched : (i : ℕ) → i < length cs → hasAny (getD fs i 0) (touchBit axis) ≡ true → getD (iupOf axis fs es us os cs .current) i (pos 0) ≡ getD cs i (pos 0)
+  pub iup-touched : (i : ℕ) → i < length cs → hasAny (getD fs i 0) (touchBit axis) ≡ true → getD (iupOf axis fs es us os cs) i (pos 0) ≡ getD cs i (pos 0)
   iup-touched i h t =
       let d : Point = record { place = record { unscaled = pos 0; original = pos 0; current = pos 0 }; touched = true } in
       let n : i < length ps = omega (arith, s .size) in

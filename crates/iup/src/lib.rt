@@ -1,13 +1,15 @@
 // IUP, the interpolation of untouched points, on one axis: `Zone::iup` of zone.rs, FreeType's Ins_IUP.
 //
-// `iup` equals `iupOf` of specs/Iup.antt, which goes contour by contour: answer and every current coordinate, for every input whose four
-// lists have one length. `try_iup` asks nothing: it refuses unequal lengths and sizes above the limits (answer 2) first. x and y are the
-// same call with another axis and other lists. Each contour's stretch of the current coordinates is lent as a middle part, and so is each
-// stretch of untouched points in it; no coordinate is copied, and the work is linear in points and contours. proofs/Facts.antt has what is
-// left alone: touched points, points outside the contours, and what one contour cannot see of another.
-// Not here: IUP's two marks, the other axis and the flags. Ends out of order are skipped, as in the Rust, and not refused.
+// `iup` equals `iupOf` of specs/Iup.antt, which goes contour by contour: every current coordinate, for every input whose four lists have
+// one length and whose contour ends rise strictly and lie below it. `try_iup` asks nothing: it refuses unequal lengths and sizes above the
+// limits (answer 2) first, then other ends (answer 14). x and y are the same call with another axis and other lists. Each contour's stretch
+// of the current coordinates is lent as a middle part, and so is each stretch of untouched points in it; no coordinate is copied, and the
+// work is linear in points and contours. proofs/Facts.antt has what is left alone: touched points, points outside the contours, and what
+// one contour cannot see of another.
+// Not here: IUP's two marks, the other axis and the flags.
 use answer::Call;
 use answer::Refusal;
+use contour_ends::ends_rise;
 use flags::Axis;
 use flags::has_any;
 use int::at_most;
@@ -19,15 +21,15 @@ use limits::points_fit;
 use math::div;
 use math::mul;
 ghost use mathlib.Core.Path.{_≡_};
-ghost use mathlib.Core.Bool.{cond, _&&_};
+ghost use mathlib.Core.Bool.{cond, true};
 ghost use mathlib.Core.List.{map};
 ghost use Prim.Native.Nat.{_+_};
-ghost use lib.Dec.{ltb, eqb};
 ghost use lib.ListN.{length, drop};
 ghost use lib.Signed.{leZ};
+ghost use Rattle.contour_ends.specs.Ends.{endsRise};
 ghost use Rattle.int.specs.Word.{add32};
 ghost use Rattle.iup.specs.Contour.{offset as Contour·displacement, spread, contourOf, pointsOf};
-ghost use Rattle.iup.specs.Iup.{past as Iup·past, swept, iupOf, sizesFit, triedOf};
+ghost use Rattle.iup.specs.Iup.{swept, iupOf, sizesFit, triedOf};
 ghost use Rattle.iup.specs.Parts.{marks, ahead, upToLast, placeAt, level as Parts·level, slope as Parts·slope, insideBy, movedBy, byReferences, both};
 
 // A point on the axis: in font units, scaled, and where it stands now.
@@ -274,23 +276,15 @@ fn contour(unscaled: &[i32], original: &[i32], current: &mut [i32], flags: &[u8]
     }
 }
 
-// The place past a contour's end; an end at or above n is taken as n - 1.
-fn past(end: u16, n: usize) -> usize
-    ensures { λ r. ⌜ r ≡ Iup·past end n ⌝ }
+// The place past a contour's end, at which the next one starts.
+fn past(end: u16) -> usize
+    ensures { λ r. ⌜ r ≡ end + 1 ⌝ }
 {
-    let last = end as usize;
-    if last < n { last + 1 } else { n }
+    end as usize + 1
 }
 
-// Whether there is a contour, and no point that it could start at.
-fn no_start(points: usize, contours: usize) -> bool
-    ensures { λ r. ⌜ r ≡ (eqb points 0 && ltb 0 contours) ⌝ }
-{
-    points == 0 && 0 < contours
-}
-
-// The contours one after the other, each on its own part of the coordinates, which starts where the last one ended. A contour that ends
-// before the walk's place is skipped, and points after the last contour stay. A contour and no point is refused with 7, detail 0.
+// The contours one after the other, each on its own part of the coordinates, which starts where the last one ended. Points after the last
+// contour stay.
 pub fn iup(
     unscaled: &[i32],
     original: &[i32],
@@ -298,31 +292,25 @@ pub fn iup(
     flags: &[u8],
     contours: &[u16],
     axis: Axis,
-) -> Call
-    requires { ⌜ (length (now unscaled) ≡ length (now current)) × (length (now original) ≡ length (now current)) × (length (now flags) ≡ length (now current)) ⌝ }
-    ensures { λ r. ⌜ swept r (now (current .exit)) ≡ iupOf axis (now (flags .entry)) (now (contours .entry)) (now (unscaled .entry)) (now (original .entry)) (now (current .entry)) ⌝ }
+)
+    requires { ⌜ (length (now unscaled) ≡ length (now current)) × (length (now original) ≡ length (now current)) × (length (now flags) ≡ length (now current)) × (endsRise (length (now current)) (now contours) ≡ true) ⌝ }
+    ensures { λ _. ⌜ now (current .exit) ≡ iupOf axis (now (flags .entry)) (now (contours .entry)) (now (unscaled .entry)) (now (original .entry)) (now (current .entry)) ⌝ }
 {
-    if no_start(current.len(), contours.len()) {
-        return Call::Refused(Refusal::Point(0));
-    }
     let mask = axis.touch_bit();
     let mut at = 0;
     let mut k = 0;
     while k < contours.len() {
-        let end = past(contours[k], current.len());
-        if at < end {
-            contour(
-                &unscaled[at..end],
-                &original[at..end],
-                &mut current[at..end],
-                &flags[at..end],
-                mask,
-            );
-            at = end;
-        }
+        let end = past(contours[k]);
+        contour(
+            &unscaled[at..end],
+            &original[at..end],
+            &mut current[at..end],
+            &flags[at..end],
+            mask,
+        );
+        at = end;
         k += 1;
     }
-    Call::Done
 }
 
 // The test of answer 2, on the lengths of the five lists.
@@ -351,7 +339,7 @@ fn sizes_fit(
     }
 }
 
-// The direct call, for lists of any lengths.
+// The direct call, for lists of any lengths: the sizes are tested, then the ends.
 pub fn try_iup(
     unscaled: &[i32],
     original: &[i32],
@@ -369,7 +357,12 @@ pub fn try_iup(
         original.len(),
         current.len(),
     ) {
-        iup(unscaled, original, current, flags, contours, axis)
+        if ends_rise(contours, current.len()) {
+            iup(unscaled, original, current, flags, contours, axis);
+            Call::Done
+        } else {
+            Call::Refused(Refusal::Ends)
+        }
     } else {
         Call::Refused(Refusal::Sizes)
     }

@@ -16,12 +16,13 @@ use Rattle.answer.specs.declared.Call.the-variants.{Done, Refused as RefusedCal
 use Rattle.run_lines.specs.declared.Answer.the-variants.{Finished, OutOfBudget, Refused}
 use Rattle.line.specs.World.{Fixed, World}
 use Rattle.run_lines.specs.Onward.{Ran, ends, onCall, onWent, replayOf}
-use Rattle.replay.specs.Run.{entryOf, onEntry as runOnEntry, runOf}
+use Rattle.replay.specs.Run.{entered, entryOf, onEntry as runOnEntry, runOf}
 use Rattle.run_step.specs.Step.{Went, stepOf}
 use Rattle.line.specs.Sizes.{fits, worldFits}
-use Rattle.laws_axes.specs.Reached.{SameAlong, afterCall, afterLine, entered, linesReached, none, reachedOnEntry, opcodeAt, reachedFrom}
+use Rattle.laws_axes.specs.Reached.{SameAlong, afterCall, afterLine, linesReached, none, reachedOnEntry, opcodeAt, reachedFrom}
 use Rattle.laws_axes.specs.Axes.{Straight, fixedSeen, mixes, worldSeen}
 use Rattle.flags.specs.declared.Axis.the-variants.{X, Y}
+use Rattle.contour_ends.specs.Ends.{endsRise}
 use Rattle.graphics.specs.State.{allAlong, usableState, xAxis, yAxis}
 use Rattle.graphics.proofs.Laws.{and-left, and-right}
 use Rattle.zone.specs.Sizes.{glyphFits, pairFits, placedFits, twilightFits}
@@ -77,7 +78,7 @@ module _ (a : Axis) (f g : Fixed) (sheet : List ℤ) (ef : fixedSeen a f ≡ fix
       (same-ends Finished n at at w v refl ew)
 
 -- ---- the entry
--- the sizes hang on what is seen
+-- the sizes and the contours' ends hang on what is seen
 fits-seen : (a : Axis) (f : Fixed) (sheet : List ℤ) (w : World) → worldFits (fixedSeen a f) sheet (worldSeen a w) ≡ worldFits f sheet w
 unfolding fits glyphFits twilightFits pairFits placedFits
 fits-seen a f sheet w =
@@ -86,9 +87,10 @@ fits-seen a f sheet w =
 pub entry-alike : (a : Axis) (f g : Fixed) (sheet : List ℤ) (start : ℕ) (w v : World) → fixedSeen a f ≡ fixedSeen a g → worldSeen a w ≡ worldSeen a v
     → entered f sheet start w ≡ entered g sheet start v
 entry-alike a f g sheet start w v ef ew =
-    ap₂ (λ (t u : Bool). entryOf t u (leb start (length sheet)))
+    ap₂ (λ (t u : Bool). entryOf t u (usableState (w .state)) (leb start (length sheet)))
     (sym (fits-seen a f sheet w) ∙ ap₂ (λ (x : Fixed) (y : World). worldFits x sheet y) ef ew ∙ fits-seen a g sheet v)
-    (ap (λ (y : World). usableState (y .state)) ew)
+    (ap₂ endsRise (sym (x-length a (w .gx)) ∙ ap (λ (y : World). length (y .gx)) ew ∙ x-length a (v .gx)) (ap (λ (x : Fixed). x .contours) ef))
+    ∙ ap (λ (y : World). entryOf (worldFits g sheet v) (endsRise (length (v .gx)) (g .contours)) (usableState (y .state)) (leb start (length sheet))) ew
 
 entry-apart : (a : Axis) (f g : Fixed) (sheet : List ℤ) (budget start : ℕ) (w v : World) → fixedSeen a f ≡ fixedSeen a g → worldSeen a w ≡ worldSeen a v
     → Straight a (w .state) → (call : Call) → none (mixes a) (reachedOnEntry (reachedFrom f sheet budget start w) call) ≡ true

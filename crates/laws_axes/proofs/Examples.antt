@@ -45,7 +45,8 @@ use Rattle.zone.specs.Sizes.{glyphFits, pairFits, placedFits, twilightFits}
 use Rattle.round.specs.Round.{grid, inward, outward}
 use Rattle.round.specs.Tracked.{negated, past as pastBits, plus}
 use Rattle.math.specs.Fixed.{halfUp, mulDiv, multipleBelow, withSign}
-use Rattle.iup.specs.Iup.{iupOf, past, walkOf}
+use Rattle.iup.specs.Iup.{iupOf, walkOf}
+use Rattle.contour_ends.specs.Ends.{risingFrom}
 use Rattle.laws_axes.specs.Axes.{interpolatesAcross, mixes}
 use Rattle.moves.specs.Move.{moveOf, stepBy}
 use Rattle.laws_axes.proofs.Plain.{horizontal-runs-agree, vertical-runs-agree}
@@ -104,7 +105,7 @@ abbrev moving : List ℤ
 moving = pos 47 ∷ pos 1 ∷ pos 0 ∷ pos 48 ∷ pos 0 ∷ pos 49 ∷ pos 0 ∷ []
 
 pub reaches : (a : Axis) → linesReached (glyph a here) moving 3 0 (begun a here) ≡ 47 ∷ 48 ∷ 49 ∷ []
-unfolding linesReached reachedOnEntry reachedFrom afterCall entryOf fits glyphFits twilightFits pairFits placedFits usableState vectorsInRange vectorInRange stepOf onDecoded decodeOf decodeBy needOf lineOf rowOf setOf one two takeFive controlAt pointOr fetchIn madeIn moveIn laidIn applyIn putTouched outsideMdap mdapOf mdapDistance fromOrigin roundingStep grid alongOf axisOf rawFdotp notSmall fetchOf applyOf moveOf stepBy freedomAxisBy add32 sub32 neg32 abs32 wrap32 maxZ minZ multipleBelow inward outward plus negated pastBits roundedMoveIn stepFrom withRounding markedFor iupLineOf iupOf walkOf past contourOf pointsOf touchedPlaces
+unfolding linesReached reachedOnEntry reachedFrom afterCall entryOf risingFrom fits glyphFits twilightFits pairFits placedFits usableState vectorsInRange vectorInRange stepOf onDecoded decodeOf decodeBy needOf lineOf rowOf setOf one two takeFive controlAt pointOr fetchIn madeIn moveIn laidIn applyIn putTouched outsideMdap mdapOf mdapDistance fromOrigin roundingStep grid alongOf axisOf rawFdotp notSmall fetchOf applyOf moveOf stepBy freedomAxisBy add32 sub32 neg32 abs32 wrap32 maxZ minZ multipleBelow inward outward plus negated pastBits roundedMoveIn stepFrom withRounding markedFor iupLineOf iupOf walkOf contourOf pointsOf touchedPlaces
 reaches X = refl
 reaches Y = refl
 
@@ -128,7 +129,7 @@ pub rise-alike :
     (a : Axis)
     → (coordinates a (runOf (glyph a here) moving 3 0 (begun a here) .world) ≡ raised)
     × (coordinates a (runOf (glyph a there) moving 3 0 (begun a there) .world) ≡ raised)
-unfolding runOf runOnEntry entryOf fits glyphFits twilightFits pairFits placedFits usableState vectorsInRange vectorInRange replayOf stepOf onDecoded onCall decodeOf decodeBy needOf lineOf rowOf setOf one two takeFive controlAt pointOr fetchIn madeIn moveIn laidIn applyIn putTouched outsideMdap mdapOf mdapDistance fromOrigin roundingStep grid alongOf axisOf rawFdotp notSmall fetchOf applyOf moveOf stepBy freedomAxisBy add32 sub32 neg32 abs32 wrap32 maxZ minZ multipleBelow inward outward plus negated pastBits roundedMoveIn stepFrom withRounding markedFor iupLineOf iupOf walkOf past contourOf pointsOf touchedPlaces
+unfolding runOf runOnEntry entryOf risingFrom fits glyphFits twilightFits pairFits placedFits usableState vectorsInRange vectorInRange replayOf stepOf onDecoded onCall decodeOf decodeBy needOf lineOf rowOf setOf one two takeFive controlAt pointOr fetchIn madeIn moveIn laidIn applyIn putTouched outsideMdap mdapOf mdapDistance fromOrigin roundingStep grid alongOf axisOf rawFdotp notSmall fetchOf applyOf moveOf stepBy freedomAxisBy add32 sub32 neg32 abs32 wrap32 maxZ minZ multipleBelow inward outward plus negated pastBits roundedMoveIn stepFrom withRounding markedFor iupLineOf iupOf walkOf contourOf pointsOf touchedPlaces
 rise-alike X = (refl, refl)
 rise-alike Y = (refl, refl)
 
@@ -139,7 +140,7 @@ refusing = pos 47 ∷ pos 1 ∷ pos 0 ∷ pos 63 ∷ pos 2 ∷ pos 5 ∷ pos 0 �
 
 -- the refused line is reached
 pub reaches-refused : linesReached (held here heights) refusing 9 0 (start here heights) ≡ 47 ∷ 63 ∷ []
-unfolding linesReached reachedOnEntry reachedFrom afterCall entryOf fits glyphFits twilightFits pairFits placedFits usableState vectorsInRange vectorInRange stepOf onDecoded decodeOf decodeBy needOf lineOf rowOf setOf one two takeFive controlAt pointOr fetchIn madeIn moveIn laidIn applyIn putTouched outsideMdap miapOf mdapOf mdapDistance fromOrigin roundingStep grid alongOf axisOf rawFdotp notSmall fetchOf applyOf moveOf stepBy freedomAxisBy add32 sub32 neg32 abs32 wrap32 maxZ minZ multipleBelow inward outward plus negated pastBits roundedMoveIn stepFrom withRounding
+unfolding linesReached reachedOnEntry reachedFrom afterCall entryOf risingFrom fits glyphFits twilightFits pairFits placedFits usableState vectorsInRange vectorInRange stepOf onDecoded decodeOf decodeBy needOf lineOf rowOf setOf one two takeFive controlAt pointOr fetchIn madeIn moveIn laidIn applyIn putTouched outsideMdap miapOf mdapOf mdapDistance fromOrigin roundingStep grid alongOf axisOf rawFdotp notSmall fetchOf applyOf moveOf stepBy freedomAxisBy add32 sub32 neg32 abs32 wrap32 maxZ minZ multipleBelow inward outward plus negated pastBits roundedMoveIn stepFrom withRounding
 reaches-refused = refl
 
 pub refused-alike : SameVertically (runOf (held here heights) refusing 9 0 (start here heights)) (runOf (held there heights) refusing 9 0 (start there heights))
@@ -154,7 +155,7 @@ RefusedSecond r =
 
 pub refused-second :
     RefusedSecond (runOf (held here heights) refusing 9 0 (start here heights)) × RefusedSecond (runOf (held there heights) refusing 9 0 (start there heights))
-unfolding runOf runOnEntry entryOf fits glyphFits twilightFits pairFits placedFits usableState vectorsInRange vectorInRange replayOf stepOf onDecoded onCall decodeOf decodeBy needOf lineOf rowOf setOf one two takeFive controlAt pointOr fetchIn madeIn moveIn laidIn applyIn putTouched outsideMdap miapOf mdapOf mdapDistance fromOrigin roundingStep grid alongOf axisOf rawFdotp notSmall fetchOf applyOf moveOf stepBy freedomAxisBy add32 sub32 neg32 abs32 wrap32 maxZ minZ multipleBelow inward outward plus negated pastBits roundedMoveIn stepFrom withRounding
+unfolding runOf runOnEntry entryOf risingFrom fits glyphFits twilightFits pairFits placedFits usableState vectorsInRange vectorInRange replayOf stepOf onDecoded onCall decodeOf decodeBy needOf lineOf rowOf setOf one two takeFive controlAt pointOr fetchIn madeIn moveIn laidIn applyIn putTouched outsideMdap miapOf mdapOf mdapDistance fromOrigin roundingStep grid alongOf axisOf rawFdotp notSmall fetchOf applyOf moveOf stepBy freedomAxisBy add32 sub32 neg32 abs32 wrap32 maxZ minZ multipleBelow inward outward plus negated pastBits roundedMoveIn stepFrom withRounding
 refused-second = ((refl, refl, refl, refl), (refl, refl, refl, refl))
 
 -- ---- a pair that measures
@@ -163,7 +164,7 @@ abbrev measuring : List ℤ
 measuring = pos 0xCC ∷ pos 1 ∷ pos 1 ∷ pos 0xE0 ∷ pos 2 ∷ negsuc 0 ∷ pos 2 ∷ pos 0x46 ∷ pos 1 ∷ pos 1 ∷ []
 
 pub reaches-measuring : (a : Axis) → linesReached (glyph a here) measuring 3 0 (begun a here) ≡ 0xCC ∷ 0xE0 ∷ 0x46 ∷ []
-unfolding linesReached reachedOnEntry reachedFrom afterCall entryOf fits glyphFits twilightFits pairFits placedFits usableState vectorsInRange vectorInRange stepOf onDecoded decodeOf decodeBy needOf lineOf rowOf setOf one two pointOr fetchIn placeIn madeIn moveIn laidIn applyIn fetchOf applyOf moveOf stepBy freedomAxisBy axisOf rawFdotp notSmall alongOf fromOrigin stepFrom roundedMoveIn withRounding withPush relatedBy bothThere controlBy mdrpOf mdrpDistance mirpOf mirpDistance gcOf outlineOf unscaledApart originalsApart singleOutline singleControl onSideOf flippedOf finished roundedUnless atLeast minimumOf mulDiv halfUp withSign grid inward outward plus negated pastBits multipleBelow add32 sub32 neg32 abs32 wrap32 maxZ minZ
+unfolding linesReached reachedOnEntry reachedFrom afterCall entryOf risingFrom fits glyphFits twilightFits pairFits placedFits usableState vectorsInRange vectorInRange stepOf onDecoded decodeOf decodeBy needOf lineOf rowOf setOf one two pointOr fetchIn placeIn madeIn moveIn laidIn applyIn fetchOf applyOf moveOf stepBy freedomAxisBy axisOf rawFdotp notSmall alongOf fromOrigin stepFrom roundedMoveIn withRounding withPush relatedBy bothThere controlBy mdrpOf mdrpDistance mirpOf mirpDistance gcOf outlineOf unscaledApart originalsApart singleOutline singleControl onSideOf flippedOf finished roundedUnless atLeast minimumOf mulDiv halfUp withSign grid inward outward plus negated pastBits multipleBelow add32 sub32 neg32 abs32 wrap32 maxZ minZ
 reaches-measuring X = refl
 reaches-measuring Y = refl
 
@@ -177,7 +178,7 @@ Measured a r =
     (coordinates a (r .world) ≡ five (pos 40) (pos 104) (pos 40) (pos 64) (pos 0)) × (r .world .state .tallies .«last_pushed» ≡ pos 104) × (r .world .state .tallies .pushes ≡ 1)
 
 pub measured : (a : Axis) → Measured a (runOf (glyph a here) measuring 3 0 (begun a here)) × Measured a (runOf (glyph a there) measuring 3 0 (begun a there))
-unfolding runOf runOnEntry replayOf onCall entryOf fits glyphFits twilightFits pairFits placedFits usableState vectorsInRange vectorInRange stepOf onDecoded decodeOf decodeBy needOf lineOf rowOf setOf one two pointOr fetchIn placeIn madeIn moveIn laidIn applyIn fetchOf applyOf moveOf stepBy freedomAxisBy axisOf rawFdotp notSmall alongOf fromOrigin stepFrom roundedMoveIn withRounding withPush relatedBy bothThere controlBy mdrpOf mdrpDistance mirpOf mirpDistance gcOf outlineOf unscaledApart originalsApart singleOutline singleControl onSideOf flippedOf finished roundedUnless atLeast minimumOf mulDiv halfUp withSign grid inward outward plus negated pastBits multipleBelow add32 sub32 neg32 abs32 wrap32 maxZ minZ
+unfolding runOf runOnEntry replayOf onCall entryOf risingFrom fits glyphFits twilightFits pairFits placedFits usableState vectorsInRange vectorInRange stepOf onDecoded decodeOf decodeBy needOf lineOf rowOf setOf one two pointOr fetchIn placeIn madeIn moveIn laidIn applyIn fetchOf applyOf moveOf stepBy freedomAxisBy axisOf rawFdotp notSmall alongOf fromOrigin stepFrom roundedMoveIn withRounding withPush relatedBy bothThere controlBy mdrpOf mdrpDistance mirpOf mirpDistance gcOf outlineOf unscaledApart originalsApart singleOutline singleControl onSideOf flippedOf finished roundedUnless atLeast minimumOf mulDiv halfUp withSign grid inward outward plus negated pastBits multipleBelow add32 sub32 neg32 abs32 wrap32 maxZ minZ
 measured X = ((refl, refl, refl), (refl, refl, refl))
 measured Y = ((refl, refl, refl), (refl, refl, refl))
 
@@ -191,14 +192,14 @@ abbrev marked : World
 marked = started vertical here heights (3 ∷ 1 ∷ 2 ∷ 0 ∷ 1 ∷ [])
 
 pub reaches-rising : linesReached (held here heights) rising 2 0 marked ≡ 47 ∷ 48 ∷ []
-unfolding linesReached reachedOnEntry reachedFrom afterCall entryOf fits glyphFits twilightFits pairFits placedFits usableState vectorsInRange vectorInRange stepOf onDecoded decodeOf decodeBy needOf lineOf rowOf setOf one two takeFive controlAt pointOr fetchIn madeIn moveIn laidIn applyIn putTouched outsideMdap mdapOf mdapDistance fromOrigin roundingStep grid alongOf axisOf rawFdotp notSmall fetchOf applyOf moveOf stepBy freedomAxisBy add32 sub32 neg32 abs32 wrap32 maxZ minZ multipleBelow inward outward plus negated pastBits roundedMoveIn stepFrom withRounding markedFor iupLineOf iupOf walkOf past contourOf pointsOf touchedPlaces
+unfolding linesReached reachedOnEntry reachedFrom afterCall entryOf risingFrom fits glyphFits twilightFits pairFits placedFits usableState vectorsInRange vectorInRange stepOf onDecoded decodeOf decodeBy needOf lineOf rowOf setOf one two takeFive controlAt pointOr fetchIn madeIn moveIn laidIn applyIn putTouched outsideMdap mdapOf mdapDistance fromOrigin roundingStep grid alongOf axisOf rawFdotp notSmall fetchOf applyOf moveOf stepBy freedomAxisBy add32 sub32 neg32 abs32 wrap32 maxZ minZ multipleBelow inward outward plus negated pastBits roundedMoveIn stepFrom withRounding markedFor iupLineOf iupOf walkOf contourOf pointsOf touchedPlaces
 reaches-rising = refl
 
 -- every point rises, and point 0 is touched in y
 pub rises :
     (runOf (held here heights) rising 2 0 marked .world .gy ≡ raised)
     × (runOf (held here heights) rising 2 0 marked .world .gflags ≡ 7 ∷ 1 ∷ 2 ∷ 0 ∷ 1 ∷ [])
-unfolding runOf runOnEntry entryOf fits glyphFits twilightFits pairFits placedFits usableState vectorsInRange vectorInRange replayOf stepOf onDecoded onCall decodeOf decodeBy needOf lineOf rowOf setOf one two takeFive controlAt pointOr fetchIn madeIn moveIn laidIn applyIn putTouched outsideMdap mdapOf mdapDistance fromOrigin roundingStep grid alongOf axisOf rawFdotp notSmall fetchOf applyOf moveOf stepBy freedomAxisBy add32 sub32 neg32 abs32 wrap32 maxZ minZ multipleBelow inward outward plus negated pastBits roundedMoveIn stepFrom withRounding markedFor iupLineOf iupOf walkOf past contourOf pointsOf touchedPlaces
+unfolding runOf runOnEntry entryOf risingFrom fits glyphFits twilightFits pairFits placedFits usableState vectorsInRange vectorInRange replayOf stepOf onDecoded onCall decodeOf decodeBy needOf lineOf rowOf setOf one two takeFive controlAt pointOr fetchIn madeIn moveIn laidIn applyIn putTouched outsideMdap mdapOf mdapDistance fromOrigin roundingStep grid alongOf axisOf rawFdotp notSmall fetchOf applyOf moveOf stepBy freedomAxisBy add32 sub32 neg32 abs32 wrap32 maxZ minZ multipleBelow inward outward plus negated pastBits roundedMoveIn stepFrom withRounding markedFor iupLineOf iupOf walkOf contourOf pointsOf touchedPlaces
 rises = (refl, refl)
 
 pub stays-across :
@@ -216,7 +217,7 @@ abbrev moved : World
 moved = started vertical there heights (2 ∷ 0 ∷ 0 ∷ 0 ∷ 0 ∷ [])
 
 pub reaches-sliding : linesReached (held here heights) sliding 1 0 moved ≡ 49 ∷ []
-unfolding linesReached reachedOnEntry reachedFrom afterCall entryOf fits glyphFits twilightFits pairFits placedFits usableState vectorsInRange vectorInRange stepOf onDecoded decodeOf decodeBy needOf lineOf rowOf setOf one two takeFive controlAt pointOr fetchIn madeIn moveIn laidIn applyIn putTouched outsideMdap markedFor iupLineOf iupOf walkOf past contourOf pointsOf touchedPlaces add32 sub32 wrap32
+unfolding linesReached reachedOnEntry reachedFrom afterCall entryOf risingFrom fits glyphFits twilightFits pairFits placedFits usableState vectorsInRange vectorInRange stepOf onDecoded decodeOf decodeBy needOf lineOf rowOf setOf one two takeFive controlAt pointOr fetchIn madeIn moveIn laidIn applyIn putTouched outsideMdap markedFor iupLineOf iupOf walkOf contourOf pointsOf touchedPlaces add32 sub32 wrap32
 reaches-sliding = refl
 
 -- it mixes no axes
@@ -227,7 +228,7 @@ slides-free = (ap (none (mixes Y)) reaches-sliding, ap (none (interpolatesAcross
 
 -- all but point 0 move by 7
 pub slides : runOf (held here heights) sliding 1 0 moved .world .gx ≡ five (pos 7) (pos 4) (pos 107) (pos 7) (pos 71)
-unfolding runOf runOnEntry entryOf fits glyphFits twilightFits pairFits placedFits usableState vectorsInRange vectorInRange replayOf stepOf onDecoded onCall decodeOf decodeBy needOf lineOf rowOf setOf one two takeFive controlAt pointOr fetchIn madeIn moveIn laidIn applyIn putTouched outsideMdap markedFor iupLineOf iupOf walkOf past contourOf pointsOf touchedPlaces add32 sub32 wrap32
+unfolding runOf runOnEntry entryOf risingFrom fits glyphFits twilightFits pairFits placedFits usableState vectorsInRange vectorInRange replayOf stepOf onDecoded onCall decodeOf decodeBy needOf lineOf rowOf setOf one two takeFive controlAt pointOr fetchIn madeIn moveIn laidIn applyIn putTouched outsideMdap markedFor iupLineOf iupOf walkOf contourOf pointsOf touchedPlaces add32 sub32 wrap32
 slides = refl
 
 -- ---- an intersection
@@ -244,7 +245,7 @@ height4 r = r .world .gy
 
 pub mixed-by-isect :
     none (mixes Y) (linesReached (held (upright (pos 0)) heights) crossing 1 0 (start (upright (pos 0)) heights)) ≡ false
-unfolding linesReached reachedOnEntry reachedFrom entryOf fits glyphFits twilightFits pairFits placedFits usableState vectorsInRange vectorInRange
+unfolding linesReached reachedOnEntry reachedFrom entryOf risingFrom fits glyphFits twilightFits pairFits placedFits usableState vectorsInRange vectorInRange
 mixed-by-isect = refl
 
 pub differs-by-isect :
@@ -252,7 +253,7 @@ pub differs-by-isect :
     ∷ height4 (runOf (held (upright (pos 32)) heights) crossing 1 0 (start (upright (pos 32)) heights))
     ∷ []
     ≡ five (pos 40) (pos 100) (pos 0) (pos 64) (pos 32) ∷ five (pos 40) (pos 100) (pos 0) (pos 64) (pos 48) ∷ []
-unfolding runOf runOnEntry entryOf fits glyphFits twilightFits pairFits placedFits usableState vectorsInRange vectorInRange replayOf stepOf onDecoded onCall decodeOf decodeBy needOf lineOf rowOf setOf one two takeFive controlAt pointOr fetchIn madeIn moveIn laidIn applyIn putTouched outsideMdap isectOf fetchOf crossingOf meet middleBy crossOf dotOf add32 sub32 neg32 abs32 mul32 quot32 mulDiv halfUp withSign wrap32 movedOf
+unfolding runOf runOnEntry entryOf risingFrom fits glyphFits twilightFits pairFits placedFits usableState vectorsInRange vectorInRange replayOf stepOf onDecoded onCall decodeOf decodeBy needOf lineOf rowOf setOf one two takeFive controlAt pointOr fetchIn madeIn moveIn laidIn applyIn putTouched outsideMdap isectOf fetchOf crossingOf meet middleBy crossOf dotOf add32 sub32 neg32 abs32 mul32 quot32 mulDiv halfUp withSign wrap32 movedOf
 differs-by-isect = refl
 
 -- ---- a vector that is turned across
@@ -262,7 +263,7 @@ turning = pos 3 ∷ pos 0 ∷ pos 47 ∷ pos 1 ∷ pos 0 ∷ []
 
 pub mixed-by-turning :
     none (mixes Y) (linesReached (held (upright (pos 0)) heights) turning 2 0 (start (upright (pos 0)) heights)) ≡ false
-unfolding linesReached reachedOnEntry reachedFrom entryOf fits glyphFits twilightFits pairFits placedFits usableState vectorsInRange vectorInRange
+unfolding linesReached reachedOnEntry reachedFrom entryOf risingFrom fits glyphFits twilightFits pairFits placedFits usableState vectorsInRange vectorInRange
 mixed-by-turning = refl
 
 pub differs-by-turning :
@@ -270,5 +271,5 @@ pub differs-by-turning :
     ∷ height4 (runOf (held (upright (pos 40)) heights) turning 2 0 (start (upright (pos 40)) heights))
     ∷ []
     ≡ heights ∷ five (pos 64) (pos 100) (pos 0) (pos 64) (pos 0) ∷ []
-unfolding runOf runOnEntry entryOf fits glyphFits twilightFits pairFits placedFits usableState vectorsInRange vectorInRange replayOf stepOf onDecoded onCall decodeOf decodeBy needOf lineOf rowOf setOf one two takeFive controlAt pointOr fetchIn madeIn moveIn laidIn applyIn putTouched outsideMdap setBy vectorsBy axisBy mdapOf mdapDistance fromOrigin roundingStep grid alongOf axisOf rawFdotp notSmall fetchOf applyOf moveOf stepBy freedomAxisBy add32 sub32 neg32 abs32 mul32 mulDiv halfUp withSign wrap32 maxZ minZ multipleBelow inward outward plus negated pastBits roundedMoveIn stepFrom withRounding
+unfolding runOf runOnEntry entryOf risingFrom fits glyphFits twilightFits pairFits placedFits usableState vectorsInRange vectorInRange replayOf stepOf onDecoded onCall decodeOf decodeBy needOf lineOf rowOf setOf one two takeFive controlAt pointOr fetchIn madeIn moveIn laidIn applyIn putTouched outsideMdap setBy vectorsBy axisBy mdapOf mdapDistance fromOrigin roundingStep grid alongOf axisOf rawFdotp notSmall fetchOf applyOf moveOf stepBy freedomAxisBy add32 sub32 neg32 abs32 mul32 mulDiv halfUp withSign wrap32 maxZ minZ multipleBelow inward outward plus negated pastBits roundedMoveIn stepFrom withRounding
 differs-by-turning = refl

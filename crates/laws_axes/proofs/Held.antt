@@ -38,7 +38,7 @@ use Rattle.moves.specs.declared.Move.{Move}
 use Rattle.line.specs.Operands.{isOdd}
 use Rattle.flags.proofs.Bits.{and-keeps, or-keeps, xor-keeps}
 use Rattle.flags.specs.Flag.{bit}
-use Rattle.line.specs.World.{Fixed, Lined, World}
+use Rattle.line.specs.World.{Fixed, World}
 use Rattle.zone.specs.Zone.{changeAt, flipOf, marked, markedAt, onCurve, overPart, placeOf, setOnCurveOf}
 
 -- ---- the vectors
@@ -73,14 +73,14 @@ marked-held s op =
     let P : GraphicsState → Type 0 = λ t. t .vectors ≡ s .vectors in
     either P (s .facts .«backward_compatibility») (either P (isOdd op) refl refl) refl
 
-walked-held : (f : Fixed) (w : World) (odd : Bool) → walkedIn f w odd .world .state .vectors ≡ w .state .vectors
+walked-held : (f : Fixed) (w : World) (odd : Bool) → walkedIn f w odd .state .vectors ≡ w .state .vectors
 walked-held f w true = refl
 walked-held f w false = refl
 
 pub iup-held : (f : Fixed) (op : ℕ) (operands : List ℤ) (w : World) → VectorsOf (w .state) (iupLineOf f op operands w .world)
 unfolding iupLineOf
 iup-held f op operands w =
-    either (λ (l : Lined). VectorsOf (w .state) (l .world)) (pastBothIups (w .state .facts)) refl
+    either (VectorsOf (w .state)) (pastBothIups (w .state .facts)) refl
     (walked-held f (inState w (markedFor (w .state) op)) (isOdd op) ∙ marked-held (w .state) op)
 
 -- ---- what lies across the axis
@@ -168,7 +168,7 @@ abbrev pub alongIs : Axis → Bool
 alongIs X = true
 alongIs Y = false
 
-walked-still : (a : Axis) (f : Fixed) (w : World) (odd : Bool) → odd ≡ alongIs a → StillSince a w (walkedIn f w odd .world)
+walked-still : (a : Axis) (f : Fixed) (w : World) (odd : Bool) → odd ≡ alongIs a → StillSince a w (walkedIn f w odd)
 walked-still X f w true e = record { coordinates = refl; marks = refl }
 walked-still X f w false e = record { coordinates = cc e; marks = refl }
 walked-still Y f w true e = record { coordinates = cc e; marks = refl }
@@ -177,5 +177,5 @@ walked-still Y f w false e = record { coordinates = refl; marks = refl }
 pub iup-still : (a : Axis) (f : Fixed) (op : ℕ) (operands : List ℤ) (w : World) → isOdd op ≡ alongIs a → StillSince a w (iupLineOf f op operands w .world)
 unfolding iupLineOf
 iup-still a f op operands w e =
-    either (λ (l : Lined). StillSince a w (l .world)) (pastBothIups (w .state .facts)) (stays a (w .gx) (w .gy) (w .gflags))
+    either (StillSince a w) (pastBothIups (w .state .facts)) (stays a (w .gx) (w .gy) (w .gflags))
     (walked-still a f (inState w (markedFor (w .state) op)) (isOdd op) e)

@@ -14,7 +14,7 @@ use Rattle.answer.specs.declared.Refusal.the-variants.{ZonePointer as BadZone}
 use Rattle.answer.specs.declared.Refusal.{Refusal}
 use Rattle.laws_axes.proofs.Seen.{displaced-seen}
 use Rattle.laws_axes.proofs.Seen.{level-by, place-seen, placeSeen, project-seen, seen-by-test, x-again, x-length, x-set, y-again, y-set}
-use Rattle.laws_axes.specs.Axes.{Straight, fixedSeen, linedSeen, unitOf, worldSeen, xSeen, ySeen}
+use Rattle.laws_axes.specs.Axes.{Straight, fixedSeen, leveled, linedSeen, unitOf, worldSeen, xSeen, ySeen}
 use Rattle.flags.specs.declared.Axis.the-variants.{X, Y}
 use Rattle.flags.specs.declared.Axis.{Axis}
 use Rattle.graphics.specs.State.{allAlong, pastBothIups}
@@ -24,7 +24,7 @@ use Rattle.graphics.specs.declared.Vectors.{Vectors}
 use Rattle.graphics.specs.declared.ZonePointer.the-variants.{Glyph, Twilight}
 use Rattle.graphics.specs.declared.ZonePointer.{ZonePointer}
 use Rattle.int.specs.Word.{indexOf, neg32, sub32}
-use Rattle.iup.specs.Iup.{Swept, iupOf}
+use Rattle.iup.specs.Iup.{iupOf}
 use Rattle.laws_lines.proofs.Stays.{align-point-state, flip-point-state, shift-but-state, shift-point-state}
 use Rattle.line_alignrp.specs.Alignrp.{alignPoint, alignrpOf}
 use Rattle.line_flip.specs.Flip.{flipPoint, flipptOf, fliprgOf, heldFast, setThrough}
@@ -52,7 +52,7 @@ use Rattle.projection.specs.Projection.{projectOf}
 use Rattle.line.specs.World.{Fixed, Lined, World, world}
 use Rattle.zone.specs.Zone.{flipOf, placeOf}
 use Rattle.laws_axes.proofs.Steps.{Alike, Same, control-seen, done-seen, each-seen, first-seen, flags-seen, from-origin-seen, laid-seen, looped-seen, made-seen, move-seen, one-seen, passed-seen, point-seen, refused-seen, rounded-seen, state-seen, two-seen, world-again}
-use Rattle.laws_axes.proofs.Walk.{across, wentLevel}
+use Rattle.laws_axes.proofs.Walk.{across}
 
 -- a line that sees nothing across the axis
 abbrev pub LineSeen : Axis → (Fixed → ℕ → List ℤ → World → Lined) → Type 0
@@ -290,17 +290,17 @@ shz-seen a f op operands w straight =
     ∙ span-seen a f op false 0 (sizeOf (pointAfter (f .contours) (length (f .contours))) (length (w .tx)) zp2) w straight)
 
 -- ---- IUP
-walked-seen : (a : Axis) (f : Fixed) (w : World) (odd : Bool) → Same a (walkedIn (fixedSeen a f) (worldSeen a w) odd) (walkedIn f w odd)
+walked-seen : (a : Axis) (f : Fixed) (w : World) (odd : Bool) → worldSeen a (walkedIn (fixedSeen a f) (worldSeen a w) odd) ≡ worldSeen a (walkedIn f w odd)
 walked-seen X f w true = ap (λ (u : World). withX u (iupOf X (w .gflags) (f .contours) (f .gux) (f .gox) (w .gx))) (world-again X w .seen)
 walked-seen X f w false =
-    ap (λ (u : World). withY u (wentLevel (iupOf Y (w .gflags) (f .contours) (ySeen X (f .guy)) (ySeen X (f .goy)) (ySeen X (w .gy))))) (world-again X w .seen)
+    ap (λ (u : World). withY u (leveled (iupOf Y (w .gflags) (f .contours) (ySeen X (f .guy)) (ySeen X (f .goy)) (ySeen X (w .gy))))) (world-again X w .seen)
     ∙ ap (withY (worldSeen X w)) (across Y (w .gflags) (f .contours) (f .guy) (f .goy) (w .gy))
 walked-seen Y f w true =
-    ap (λ (u : World). withX u (wentLevel (iupOf X (w .gflags) (f .contours) (xSeen Y (f .gux)) (xSeen Y (f .gox)) (xSeen Y (w .gx))))) (world-again Y w .seen)
+    ap (λ (u : World). withX u (leveled (iupOf X (w .gflags) (f .contours) (xSeen Y (f .gux)) (xSeen Y (f .gox)) (xSeen Y (w .gx))))) (world-again Y w .seen)
     ∙ ap (withX (worldSeen Y w)) (across X (w .gflags) (f .contours) (f .gux) (f .gox) (w .gx))
 walked-seen Y f w false = ap (λ (u : World). withY u (iupOf Y (w .gflags) (f .contours) (f .guy) (f .goy) (w .gy))) (world-again Y w .seen)
 
 pub iup-seen : (a : Axis) → LineSeen a iupLineOf
 unfolding iupLineOf
 iup-seen a f op operands w straight =
-    seen-by-test (linedSeen a) (pastBothIups (w .state .facts)) (done-seen a (worldSeen a w) w (world-again a w)) (walked-seen a f (inState w (markedFor (w .state) op)) (isOdd op))
+    ap doneIn (seen-by-test (worldSeen a) (pastBothIups (w .state .facts)) (world-again a w .seen) (walked-seen a f (inState w (markedFor (w .state) op)) (isOdd op)))

@@ -15,7 +15,8 @@ use Rattle.flags.specs.declared.Axis.{Axis}
 use Rattle.graphics.proofs.Laws.{and-left, and-right}
 use Rattle.run_step.specs.Step.{Went, stepOf}
 use Rattle.line.specs.World.{Fixed, World}
-use Rattle.laws_axes.specs.Reached.{afterCall, afterLine, entered, linesReached, none, reachedOnEntry, opcodeAt, reachedFrom}
+use Rattle.replay.specs.Run.{entered}
+use Rattle.laws_axes.specs.Reached.{afterCall, afterLine, linesReached, none, reachedOnEntry, opcodeAt, reachedFrom}
 use Rattle.laws_axes.proofs.Apart.{entry-alike}
 use Rattle.laws_axes.proofs.RunSteps.{free-here, step-straight, steps-alike}
 

@@ -15,13 +15,13 @@ use Rattle.answer.specs.declared.Call.the-variants.{Done, Refused as RefusedCal
 use Rattle.line.specs.World.{Fixed, World}
 use Rattle.opcodes.specs.declared.Decoded.the-variants.{Operands, Refused as RefusedLine}
 use Rattle.run_lines.specs.Onward.{Ran, onCall, onWent, replayOf}
-use Rattle.replay.specs.Run.{onEntry as runOnEntry, runOf}
+use Rattle.replay.specs.Run.{entered, onEntry as runOnEntry, runOf}
 use Rattle.run_step.specs.Step.{onDecoded, stepOf}
 use Rattle.laws_axes.specs.Axes.{Straight, interpolatesAcross, mixes}
 use Rattle.laws_axes.proofs.Inert.{stays, then}
 use Rattle.laws_axes.proofs.Held.{StillSince}
 use Rattle.flags.specs.declared.Axis.the-variants.{X, Y}
-use Rattle.laws_axes.specs.Reached.{afterCall, afterLine, entered, linesReached, none, reachedOnEntry, opcodeAt, reachedFrom}
+use Rattle.laws_axes.specs.Reached.{afterCall, afterLine, linesReached, none, reachedOnEntry, opcodeAt, reachedFrom}
 use Rattle.graphics.specs.State.{allAlong, xAxis, yAxis}
 use Rattle.graphics.proofs.Laws.{and-left, and-right}
 use Rattle.flags.specs.Flag.{bit}

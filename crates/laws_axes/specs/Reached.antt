@@ -3,13 +3,12 @@ use mathlib.Core.Path.{_≡_}
 use mathlib.Core.Bool.{Bool, true, cond, not, _&&_}
 use mathlib.Core.List.{List, [], _∷_}
 use Prim.Native.Nat.{ℕ, zero, suc}
-use lib.Dec.{ltb, leb}
+use lib.Dec.{ltb}
 use lib.IntN.{ℤ, pos}
 use lib.ListN.{length, getD}
 use Rattle.int.specs.Word.{indexOf}
 use Rattle.answer.specs.declared.Call.{Call}
 use Rattle.answer.specs.declared.Call.the-variants.{Done, Refused}
-use Rattle.graphics.specs.State.{usableState}
 use Rattle.line.specs.World.{Fixed, World}
 use Rattle.laws_axes.specs.Axes.{worldSeen}
 use Rattle.flags.specs.declared.Axis.{Axis}
@@ -17,9 +16,8 @@ use Rattle.run_lines.specs.Onward.{Ran}
 use Rattle.run_lines.specs.declared.Answer.{Answer}
 use Rattle.run_lines.specs.declared.Answer.the-variants.{Finished, OutOfBudget}
 use Rattle.run_lines.specs.declared.Answer.the-variants.{Refused as RefusedRun}
-use Rattle.replay.specs.Run.{entryOf}
+use Rattle.replay.specs.Run.{entered}
 use Rattle.run_step.specs.Step.{Went, stepOf}
-use Rattle.line.specs.Sizes.{worldFits}
 
 -- the opcode word of the line at a place
 abbrev pub opcodeAt : List ℤ → ℕ → ℕ
@@ -38,10 +36,6 @@ unfoldable pub reachedFrom : Fixed → List ℤ → ℕ → ℕ → World → Li
 reachedFrom f sheet zero at w = []
 reachedFrom f sheet (suc budget) at w =
     cond (ltb at (length sheet)) (opcodeAt sheet at ∷ afterLine (reachedFrom f sheet budget) (stepOf f sheet at w)) []
-
--- what the entry of a run says
-abbrev pub entered : Fixed → List ℤ → ℕ → World → Call
-entered f sheet start w = entryOf (worldFits f sheet w) (usableState (w .state)) (leb start (length sheet))
 
 unfoldable pub reachedOnEntry : List ℕ → Call → List ℕ
 reachedOnEntry reached Done = reached

@@ -1,8 +1,8 @@
 -- What each direct call says, for every input: document 01, "Direct calls test in the order 2, 3, then 7 or 11, with place and lines 0; rounding by
--- Super45 with period 0 is 3 there too". Each law names a call's tests in their order; the first that fails decides, and 0 says that none does. What a
--- call returns where it is done stands in its enum. Assumes nothing.
+-- Super45 with period 0 is 3 there too", and document 02, K8: a call that is given contours tests their ends (14) after 2. Each law names a call's tests in
+-- their order; the first that fails decides, and 0 says that none does. What a call returns where it is done stands in its enum. Assumes nothing.
 use Prim.Native.Nat.{ℕ}
-use mathlib.Core.Bool.{Bool, true, false, _&&_, _||_, cond, not}
+use mathlib.Core.Bool.{Bool, true, false, _&&_, _||_, cond}
 use mathlib.Core.List.{List, [], _∷_}
 use mathlib.Core.Path.{_≡_, refl}
 use borrow.Author.Tests.{eqb-true}
@@ -13,6 +13,7 @@ use Rattle.answer.specs.Answer.{Said, saidOfCall}
 use Rattle.answer.specs.declared.Call.{Call}
 use Rattle.answer.specs.declared.Call.the-variants.{Done, Refused}
 use Rattle.answer.specs.declared.Refusal.the-variants.{Point, Sizes, State}
+use Rattle.contour_ends.specs.Ends.{endsRise}
 use Rattle.flags.specs.declared.Axis.{Axis}
 use Rattle.flags.specs.declared.CoordAxis.{CoordAxis}
 use Rattle.round.specs.Round.{roundedOf, saidOfRounded, usable}
@@ -36,7 +37,7 @@ use Rattle.moves.specs.Move.{isIdle, moveOf, originalMoveOf, zp2MoveOf}
 use Rattle.moves.specs.declared.Move.{Move}
 use Rattle.moves.specs.declared.Reference.{Reference}
 use Rattle.direct_moves.specs.Direct.{displacedAfter, entryBy, moveAfter, outlineFits, pairsFit, shiftAfter, tryDisplacementOf, tryMoveOriginalOf, tryMovePointOf, tryMoveZp2Of, zonesFit, zp2After}
-use Rattle.iup.specs.Iup.{Swept, iupOf, sizesFit, triedOf}
+use Rattle.iup.specs.Iup.{Swept, sizesFit, triedOf}
 
 -- ---- the tests, and what is said by them
 pub record Test : Type 0 where
@@ -47,6 +48,9 @@ pub record Test : Type 0 where
 
 abbrev pub sizes : Bool → Test
 sizes fit = record { holds = fit; number = 2; detail = 0 }
+
+abbrev pub ends : Bool → Test
+ends rise = record { holds = rise; number = 14; detail = 0 }
 
 abbrev pub state : Bool → Test
 state usable = record { holds = usable; number = 3; detail = 0 }
@@ -76,12 +80,6 @@ by-test : {A : Type 0} (said : A → Said) (holds : Bool) {yes no : A} {done ref
     → said yes ≡ done → said no ≡ refused → said (cond holds yes no) ≡ cond holds done refused
 by-test said true p q = p
 by-test said false p q = q
-
--- the same where a test's yes is what refuses
-unless : {A : Type 0} (said : A → Said) (fails : Bool) {yes no : A} {done refused : Said}
-    → said yes ≡ refused → said no ≡ done → said (cond fails yes no) ≡ cond (not fails) done refused
-unless said true p q = p
-unless said false p q = q
 
 -- ---- reads of one zone
 module _ (xs ys : List ℤ) (at : ℕ) where
@@ -240,14 +238,9 @@ module _ (gox goy gx gy tox toy tx ty : List ℤ) where
 
 -- ---- IUP
 module _ (axis : Axis) (flags contours : List ℕ) (unscaled original current : List ℤ) where
-  -- a contour of a glyph without points has no point to start at
-  walked : saidOfCall (iupOf axis flags contours unscaled original current .answer)
-      ≡ inOrder (point 0 (not (eqb (length current) 0 && ltb 0 (length contours))) ∷ [])
-  unfolding iupOf
-  walked = unless (λ (w : Swept). saidOfCall (w .answer)) (eqb (length current) 0 && ltb 0 (length contours)) refl refl
-
   pub try-iup : saidOfCall (triedOf axis flags contours unscaled original current .answer)
       ≡ inOrder (sizes (sizesFit (length flags) (length contours) (length unscaled) (length original) (length current))
-      ∷ point 0 (not (eqb (length current) 0 && ltb 0 (length contours))) ∷ [])
+      ∷ ends (endsRise (length current) contours) ∷ [])
   unfolding triedOf
-  try-iup = by-test (λ (w : Swept). saidOfCall (w .answer)) (sizesFit (length flags) (length contours) (length unscaled) (length original) (length current)) walked refl
+  try-iup = let said : Swept → Said = λ w. saidOfCall (w .answer) in
+      by-test said (sizesFit (length flags) (length contours) (length unscaled) (length original) (length current)) (by-test said (endsRise (length current) contours) refl refl) refl

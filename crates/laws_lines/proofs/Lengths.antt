@@ -29,7 +29,7 @@ use Rattle.line.specs.Operands.{isOdd}
 use Rattle.flags.specs.Flag.{touchBits}
 use Rattle.flags.specs.declared.Axis.the-variants.{X, Y}
 use Rattle.flags.specs.declared.CoordAxis.the-variants.{Both}
-use Rattle.line.specs.World.{Alike, Fixed, Lined, World}
+use Rattle.line.specs.World.{Alike, Fixed, World}
 use Rattle.zone.proofs.Keeps.{change-length, marked-length, set-on-curve-length}
 use Rattle.zone.specs.Zone.{Marked, flipOf, placeOf, setOnCurveOf}
 use Rattle.laws_lines.proofs.Stays.{Stays, isect-stays, laid}
@@ -49,7 +49,7 @@ pub kept : (w : World) → Kept w w
 kept w = record { gx = refl; gy = refl; gflags = refl; tox = refl; toy = refl; tx = refl; ty = refl; tflags = refl }
 
 module _ (u : World) where
-  laid-kept : (zone : ZonePointer) (m : Move) (at : ℕ) (w : World) → Kept u w → Kept u (laid zone m at w)
+  pub laid-kept : (zone : ZonePointer) (m : Move) (at : ℕ) (w : World) → Kept u w → Kept u (laid zone m at w)
   unfolding applyIn
   laid-kept Glyph m at w k =
       let l = apply-lengths m at (w .gx) (w .gy) (w .gflags) in
@@ -125,7 +125,7 @@ put-kept at place w Twilight =
 pub isect-kept : (f : Fixed) (op : ℕ) (operands : List ℤ) (w : World) → Kept w (isectOf f op operands w .world)
 isect-kept f op operands w = isect-stays (Kept w) f op operands w (kept w) (λ at a0 a1 b0 b1 zone. put-kept at (crossingOf a0 a1 b0 b1) w zone)
 
-walked-kept : (f : Fixed) (w : World) → Alike f w → (odd : Bool) → Kept w (walkedIn f w odd .world)
+walked-kept : (f : Fixed) (w : World) → Alike f w → (odd : Bool) → Kept w (walkedIn f w odd)
 walked-kept f w alike true =
     record { gx = iup-length X (w .gflags) (f .contours) (f .gux) (f .gox) (w .gx) (alike .0) (alike .2) (alike .5); gy = refl; gflags = refl; tox = refl; toy = refl; tx = refl; ty = refl; tflags = refl }
 walked-kept f w alike false =
@@ -136,7 +136,7 @@ pub iup-kept : (f : Fixed) (op : ℕ) (operands : List ℤ) (w : World) → Alik
 unfolding iupLineOf
 iup-kept f op operands w alike =
     let v = inState w (markedFor (w .state) op) in
-    either (λ (l : Lined). Kept w (l .world)) (pastBothIups (w .state .facts)) (kept w) (again (walked-kept f v alike (isOdd op)))
+    either (Kept w) (pastBothIups (w .state .facts)) (kept w) (again (walked-kept f v alike (isOdd op)))
   where
     again : {x : World} → Kept (inState w (markedFor (w .state) op)) x → Kept w x
     again k = record { gx = k .gx; gy = k .gy; gflags = k .gflags; tox = k .tox; toy = k .toy; tx = k .tx; ty = k .ty; tflags = k .tflags }

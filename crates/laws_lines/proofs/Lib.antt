@@ -5,3 +5,4 @@ pub mod Usable
 pub mod Rows
 pub mod Lines
 pub mod Colour
+pub mod Spans

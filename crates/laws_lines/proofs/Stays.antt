@@ -145,7 +145,7 @@ module _ (P : World → Type 0) where
   by-call-stays w rest p h Done = h
   by-call-stays w rest p h (Refused why) = p
 
-  laid-stays : (zone : ZonePointer) (m : Move) (at : ℕ) (w : World) (rest : World → Lined) → P (laid zone m at w) → Left (rest (laid zone m at w)) → Left (laidIn zone m at w rest)
+  pub laid-stays : (zone : ZonePointer) (m : Move) (at : ℕ) (w : World) (rest : World → Lined) → P (laid zone m at w) → Left (rest (laid zone m at w)) → Left (laidIn zone m at w rest)
   unfolding laidIn
   laid-stays zone m at w rest p h = by-call-stays (laid zone m at w) rest p h (applyIn m at (w .gx) (w .gy) (w .gflags) (w .tx) (w .ty) (w .tflags) zone .call)
 

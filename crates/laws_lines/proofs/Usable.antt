@@ -30,7 +30,7 @@ use Rattle.round.specs.Round.{usableBy}
 use Rattle.round.specs.declared.RoundMode.{RoundMode}
 use Rattle.super_round.proofs.Facts.{super-usable}
 use Rattle.super_round.specs.Selector.{superOf}
-use Rattle.line.specs.World.{Fixed, Lined, World}
+use Rattle.line.specs.World.{Fixed, World}
 use Rattle.zone.specs.Zone.{placeOf}
 use Rattle.laws_lines.proofs.Stays.{Stays, isect-stays, made-state, put-state}
 
@@ -137,14 +137,14 @@ marked-usable s op =
     let P : GraphicsState → Type 0 = λ t. usableState t ≡ usableState s in
     either P (s .facts .«backward_compatibility») (either P (isOdd op) (usable-facts s _) (usable-facts s _)) refl
 
-walked-state : (f : Fixed) (w : World) (odd : Bool) → walkedIn f w odd .world .state ≡ w .state
+walked-state : (f : Fixed) (w : World) (odd : Bool) → walkedIn f w odd .state ≡ w .state
 walked-state f w true = refl
 walked-state f w false = refl
 
 iup-same : (f : Fixed) (op : ℕ) (operands : List ℤ) (w : World) → UsableAs (w .state) (iupLineOf f op operands w .world)
 unfolding iupLineOf
 iup-same f op operands w =
-    either (λ (l : Lined). UsableAs (w .state) (l .world)) (pastBothIups (w .state .facts)) refl
+    either (UsableAs (w .state)) (pastBothIups (w .state .facts)) refl
     (ap usableState (walked-state f _ (isOdd op)) ∙ marked-usable (w .state) op)
 
 pub iup-usable : (f : Fixed) (op : ℕ) (operands : List ℤ) (w : World) → UsableSince w (iupLineOf f op operands w .world)

@@ -17,14 +17,14 @@ use Rattle.answer.specs.declared.Call.the-variants.{Done, Refused as RefusedCal
 use Rattle.run_lines.specs.declared.Answer.the-variants.{Finished, OutOfBudget, Refused}
 use Rattle.line.specs.World.{Fixed, World, world}
 use Rattle.run_lines.specs.Onward.{Ran, ends, onCall, replayOf}
-use Rattle.replay.specs.Run.{entryOf, onEntry, runOf}
+use Rattle.replay.specs.Run.{entered, entryOf, onEntry, runOf}
 use Rattle.run_step.specs.Step.{stepOf}
 use Rattle.line.specs.Sizes.{worldFits}
 use Rattle.answer.specs.declared.Refusal.{Refusal}
 use Rattle.run_lines.proofs.Loop.{at-end}
-use Rattle.replay.proofs.Entry.{entered, not-entered}
+use Rattle.replay.proofs.Entry.{Entered, entered-by, not-entered, run-entered}
 use Rattle.graphics.specs.State.{usableState}
-use Rattle.laws_run.proofs.Keeps.{run-keeps, run-place, still-fits}
+use Rattle.laws_run.proofs.Keeps.{run-keeps, run-place, still-fits, still-rising}
 
 -- the run goes on with a further budget where the first was used up
 unfoldable pub onAnswer : Fixed → List ℤ → ℕ → Ran → Answer → Ran
@@ -116,29 +116,9 @@ two-replays f sheet a b at w e =
     ∙ count f sheet b (r .lines) 0 (r .place) (r .world)
 
 -- ---- the public run
-entry-of-three : (f : Fixed) (sheet : List ℤ) (b at : ℕ) (w : World) → worldFits f sheet w ≡ true → usableState (w .state) ≡ true → at ≤ length sheet
-    → runOf f sheet b at w ≡ replayOf f sheet b 0 at w
+entry-of-all : (f : Fixed) (sheet : List ℤ) (b at : ℕ) (w : World) → Entered f sheet at w → runOf f sheet b at w ≡ replayOf f sheet b 0 at w
 unfolding runOf onEntry entryOf
-entry-of-three f sheet b at w sized ready within = rw (sized, ready, le-leb at (length sheet) within)
-
--- where a run was entered, the tests were passed
-passed-sizes : (sized ready starts : Bool) → entryOf sized ready starts ≡ Done → sized ≡ true
-unfolding entryOf
-passed-sizes true ready starts e = refl
-passed-sizes false ready starts e = cc e
-
-passed-state : (sized ready starts : Bool) → entryOf sized ready starts ≡ Done → ready ≡ true
-unfolding entryOf
-passed-state true true starts e = refl
-passed-state true false starts e = cc e
-passed-state false ready starts e = cc e
-
-passed-place : (sized ready starts : Bool) → entryOf sized ready starts ≡ Done → starts ≡ true
-unfolding entryOf
-passed-place true true true e = refl
-passed-place true true false e = cc e
-passed-place true false starts e = cc e
-passed-place false ready starts e = cc e
+entry-of-all f sheet b at w p = rw (p .sized, p .rising, p .usable, le-leb at (length sheet) (p .starts))
 
 refused-otherwise : (why : Refusal) (r s : Ran) → Refused why ≡ OutOfBudget → r ≡ s
 refused-otherwise why r s e = cc e
@@ -151,23 +131,26 @@ module _ (f : Fixed) (sheet : List ℤ) (a b start : ℕ) (w : World) where
   first = runOf f sheet a start w
 
   abbrev tests : Call
-  tests = entryOf (worldFits f sheet w) (usableState (w .state)) (leb start (length sheet))
+  tests = entered f sheet start w
 
   -- the second run is entered because the first was
   entered-again : tests ≡ Done → runOf f sheet b (first .place) (first .world) ≡ replayOf f sheet b 0 (first .place) (first .world)
   entered-again told =
       let kept = run-keeps f sheet a start w in
-      let sized = passed-sizes (worldFits f sheet w) (usableState (w .state)) (leb start (length sheet)) told in
-      let ready = passed-state (worldFits f sheet w) (usableState (w .state)) (leb start (length sheet)) told in
-      let starts = passed-place (worldFits f sheet w) (usableState (w .state)) (leb start (length sheet)) told in
-      entry-of-three f sheet b (first .place) (first .world) (still-fits f sheet w (first .world) kept ∙ sized) (kept .usable ready)
-      (run-place f sheet a start w (leb-true start (length sheet) starts))
+      let passed = entered-by f sheet start w told in
+      entry-of-all f sheet b (first .place) (first .world)
+      (record {
+        sized = still-fits f sheet w (first .world) kept ∙ passed .sized;
+        rising = still-rising f w (first .world) kept ∙ passed .rising;
+        usable = kept .usable (passed .usable);
+        starts = run-place f sheet a start w (passed .starts);
+      })
 
   two-entered : tests ≡ Done → first .answer ≡ OutOfBudget
       → runOf f sheet (a + b) start w ≡ counted (first .lines) (runOf f sheet b (first .place) (first .world))
   two-entered told e =
-      let is : replayOf f sheet a 0 start w ≡ first = entered f sheet a start w refl told in
-      sym (entered f sheet (a + b) start w refl told)
+      let is : replayOf f sheet a 0 start w ≡ first = run-entered f sheet a start w refl told in
+      sym (run-entered f sheet (a + b) start w refl told)
       ∙ two-replays f sheet a b start w (ap (λ (r : Ran). r .answer) is ∙ e)
       ∙ ap (λ (r : Ran). counted (r .lines) (replayOf f sheet b 0 (r .place) (r .world))) is
       ∙ ap (counted (first .lines)) (sym (entered-again told))
@@ -179,8 +162,8 @@ module _ (f : Fixed) (sheet : List ℤ) (a b start : ℕ) (w : World) where
 
   same-entered : tests ≡ Done → first .answer ≡ Finished → runOf f sheet (a + b) start w ≡ first
   same-entered told e =
-      let is : replayOf f sheet a 0 start w ≡ first = entered f sheet a start w refl told in
-      sym (entered f sheet (a + b) start w refl told) ∙ split f sheet a b 0 start w ∙ ap (resume f sheet b) is ∙ not-resumed f sheet b first e
+      let is : replayOf f sheet a 0 start w ≡ first = run-entered f sheet a start w refl told in
+      sym (run-entered f sheet (a + b) start w refl told) ∙ split f sheet a b 0 start w ∙ ap (resume f sheet b) is ∙ not-resumed f sheet b first e
 
   same-by : (begun : Call) → tests ≡ begun → first .answer ≡ Finished → runOf f sheet (a + b) start w ≡ first
   same-by Done told e = same-entered told e

@@ -13,7 +13,7 @@ use Rattle.opcodes.specs.declared.Decoded.{Decoded}
 use Rattle.answer.specs.declared.Call.the-variants.{Done}
 use Rattle.opcodes.specs.declared.Decoded.the-variants.{Operands}
 use Rattle.run_lines.specs.Onward.{Ran, onCall, replayOf}
-use Rattle.replay.specs.Run.{entryOf, onEntry, runOf}
+use Rattle.replay.specs.Run.{entered, onEntry, runOf}
 use Rattle.line.specs.Sizes.{fits, worldFits}
 use Rattle.run_step.specs.Step.{onDecoded, placeAfter, stepOf}
 use Rattle.opcodes.specs.Decode.{decodeOf}
@@ -21,10 +21,11 @@ use Rattle.opcodes.specs.Table.{lineOf}
 use Rattle.laws_lines.proofs.Lines.{line-kept, line-usable}
 use Rattle.int.proofs.Tests.{either}
 use Rattle.run_lines.proofs.Loop.{same-sizes, still-alike, Sizes, mkSizes, sizes}
-use Rattle.replay.proofs.Entry.{entered-alike}
+use Rattle.replay.proofs.Entry.{entered-sound}
 use Rattle.zone.specs.Sizes.{glyphFits, pairFits, placedFits, twilightFits}
 use Rattle.limits.specs.Limits.{mostContours, mostControlValues, mostPoints, mostWords}
 use Rattle.run_step.proofs.Steps.{operands-inside}
+use Rattle.contour_ends.specs.Ends.{endsRise}
 use Rattle.graphics.specs.State.{usableState}
 use Rattle.answer.specs.declared.Call.the-variants.{Refused as RefusedCall}
 use Rattle.opcodes.specs.declared.Decoded.the-variants.{Refused as RefusedLine}
@@ -112,16 +113,16 @@ replay-place f sheet (suc budget) lines at w h =
 
 -- ---- the public run, which needs no premise: where its entry refuses, the world is the one given
 entry-keeps : (f : Fixed) (sheet : List ℤ) (budget start : ℕ) (w : World) (begun : Call)
-    → begun ≡ entryOf (worldFits f sheet w) (usableState (w .state)) (leb start (length sheet))
+    → begun ≡ entered f sheet start w
     → Left w (onEntry f sheet budget start w begun .world)
 unfolding onEntry
 entry-keeps f sheet budget start w Done told =
-    replay-keeps f sheet budget 0 start w (entered-alike f sheet w (usableState (w .state)) (leb start (length sheet)) told refl)
+    replay-keeps f sheet budget 0 start w (entered-sound f sheet start w told refl .0)
 entry-keeps f sheet budget start w (RefusedCall why) told = all-left w
 
 pub run-keeps : (f : Fixed) (sheet : List ℤ) (budget start : ℕ) (w : World) → Left w (runOf f sheet budget start w .world)
 unfolding runOf
-run-keeps f sheet budget start w = entry-keeps f sheet budget start w (entryOf (worldFits f sheet w) (usableState (w .state)) (leb start (length sheet))) refl
+run-keeps f sheet budget start w = entry-keeps f sheet budget start w (entered f sheet start w) refl
 
 entry-place : (f : Fixed) (sheet : List ℤ) (budget start : ℕ) (w : World) (begun : Call) → start ≤ length sheet
     → onEntry f sheet budget start w begun .place ≤ length sheet
@@ -132,7 +133,7 @@ entry-place f sheet budget start w (RefusedCall why) h = h
 pub run-place : (f : Fixed) (sheet : List ℤ) (budget start : ℕ) (w : World) → start ≤ length sheet → runOf f sheet budget start w .place ≤ length sheet
 unfolding runOf
 run-place f sheet budget start w h =
-    entry-place f sheet budget start w (entryOf (worldFits f sheet w) (usableState (w .state)) (leb start (length sheet))) h
+    entry-place f sheet budget start w (entered f sheet start w) h
 
 -- ---- the entry, once more
 -- whether the sizes pass, by the lengths alone
@@ -153,3 +154,6 @@ fits-by-lengths f sheet w = refl
 
 pub still-fits : (f : Fixed) (sheet : List ℤ) (w v : World) → Left w v → worldFits f sheet v ≡ worldFits f sheet w
 still-fits f sheet w v l = fits-by-lengths f sheet v ∙ ap (fitsAt f sheet) (l .lengths) ∙ sym (fits-by-lengths f sheet w)
+
+pub still-rising : (f : Fixed) (w v : World) → Left w v → endsRise (length (v .gx)) (f .contours) ≡ endsRise (length (w .gx)) (f .contours)
+still-rising f w v l = ap (λ (z : Sizes). endsRise (z .gx) (f .contours)) (l .lengths)

@@ -1,3 +1,4 @@
 pub mod Budget
 pub mod Keeps
 pub mod Numbers
+pub mod Sloppy

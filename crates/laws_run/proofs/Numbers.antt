@@ -13,6 +13,7 @@ use Rattle.graphics.specs.declared.ZonePointer.the-variants.{Glyph}
 use Rattle.graphics.specs.declared.GraphicsState.{GraphicsState}
 use Rattle.answer.specs.declared.Refusal.the-variants.{Point}
 use Rattle.run_lines.specs.Onward.{Ran, detailOfAnswer, ends, numberOfAnswer, onCall, replayOf}
+use Rattle.contour_ends.specs.Ends.{risingFrom}
 use Rattle.replay.specs.Run.{entryOf, onEntry, runOf}
 use Rattle.line.specs.Sizes.{fits}
 use Rattle.run_step.specs.Step.{onDecoded, stepOf}
@@ -20,7 +21,7 @@ use Rattle.round.specs.declared.RoundMode.{RoundMode}
 use Rattle.round.proofs.Facts.{SameSide, down-rounds, grid-rounds, up-rounds}
 use Rattle.graphics.specs.declared.Vector.{Vector}
 use Rattle.graphics.specs.declared.Vectors.{Vectors}
-use Rattle.iup.specs.Iup.{Swept as Walked, iupOf, past, sizesFit, triedOf, walkOf, swept as walked}
+use Rattle.iup.specs.Iup.{Swept as Walked, iupOf, sizesFit, triedOf, walkOf, swept as walked}
 use Rattle.int.specs.Word.{abs32, add32, and32, maxZ, minZ, neg32, sub32, wrap32}
 use Rattle.flags.specs.declared.Axis.the-variants.{X}
 use Rattle.iup.specs.Contour.{along, between, contourOf, inside, pointsOf, spread, touchedPlaces}
@@ -162,7 +163,7 @@ pub record PaperNumbers : Type 0 where
   pub fresh : stateWith xAxis 0 0 0 false ≡ freshState
 
 pub numbers : PaperNumbers
-unfolding runOf onEntry entryOf fits glyphFits twilightFits pairFits placedFits usableState vectorsInRange vectorInRange replayOf stepOf onDecoded onCall decodeOf decodeBy needOf lineOf rowOf setOf setBy vectorsBy axisBy one pointOr fetchIn moveIn laidIn applyIn mdapOf mdapDistance outsideMdap fromOrigin roundingStep grid alongOf axisOf rawFdotp notSmall fetchOf applyOf moveOf stepBy freedomAxisBy iupLineOf markedFor iupOf walkOf past contourOf pointsOf touchedPlaces spread between along inside add32 sub32 neg32 abs32 mulDiv mulFix14 dotFix14 halfAway14 halfUp withSign wrap32 maxZ minZ keepUp keepDown padFloor multipleBelow periodFloor inward outward plus minus negated pastBits roundedMoveIn stepFrom withRounding halfGrid doubleGrid upToGrid downToGrid superBy and32 triedOf sizesFit
+unfolding runOf onEntry entryOf risingFrom fits glyphFits twilightFits pairFits placedFits usableState vectorsInRange vectorInRange replayOf stepOf onDecoded onCall decodeOf decodeBy needOf lineOf rowOf setOf setBy vectorsBy axisBy one pointOr fetchIn moveIn laidIn applyIn mdapOf mdapDistance outsideMdap fromOrigin roundingStep grid alongOf axisOf rawFdotp notSmall fetchOf applyOf moveOf stepBy freedomAxisBy iupLineOf markedFor iupOf walkOf contourOf pointsOf touchedPlaces spread between along inside add32 sub32 neg32 abs32 mulDiv mulFix14 dotFix14 halfAway14 halfUp withSign wrap32 maxZ minZ keepUp keepDown padFloor multipleBelow periodFloor inward outward plus minus negated pastBits roundedMoveIn stepFrom withRounding halfGrid doubleGrid upToGrid downToGrid superBy and32 triedOf sizesFit
 numbers = record {
   grid-halves = refl;
   grid-most = refl;

@@ -1,10 +1,8 @@
 -- IUP keeps every coordinate in its width: each new one is a wrapped sum or the current coordinate of some point. Assumes nothing.
-use mathlib.Core.Bool.{_&&_, _||_}
+use mathlib.Core.Bool.{_||_}
 use mathlib.Core.List.{List, [], _∷_}
-use Prim.Native.Nat.{_-_, ℕ}
-use lib.Dec.{eqb, ltb}
+use Prim.Native.Nat.{_-_, suc, ℕ}
 use lib.IntN.{ℤ}
-use lib.ListN.{length}
 use lib.Signed.{leZ}
 use mir.Syntax.{w32}
 use mir.Val.{SFits}
@@ -14,7 +12,7 @@ use Rattle.int.specs.Word.{eqZ}
 use Rattle.iup.specs.Contour.{Point, along, between, byTouched, contourOf, currentOf, offset, headOr, inside, lastOf, pointsOf, shiftedBy, spread, touchedPlaces}
 use Rattle.flags.specs.Axis.{touchBit}
 use Rattle.flags.specs.declared.Axis.{Axis}
-use Rattle.iup.specs.Iup.{Swept, iupOf, past, walkOf}
+use Rattle.iup.specs.Iup.{iupOf, walkOf}
 use Rattle.iup.specs.declared.Place.{Place}
 use Rattle.words.proofs.Widths.{Every, Numbers, every-drop, every-join, every-map, every-take, no-word, one-word}
 
@@ -85,16 +83,11 @@ points-fit mask (x ∷ fs) (u ∷ us) [] f = no-word
 points-fit mask (x ∷ fs) (u ∷ us) (o ∷ os) no-word = no-word
 points-fit mask (x ∷ fs) (u ∷ us) (o ∷ os) (one-word h f) = one-word h (points-fit mask fs us os f)
 
-walk-fits : (n at : ℕ) (ends : List ℕ) {ps : List Point} → Every PointFits ps → Numbers (walkOf n at ends ps)
+walk-fits : (at : ℕ) (ends : List ℕ) {ps : List Point} → Every PointFits ps → Numbers (walkOf at ends ps)
 unfolding walkOf
-walk-fits n at [] f = current-fit f
-walk-fits n at (end ∷ ends) f =
-    let m = past end n - at in
-    either Numbers (ltb at (past end n)) (every-join (contour-fits (every-take f m)) (walk-fits n (past end n) ends (every-drop f m))) (walk-fits n at ends f)
+walk-fits at [] f = current-fit f
+walk-fits at (end ∷ ends) f = let m = suc end - at in every-join (contour-fits (every-take f m)) (walk-fits (suc end) ends (every-drop f m))
 
-pub iup-fits : (axis : Axis) (flags contours : List ℕ) (unscaled original : List ℤ) {current : List ℤ} → Numbers current
-    → Numbers (iupOf axis flags contours unscaled original current .current)
+pub iup-fits : (axis : Axis) (flags contours : List ℕ) (unscaled original : List ℤ) {current : List ℤ} → Numbers current → Numbers (iupOf axis flags contours unscaled original current)
 unfolding iupOf
-iup-fits axis flags contours unscaled original {current} f =
-    either (λ (w : Swept). Numbers (w .current)) (eqb (length current) 0 && ltb 0 (length contours)) f
-    (walk-fits (length current) 0 contours (points-fit (touchBit axis) flags unscaled original f))
+iup-fits axis flags contours unscaled original f = walk-fits 0 contours (points-fit (touchBit axis) flags unscaled original f)

@@ -37,7 +37,7 @@ use Rattle.flags.specs.declared.CoordAxis.the-variants.{Both}
 use Rattle.record_read.proofs.Widths.{InWidth, StateInWidth}
 use Rattle.state_words.proofs.Back.{VectorFits}
 use Rattle.words.proofs.Widths.{Below, every-set}
-use Rattle.line.specs.World.{Fixed, Lined, World}
+use Rattle.line.specs.World.{Fixed, World}
 use Rattle.zone.specs.Zone.{Marked, flipOf, placeOf, setOnCurveOf}
 use Rattle.laws_widths.proofs.Contours.{iup-fits}
 use Rattle.laws_widths.proofs.Setters.{references-fit, reset-fits, rp0-fits, rp1-fits, rp2-fits, with-facts-fits, with-push-fits, with-references-fits, with-rounding-fits}
@@ -137,7 +137,7 @@ isect-in-width f op operands w k =
     isect-stays InWidth f op operands w k (λ at a0 a1 b0 b1 zone. put-fits at (crossingOf a0 a1 b0 b1) (crossing-fits a0 a1 b0 b1) w k zone)
 
 -- ---- IUP
-walked-fits : (f : Fixed) (w : World) → InWidth w → (odd : Bool) → InWidth (walkedIn f w odd .world)
+walked-fits : (f : Fixed) (w : World) → InWidth w → (odd : Bool) → InWidth (walkedIn f w odd)
 walked-fits f w k true =
     record { state = k .state; gx = iup-fits X (w .gflags) (f .contours) (f .gux) (f .gox) (k .gx); gy = k .gy; gflags = k .gflags; tox = k .tox; toy = k .toy; tx = k .tx; ty = k .ty; tflags = k .tflags }
 walked-fits f w k false =
@@ -153,5 +153,5 @@ marked-fits s f op =
 pub iup-in-width : (f : Fixed) (op : ℕ) (operands : List ℤ) (w : World) → InWidth w → InWidth (iupLineOf f op operands w .world)
 unfolding iupLineOf
 iup-in-width f op operands w k =
-    either (λ (l : Lined). InWidth (l .world)) (pastBothIups (w .state .facts)) k
+    either InWidth (pastBothIups (w .state .facts)) k
     (walked-fits f (inState w (markedFor (w .state) op)) (in-state-fits w (markedFor (w .state) op) (marked-fits (w .state) (k .state) op) k) (isOdd op))

@@ -19,7 +19,7 @@ use Rattle.opcodes.specs.Table.{lineOf}
 use Rattle.opcodes.specs.declared.Decoded.the-variants.{Operands, Refused as RefusedLine}
 use Rattle.opcodes.specs.declared.Decoded.{Decoded}
 use Rattle.record_read.proofs.Widths.{InWidth}
-use Rattle.replay.specs.Run.{entryOf, onEntry, runOf}
+use Rattle.replay.specs.Run.{entered, onEntry, runOf}
 use Rattle.run_step.specs.Step.{onDecoded, stepOf}
 use Rattle.words.proofs.Widths.{Numbers, every-drop, every-take}
 use Rattle.line.specs.Sizes.{worldFits}
@@ -78,4 +78,4 @@ entry-in-width f sheet budget start w o k (RefusedCall why) = k
 
 pub run-in-width : (f : Fixed) (sheet : List ℤ) (budget start : ℕ) (w : World) → Numbers sheet → InWidth w → InWidth (runOf f sheet budget start w .world)
 unfolding runOf
-run-in-width f sheet budget start w o k = entry-in-width f sheet budget start w o k (entryOf (worldFits f sheet w) (usableState (w .state)) (leb start (length sheet)))
+run-in-width f sheet budget start w o k = entry-in-width f sheet budget start w o k (entered f sheet start w)

@@ -2,10 +2,12 @@
 -- the latter. Assumes nothing.
 use Prim.Native.Nat.{ℕ}
 use mathlib.Core.List.{List}
+use mathlib.Core.Bool.{true}
 use mathlib.Core.Path.{_≡_}
 use lib.IntN.{ℤ}
 use lib.ListN.{length}
 use Rattle.answer.specs.declared.Call.{Call}
+use Rattle.contour_ends.specs.Ends.{endsRise}
 use Rattle.graphics.specs.declared.GraphicsState.{GraphicsState}
 use Rattle.line.specs.declared.Stepped.{Stepped}
 
@@ -50,6 +52,10 @@ Alike f w =
     × (length (w .ty) ≡ length (w .tx))
     × (length (w .tflags) ≡ length (w .tx))
     × (length (w .tox) ≡ length (w .tx))
+
+-- and its contours' ends rise below the number of points: what a run's entry tests of the lists, and every line may rely on
+abbrev pub Sound : Fixed → World → Type 0
+Sound f w = Alike f w × (endsRise (length (w .gx)) (f .contours) ≡ true)
 
 -- what a line comes to, and the world after it
 pub record Lined : Type 0 where

@@ -1,6 +1,6 @@
 -- Points in a row, each shifted as the reference point was: what OpenType's SHC[a] and SHZ[a] share, and FreeType 2.13.3, ttinterp.c (Ins_SHC, Ins_SHZ), which leave the
--- reference point itself where it is. It is refused first; then nothing moves. The Rust decides what a point beyond the zone comes to: it is refused there, with
--- the points before it done. Assumes nothing.
+-- reference point itself where it is. It is refused first; then nothing moves. Where contour ends rise all other points are there (`shc-refuses-none`,
+-- `shz-refuses-none` of the crate laws_lines). Assumes nothing.
 use Prim.Native.Nat.{ℕ, _-_, suc, zero}
 use mathlib.Core.Bool.{Bool, _&&_, cond, not}
 use mathlib.Core.List.{List, [], _∷_}

@@ -2,7 +2,7 @@
 //
 // `run` answers for every input. What it says, the state, and what every list holds afterwards, refused or not, are one equation with `runOf` of
 // specs/Run.antt. The glyph's unscaled and original points, its contours' ends, the control values and the sheet are only read. No caller has to
-// test first: lists of unequal lengths, a start beyond the sheet or an unknown opcode are answers by number.
+// test first: lists of unequal lengths, contour ends that don't rise, a start beyond the sheet or an unknown opcode are answers by number.
 //
 // A call, with the sheet SVTCA[y], MDAP[1] of point 0, IUP[y]; the lists are the caller's own:
 //
@@ -19,6 +19,7 @@
 // and the same lists.
 use answer::Call;
 use answer::Refusal;
+use contour_ends::ends_rise;
 use graphics::GraphicsState;
 use line::sizes_fit;
 use opcodes::needs_table;
@@ -31,11 +32,13 @@ ghost use Rattle.run_lines.specs.Onward.{ran};
 ghost use Rattle.replay.specs.Run.{entryOf, entryRefused, runOf};
 
 // The tests before the first line, in their order.
-fn enter(sized: bool, usable: bool, starts: bool) -> Call
-    ensures { λ r. ⌜ r ≡ entryOf sized usable starts ⌝ }
+fn enter(sized: bool, rising: bool, usable: bool, starts: bool) -> Call
+    ensures { λ r. ⌜ r ≡ entryOf sized rising usable starts ⌝ }
 {
     if !sized {
         Call::Refused(Refusal::Sizes)
+    } else if !rising {
+        Call::Refused(Refusal::Ends)
     } else if !usable {
         Call::Refused(Refusal::State)
     } else if !starts {
@@ -57,7 +60,7 @@ fn at_entry(why: Refusal, start: usize, s: GraphicsState) -> Outcome
     }
 }
 
-// A run from a place of the sheet: sizes (2), state (3) and place (4) are tested before the first line.
+// A run from a place of the sheet: sizes (2), contour ends (14), state (3) and place (4) are tested before the first line.
 pub fn run(
     start: usize,
     budget: u64,
@@ -97,7 +100,8 @@ pub fn run(
         ty,
         tflags,
     );
-    let begun = enter(sized, s.is_usable(), start <= sheet.len());
+    let rising = ends_rise(contours, gx.len());
+    let begun = enter(sized, rising, s.is_usable(), start <= sheet.len());
     match begun {
         Call::Refused(why) => at_entry(why, start, s),
         Call::Done => {

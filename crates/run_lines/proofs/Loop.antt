@@ -1,5 +1,6 @@
 -- How a run goes on, over plain values: at the sheet's end, with the budget used, after a line that is done, and after one that is refused. And that
 -- worlds of the same lengths are alike together. Assumes nothing.
+use mathlib.Core.Bool.{true}
 use mathlib.Core.List.{List}
 use Prim.Native.Nat.{_+_, _-_, _<_, _≤_, suc, zero, ℕ}
 use mathlib.Core.Path.{_∙_, _≡_, ap, refl, subst, sym}
@@ -8,7 +9,8 @@ use native.Mathlib.Omega.{arith}
 use borrow.Author.Tests.{le-ltb, lt-ltb}
 use lib.ListN.{length}
 use lib.IntN.{ℤ}
-use Rattle.line.specs.World.{Alike, Fixed, World}
+use Rattle.contour_ends.specs.Ends.{endsRise}
+use Rattle.line.specs.World.{Alike, Fixed, Sound, World}
 use Rattle.answer.specs.declared.Call.{Call}
 use Rattle.answer.specs.declared.Call.the-variants.{Done, Refused as RefusedCall}
 use Rattle.run_lines.specs.declared.Answer.the-variants.{Finished, OutOfBudget, Refused}
@@ -93,3 +95,6 @@ AlikeAt f z =
 -- worlds of the same lengths are alike or not together
 pub still-alike : (f : Fixed) (v w : World) → sizes w ≡ sizes v → Alike f v → Alike f w
 still-alike f v w e h = subst (AlikeAt f) (sym e) h
+
+pub still-sound : (f : Fixed) (v w : World) → sizes w ≡ sizes v → Sound f v → Sound f w
+still-sound f v w e h = (still-alike f v w e (h .0), subst (λ (z : Sizes). endsRise (z .gx) (f .contours) ≡ true) (sym e) (h .1))

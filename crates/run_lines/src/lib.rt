@@ -1,6 +1,6 @@
 // The lines of a sheet from a place on, as many as the budget says.
 //
-// `onward` answers for every place, state and budget, and ends, over zones whose lists are alike: `replay` tests this before its first line. What it
+// `onward` answers for every place, state and budget, and ends, over zones whose lists are sound: `replay` tests this before its first line. What it
 // says, the place, the count, the state, and what every list holds afterwards, refused or not, are one equation with `replayOf` of
 // specs/Onward.antt.
 use answer::Call;
@@ -9,7 +9,7 @@ use graphics::GraphicsState;
 use run_step::step;
 ghost use mathlib.Core.Path.{_≡_};
 ghost use Rattle.opcodes.specs.Table.{needsTable};
-ghost use Rattle.line.specs.World.{fixed, world, Alike};
+ghost use Rattle.line.specs.World.{Sound, fixed, world};
 ghost use Rattle.run_lines.specs.Onward.{numberOfAnswer, detailOfAnswer, ran, replayOf};
 
 // ---- what a run says
@@ -75,7 +75,7 @@ pub fn onward(
     tflags: &mut [u8],
 ) -> Outcome
     requires { ⌜ now needs ≡ needsTable ⌝ }
-    requires { ⌜ Alike (fixed (now controls) (now gux) (now guy) (now gox) (now goy) (now contours)) (world s (now gx) (now gy) (now gflags) (now tox) (now toy) (now tx) (now ty) (now tflags)) ⌝ }
+    requires { ⌜ Sound (fixed (now controls) (now gux) (now guy) (now gox) (now goy) (now contours)) (world s (now gx) (now gy) (now gflags) (now tox) (now toy) (now tx) (now ty) (now tflags)) ⌝ }
     ensures { λ r. ⌜ ran r (now (gx .exit)) (now (gy .exit)) (now (gflags .exit)) (now (tox .exit)) (now (toy .exit)) (now (tx .exit)) (now (ty .exit)) (now (tflags .exit)) ≡ replayOf (fixed (now (controls .entry)) (now (gux .entry)) (now (guy .entry)) (now (gox .entry)) (now (goy .entry)) (now (contours .entry))) (now (sheet .entry)) budget 0 start (world s (now (gx .entry)) (now (gy .entry)) (now (gflags .entry)) (now (tox .entry)) (now (toy .entry)) (now (tx .entry)) (now (ty .entry)) (now (tflags .entry))) ⌝ }
 {
     let mut state = s;

@@ -1,6 +1,6 @@
 // One line of a sheet: it is read off its place, and performed.
 //
-// `step` answers for every place and every state, over zones whose lists are alike: `replay` tests this before its first line. What it comes to,
+// `step` answers for every place and every state, over zones whose lists are sound: `replay` tests this before its first line. What it comes to,
 // the place after it, the state, and what every list holds afterwards are one equation with `stepOf` of specs/Step.antt.
 use answer::Call;
 use dispatch::perform;
@@ -10,7 +10,7 @@ use opcodes::Decoded;
 use opcodes::decode;
 ghost use mathlib.Core.Path.{_≡_};
 ghost use Rattle.opcodes.specs.Table.{needsTable};
-ghost use Rattle.line.specs.World.{fixed, world, Alike};
+ghost use Rattle.line.specs.World.{Sound, fixed, world};
 ghost use Rattle.run_step.specs.Step.{placeAfter, landed, went, stepOf};
 
 // What one line comes to. The place is that of the next line, or of this one where it is refused.
@@ -60,7 +60,7 @@ pub fn step(
     tflags: &mut [u8],
 ) -> Landing
     requires { ⌜ now needs ≡ needsTable ⌝ }
-    requires { ⌜ Alike (fixed (now controls) (now gux) (now guy) (now gox) (now goy) (now contours)) (world s (now gx) (now gy) (now gflags) (now tox) (now toy) (now tx) (now ty) (now tflags)) ⌝ }
+    requires { ⌜ Sound (fixed (now controls) (now gux) (now guy) (now gox) (now goy) (now contours)) (world s (now gx) (now gy) (now gflags) (now tox) (now toy) (now tx) (now ty) (now tflags)) ⌝ }
     ensures { λ r. ⌜ went r (now (gx .exit)) (now (gy .exit)) (now (gflags .exit)) (now (tox .exit)) (now (toy .exit)) (now (tx .exit)) (now (ty .exit)) (now (tflags .exit)) ≡ stepOf (fixed (now (controls .entry)) (now (gux .entry)) (now (guy .entry)) (now (gox .entry)) (now (goy .entry)) (now (contours .entry))) (now (sheet .entry)) at (world s (now (gx .entry)) (now (gy .entry)) (now (gflags .entry)) (now (tox .entry)) (now (toy .entry)) (now (tx .entry)) (now (ty .entry)) (now (tflags .entry))) ⌝ }
 {
     let line = decode(sheet, needs, s.loop_counter, at);

@@ -11,12 +11,10 @@ use crate::{
 use reference::door;
 
 const TOUCHED: [u32; 3] = [6, 2, 4];
-const WALKS: [&str; 12] = [
+const WALKS: [&str; 10] = [
     "contour with no touched point",
     "contour with one touched point",
     "contour with several touched points",
-    "contour that ends before the walk",
-    "contour end at or above n",
     "point before its references",
     "point after its references",
     "point between its references",
@@ -168,18 +166,9 @@ fn walk_key(walk: &str) -> String {
 /// The kinds of contours and points that a walk meets.
 fn iup_keys(world: &World, axis: u32) -> Vec<String> {
     let mut seen = Vec::new();
-    let points = world.points();
     let mut place = 0;
     for end in &world.lists[CONTOURS] {
-        let end = *end as usize;
-        if end >= points {
-            seen.push(WALKS[4]);
-        }
-        let last = end.min(points.saturating_sub(1));
-        if last < place {
-            seen.push(WALKS[3]);
-            continue;
-        }
+        let last = *end as usize;
         contour_kinds(world, axis, place, last, &mut seen);
         place = last + 1;
     }
@@ -211,7 +200,7 @@ fn contour_kinds(
     let (from, to) = (touched[0], touched[touched.len() - 1]);
     let around: Vec<usize> = (to + 1..=last).chain(first..from).collect();
     if !around.is_empty() {
-        seen.push(WALKS[11]);
+        seen.push(WALKS[9]);
     }
     gap_kinds(world, axis, around, [to, from], seen);
 }
@@ -231,22 +220,22 @@ fn gap_kinds(
         return;
     }
     if number(UNSCALED_X, low) > number(UNSCALED_X, high) {
-        seen.push(WALKS[8]);
+        seen.push(WALKS[6]);
         (low, high) = (to, from);
     }
     if number(UNSCALED_X, low) == number(UNSCALED_X, high) {
-        seen.push(WALKS[9]);
+        seen.push(WALKS[7]);
     } else if number(CURRENT_X, low) == number(CURRENT_X, high) {
-        seen.push(WALKS[10]);
+        seen.push(WALKS[8]);
     }
     for point in gap {
         let original = number(ORIGINAL_X, point);
         seen.push(if original <= number(ORIGINAL_X, low) {
-            WALKS[5]
+            WALKS[3]
         } else if original >= number(ORIGINAL_X, high) {
-            WALKS[6]
+            WALKS[4]
         } else {
-            WALKS[7]
+            WALKS[5]
         });
     }
 }

@@ -12,7 +12,7 @@ use crate::{
 const ALL: &str = "all sizes at their limits";
 const LAST: [&str; 3] = [
     "n is the limit: the contour that ends at its last point follows",
-    "n and contours are the limit: the last contour follows",
+    "n and contours are the limit: the last contour is shifted",
     "sheet words are the limit: the last line moves a point",
 ];
 
@@ -33,7 +33,9 @@ pub fn keys(case: &Case, outcome: &Outcome) -> Vec<String> {
 }
 
 pub fn required() -> Vec<String> {
-    let mut keys = vec![all_key(None, answer::END)];
+    let mut keys = [answer::END, answer::ENDS]
+        .map(|number| all_key(None, number))
+        .to_vec();
     keys.extend(sized_lists().map(|(name, ..)| all_key(Some(name), answer::SIZES)));
     keys.extend(LAST.map(String::from));
     keys
@@ -58,8 +60,9 @@ fn filled(world: &World) -> Option<Option<&'static str>> {
     }
 }
 
-/// Whether the last point's contour follows it at the limit of points, and at
-/// that of contours too; whether the last line moves its point at that of words.
+/// Whether the last point's contour follows it at the limit of points; whether
+/// a line of the contour moves it at that of contours too, where it has no other;
+/// whether the last line moves its point at that of words.
 fn lasts(world: &World, outcome: &Outcome) -> [bool; 3] {
     let lists = &world.lists;
     let points = lists[FLAGS].len();
@@ -69,7 +72,7 @@ fn lasts(world: &World, outcome: &Outcome) -> [bool; 3] {
     let last_operand = lists[SHEET].last().copied().unwrap_or_default() as usize;
     [
         follows,
-        follows && lists[CONTOURS].len() == MOST_CONTOURS,
+        lists[CONTOURS].len() == MOST_CONTOURS && moves(world, outcome, points - 1),
         lists[SHEET].len() == MOST_SHEET_WORDS && moves(world, outcome, last_operand),
     ]
 }

@@ -2,6 +2,7 @@
 
 mod branches;
 mod distances;
+mod ends;
 mod keys;
 mod largest;
 mod lengths;
@@ -108,6 +109,9 @@ impl Coverage {
             self.add(key);
         }
         for key in distances::keys(case, outcome) {
+            self.add(key);
+        }
+        for key in ends::keys(case, outcome) {
             self.add(key);
         }
     }

@@ -1,7 +1,8 @@
 //! What must come up in a run of the generator and in the sample.
 
-use super::{branches, distances, keys::*, largest, lengths, rows, selectors, shifts, wraps};
+use super::{branches, distances, ends, keys::*, largest, lengths, rows, selectors, shifts, wraps};
 use crate::{
+    answer,
     opcodes::{name_of, rounds, row_of, Family, Row, TABLE},
     vectors,
     world::*,
@@ -13,7 +14,7 @@ const LOOPED: usize = 3;
 /// Everything that must come up.
 pub fn required() -> Vec<String> {
     let mut keys = Vec::new();
-    keys.extend((0..=13).map(|number| format!("answer {number:2}")));
+    keys.extend((0..=14).map(|number| format!("answer {number:2}")));
     keys.extend(required_calls());
     keys.extend(required_states());
     keys.extend(required_sizes());
@@ -28,6 +29,7 @@ pub fn required() -> Vec<String> {
     keys.extend(wraps::required());
     keys.extend(largest::required());
     keys.extend(distances::required());
+    keys.extend(ends::required());
     keys
 }
 
@@ -35,9 +37,10 @@ fn required_calls() -> Vec<String> {
     let mut keys = Vec::new();
     for (kind, name) in CALLS.iter().enumerate() {
         let numbers: &[u32] = match kind {
-            0 => &[0, 1, 2, 3, 4, 5, 6, 7, 8, 9, 10, 11, 12, 13],
+            0 => &[0, 1, 2, 3, 4, 5, 6, 7, 8, 9, 10, 11, 12, 13, 14],
             3 => &[0, 2],
             8 => &[0, 2, 11],
+            9 => &[0, 2, 14],
             10..=13 => &[0, 2, 3, 7],
             _ => &[0, 2, 7],
         };
@@ -158,7 +161,7 @@ fn required_steps() -> Vec<String> {
 fn required_alone() -> Vec<String> {
     let mut keys = Vec::new();
     for row in instructions() {
-        let numbers = (0..=4).chain(refusals(row));
+        let numbers = (0..=4).chain(refusals(row)).chain([answer::ENDS]);
         keys.extend(numbers.map(|number| alone_key(row.name, number)));
     }
     keys

@@ -3,6 +3,7 @@
 mod calls;
 mod distance_grid;
 mod distances;
+mod ends;
 mod far;
 mod largest;
 mod lengths;
@@ -22,6 +23,7 @@ mod wraps;
 pub use calls::{every_call, iup_case, zone_case};
 pub use distance_grid::every_distance;
 pub use distances::{distance_case, distance_run_case, set_words};
+pub use ends::{every_end, mended};
 pub use far::{far_calls, far_distances, far_references};
 pub use largest::largest_faces;
 pub use lengths::{every_length, every_limit, length_case};
@@ -46,10 +48,13 @@ use crate::{
 };
 use distances::any_distance;
 
+/// The ends of the others are mended.
+const SLOPPY_ONCE_IN: usize = 8;
+
 /// What no chance is left to: document 01's runs, the scenes of note, each
-/// opcode, each setter, each shift, each selector, the limits, lists that don't
-/// fit, far indices, what one rule alone decides, each kind of wrapped rounding,
-/// the largest faces, and the distances.
+/// opcode, each setter, each shift, each selector and lines that round by it, the
+/// limits, lists that don't fit, far indices, what one rule alone decides, each
+/// kind of wrapped rounding, the largest faces, the distances, and contour ends.
 pub fn fixed_cases(random: &mut Random) -> Vec<Case> {
     let mut cases = runs_of_01().to_vec();
     cases.extend(notable::lines());
@@ -58,6 +63,7 @@ pub fn fixed_cases(random: &mut Random) -> Vec<Case> {
     cases.extend(every_setter());
     cases.extend(every_shift());
     cases.extend(every_selector());
+    cases.extend(rounds_by_every_selector());
     cases.extend(selector_counts());
     cases.extend(limit_cases(random));
     cases.extend(every_length(random));
@@ -69,11 +75,21 @@ pub fn fixed_cases(random: &mut Random) -> Vec<Case> {
     cases.extend(largest_faces());
     cases.extend(every_distance());
     cases.extend(far_distances());
+    cases.extend(every_end());
     cases
 }
 
-/// Any case at all, for comparisons, coverage and searches.
+/// Any case at all, for comparisons, coverage and searches. Its contour ends may
+/// be sloppy, but seldom: such a case is refused before anything is done.
 pub fn any_case(random: &mut Random) -> Case {
+    let case = case_of_any_ends(random);
+    match random.once_in(SLOPPY_ONCE_IN) {
+        true => case,
+        false => mended(case),
+    }
+}
+
+fn case_of_any_ends(random: &mut Random) -> Case {
     if random.once_in(4) {
         return any_distance(random);
     }

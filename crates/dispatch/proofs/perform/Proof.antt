@@ -72,20 +72,20 @@ enum-told : tie.Need-enum-told
 enum-told c = c .match .keys1
 
 isect-requires : tie.Need-isect-requires
-isect-requires c κs = let p = start (to-isect c .before .before) .pre in (p .4, p .7)
+isect-requires c κs = let p = start (to-isect c .before .before) .pre .0 in (p .4, p .7)
 
 enum-told-2 : tie.Need-enum-told-2
 enum-told-2 c = c .match .keys2
 
 iup-requires : tie.Need-iup-requires
-iup-requires c κs = let p = start (to-iup c .before .before) .pre in (p .0, p .1, p .2, p .3, p .4, p .5)
+iup-requires c κs = let sound = start (to-iup c .before .before) .pre in let p = sound .0 in (p .0, p .1, p .2, p .3, p .4, p .5, sound .1)
 
 enum-told-3 : tie.Need-enum-told-3
 enum-told-3 c = c .match .keys3
 
 perform-shift-requires : tie.Need-perform-shift-requires
 unfolding Named
-perform-shift-requires c κs = let e = to-shift c in let k = e .before .before in let p = start k .pre in let among = named k (e .enum-told3 .given .1) in
+perform-shift-requires c κs = let e = to-shift c in let k = e .before .before in let p = start k .pre .0 in let among = named k (e .enum-told3 .given .1) in
     (among .0, among .1, p .3 ∙ sym (p .2), p .4, p .5, p .6, p .7, p .8)
 
 enum-told-4 : tie.Need-enum-told-4
@@ -93,14 +93,14 @@ enum-told-4 c = c .match .keys4
 
 perform-distance-requires : tie.Need-perform-distance-requires
 unfolding Named
-perform-distance-requires c κs = let e = to-distance c in let k = e .before .before in let p = start k .pre in (named k (e .enum-told4 .given .1), p .4, p .5, p .7, p .8)
+perform-distance-requires c κs = let e = to-distance c in let k = e .before .before in let p = start k .pre .0 in (named k (e .enum-told4 .given .1), p .4, p .5, p .7, p .8)
 
 enum-told-5 : tie.Need-enum-told-5
 enum-told-5 c = c .match .keys5
 
 perform-measure-requires : tie.Need-perform-measure-requires
 unfolding Named
-perform-measure-requires c κs = let e = to-measure c in let k = e .before .before in let p = start k .pre in
+perform-measure-requires c κs = let e = to-measure c in let k = e .before .before in let p = start k .pre .0 in
     (named k (e .enum-told5 .given .1), p .3 ∙ sym (p .2), p .4, p .5, p .6, p .7, p .8)
 
 enum-told-6 : tie.Need-enum-told-6

@@ -41,17 +41,21 @@ walk-on-requires c κs = started (c .before .before .before .before) .pre
 marked-for-requires : tie.Need-marked-for-requires
 marked-for-requires c κs = tt
 
+done-requires-2 : tie.Need-done-requires-2
+done-requires-2 c κs = tt
+
 same-length : tie.Need-same-length
-same-length c = search (c .before .before .before .walk-on .kept)
+same-length c = search
 
 same-length-2 : tie.Need-same-length-2
-same-length-2 c = search (c .before .before .before .walk-on .kept)
+same-length-2 c = search
 
 returns-2 : tie.Need-returns-2
-returns-2 c = let k = c .before .before .before in let o = k .before .before .before in let p = o .before .before in let b = started p in
+returns-2 c = let m = c .before in let k = m .before .before .before in let o = k .before .before .before in let p = o .before .before in let b = started p in
     λ controls operands tox toy tx ty tflags.
-    iup-walked (lent b controls) (b .args .opcode) operands (entry b tox toy tx ty tflags) (p .past-both-iups .ensures) (o .before .if1 .left) (o .is-odd .ensures) (c .marked-for .ensures)
-    (k .walk-on .ensures (c .marked-for .result) controls tox toy tx ty tflags)
+    iup-walked (lent b controls) (b .args .opcode) operands (entry b tox toy tx ty tflags) (p .past-both-iups .ensures) (o .before .if1 .left) (o .is-odd .ensures) (m .marked-for .ensures)
+    (k .walk-on .ensures (m .marked-for .result) controls tox toy tx ty tflags)
+    (c .done2 .ensures)
 
 pub iup-spec : {M : Type 1} → statement M
 iup-spec =
@@ -63,6 +67,7 @@ iup-spec =
     is-odd-requires
     walk-on-requires
     marked-for-requires
+    done-requires-2
     same-length
     same-length-2
     returns-2)

@@ -1,9 +1,10 @@
 -- `line_iup::walk_on` meets its contract: by the axis, in any world that holds the lists lent. Assumes nothing.
 use mathlib.Core.List.{List}
-use mathlib.Core.Path.{sym, _∙_}
+use mathlib.Core.Path.{ap, sym, _∙_}
 use Prim.Native.Nat.{ℕ}
 use denote.Ref.{now}
 use lib.IntN.{ℤ}
+use Rattle.contour_ends.specs.Ends.{endsRise}
 use Rattle.graphics.specs.declared.GraphicsState.{GraphicsState}
 use Rattle.line.specs.World.{Fixed, World, fixed, world}
 use Rattle.line_iup.proofs.Cases.{walked-x, walked-y}
@@ -18,10 +19,11 @@ abbrev entry : tie.Start → GraphicsState → List ℤ → List ℤ → List �
 entry b s = let a = b .args in world s (now (a .gx)) (now (a .gy)) (now (a .gflags))
 
 iup-requires : tie.Need-iup-requires
-iup-requires c κs = let p = c .before .before .before .before .pre in (p .0, p .2, p .5)
+iup-requires c κs = let p = c .before .before .before .before .pre in (p .0, p .2, p .5, p .6)
 
 iup-requires-2 : tie.Need-iup-requires-2
-iup-requires-2 c κs = let p = c .before .before .before .before .pre in let y = sym (p .4) in (p .1 ∙ y, p .3 ∙ y, p .5 ∙ y)
+iup-requires-2 c κs = let b = c .before .before .before .before in let p = b .pre in let y = sym (p .4) in
+    (p .1 ∙ y, p .3 ∙ y, p .5 ∙ y, ap (λ (n : ℕ). endsRise n (now (b .args .contours))) (p .4) ∙ p .6)
 
 same-length : tie.Need-same-length
 same-length c = c .before .iup .kept .1 .1 .0

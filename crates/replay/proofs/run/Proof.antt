@@ -1,15 +1,12 @@
 -- `replay::run` meets its contract: by what the entry tests say; where they are passed, each zone's lists share one length. Assumes nothing.
-use mathlib.Core.Path.{_∙_, ap, refl}
-use lib.Dec.{leb}
-use lib.ListN.{length}
+use mathlib.Core.Path.{_∙_, _≡_, ap, refl}
 use borrow.Author.Needs.{needs}
 use denote.Ref.{now}
 use Rattle.line.specs.World.{Fixed, World, fixed, world}
 use Rattle.run_lines.specs.declared.Outcome.{Outcome}
 use Rattle.run_lines.specs.Onward.{ran}
-use Rattle.round.specs.Round.{usable}
-use Rattle.graphics.specs.State.{usableState}
-use Rattle.replay.proofs.Entry.{entered, entered-alike, entry-is, not-entered}
+use Rattle.replay.specs.Run.{entered}
+use Rattle.replay.proofs.Entry.{entered-sound, entry-is, not-entered, run-entered}
 use Rattle.replay.proofs.run.Tie as tie
 use Rattle.replay.proofs.run.Statement.{statement}
 
@@ -33,8 +30,25 @@ entry s =
 abbrev held : tie.Start → Fixed
 held s = fixed (now (s .args .controls)) (now (s .args .gux)) (now (s .args .guy)) (now (s .args .gox)) (now (s .args .goy)) (now (s .args .contours))
 
+abbrev usable-at : tie.After-enter → tie.After-is-usable
+usable-at k = search
+
+abbrev risen : tie.After-enter → tie.After-ends-rise
+risen k = search
+
+abbrev sized : tie.After-enter → tie.After-sizes-fit
+sized k = search
+
+-- what the tests say of the world at the start
+tests : (k : tie.After-enter) → let s = started (sized k) in k .enter .result ≡ entered (held s) (now (s .args .sheet)) (s .args .start) (entry s)
+tests k = let s = started (sized k) in
+    entry-is (held s) (now (s .args .sheet)) (s .args .start) (entry s) (k .enter .ensures) (sized k .sizes-fit .ensures) (risen k .ends-rise .ensures) (usable-at k .is-usable .ensures)
+
 sizes-fit-requires : tie.Need-sizes-fit-requires
 sizes-fit-requires c κs = search needs
+
+ends-rise-requires : tie.Need-ends-rise-requires
+ends-rise-requires c κs = search needs
 
 is-usable-requires : tie.Need-is-usable-requires
 is-usable-requires c κs = search needs
@@ -58,9 +72,8 @@ slice-aggregate-onward : tie.Need-slice-aggregate-onward
 slice-aggregate-onward c = search needs
 
 onward-requires : tie.Need-onward-requires
-onward-requires c κs = let n = tabled c in let e = told n in let k = e .before .before in let u = k .before in let z = u .before in
-    let s = started z in
-    (n .needs-table .ensures, entered-alike (held s) (now (s .args .sheet)) (entry s) (usableState (s .args .s)) (leb (s .args .start) (length (now (s .args .sheet)))) (entry-is (leb (s .args .start) (length (now (s .args .sheet)))) (k .enter .ensures) (z .sizes-fit .ensures) (u .is-usable .ensures)) (e .enum-told .given .1))
+onward-requires c κs = let n = tabled c in let e = told n in let k = e .before .before in let s = started (sized k) in
+    (n .needs-table .ensures, entered-sound (held s) (now (s .args .sheet)) (s .args .start) (entry s) (tests k) (e .enum-told .given .1))
 
 same-length : tie.Need-same-length
 same-length c = refl
@@ -87,9 +100,9 @@ same-length-8 : tie.Need-same-length-8
 same-length-8 c = refl
 
 returns : tie.Need-returns
-returns c = let e = c .before .before in let k = e .before .before in let u = k .before in let z = u .before in let s = started z in
+returns c = let e = c .before .before in let k = e .before .before in let s = started (sized k) in
     ap (λ (o : Outcome). ran o (now (s .args .gx)) (now (s .args .gy)) (now (s .args .gflags)) (now (s .args .tox)) (now (s .args .toy)) (now (s .args .tx)) (now (s .args .ty)) (now (s .args .tflags))) (c .at-entry .ensures)
-    ∙ not-entered (held s) (now (s .args .sheet)) (s .args .budget) (s .args .start) (entry s) (entry-is (leb (s .args .start) (length (now (s .args .sheet)))) (k .enter .ensures) (z .sizes-fit .ensures) (u .is-usable .ensures)) (e .begun .given .1)
+    ∙ not-entered (held s) (now (s .args .sheet)) (s .args .budget) (s .args .start) (entry s) (tests k) (e .begun .given .1)
 
 same-length-9 : tie.Need-same-length-9
 same-length-9 c = search (going c .onward .kept)
@@ -116,16 +129,15 @@ same-length-16 : tie.Need-same-length-16
 same-length-16 c = search (going c .onward .kept)
 
 returns-2 : tie.Need-returns-2
-returns-2 c = let r = going c in let e = told (tabled (r .before)) in let k = e .before .before in let u = k .before in let z = u .before in
-    let s = started z in
-    r .onward .ensures
-    ∙ entered (held s) (now (s .args .sheet)) (s .args .budget) (s .args .start) (entry s) (entry-is (leb (s .args .start) (length (now (s .args .sheet)))) (k .enter .ensures) (z .sizes-fit .ensures) (u .is-usable .ensures)) (e .enum-told .given .1)
+returns-2 c = let r = going c in let e = told (tabled (r .before)) in let k = e .before .before in let s = started (sized k) in
+    r .onward .ensures ∙ run-entered (held s) (now (s .args .sheet)) (s .args .budget) (s .args .start) (entry s) (tests k) (e .enum-told .given .1)
 
 pub run-spec : {M : Type 1} → statement M
 run-spec =
     tie.close
     (tie.spec
     sizes-fit-requires
+    ends-rise-requires
     is-usable-requires
     enter-requires
     enum-known-begun

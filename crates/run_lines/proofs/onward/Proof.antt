@@ -10,7 +10,7 @@ use lib.IntN.{ℤ}
 use lib.ListN.{length}
 use Rattle.line.specs.World.{Fixed, World, fixed, world}
 use Rattle.run_lines.specs.Onward.{replayOf}
-use Rattle.run_lines.proofs.Loop.{Sizes, at-end, goes-on, same-sizes, sizes, still-alike, stops, used}
+use Rattle.run_lines.proofs.Loop.{Sizes, at-end, goes-on, same-sizes, sizes, still-sound, stops, used}
 use Rattle.run_lines.proofs.onward.Tie as tie
 use Rattle.run_lines.proofs.onward.Statement.{statement}
 
@@ -88,7 +88,7 @@ returns c = let t = c .before in let l = t .before in let s = started l in
     used (held s) (now (s .args .sheet)) _ _ _ (head l) (c .if1 .taken) (t .loop-test .taken) ∙ l .loop .inv .run
 
 step-requires : tie.Need-step-requires Inv-loop μ-loop
-step-requires c κs = let l : tie.At-loop Inv-loop μ-loop = search in let s = started l in (s .pre .0, still-alike (held s) (entry s) (head l) (l .loop .inv .same) (s .pre .1))
+step-requires c κs = let l : tie.At-loop Inv-loop μ-loop = search in let s = started l in (s .pre .0, still-sound (held s) (entry s) (head l) (l .loop .inv .same) (s .pre .1))
 
 enum-known-call : tie.Need-enum-known-call Inv-loop μ-loop
 enum-known-call c = search all-needs
