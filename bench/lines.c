@@ -1,4 +1,5 @@
-/* A sheet of so many lines of one kind, run once through the library. `bench/lines` counts the instructions of two lengths and takes the difference. */
+/* A sheet of so many lines of one kind, run once through the library. `bench/lines` counts the instructions of two lengths and takes the difference, and
+ * says what stands in the place of RULES: the number of skrifa's rules, under which every library does the same, or nothing for one that has no rules. */
 #include <stdint.h>
 #include <stdio.h>
 #include <stdlib.h>
@@ -57,7 +58,7 @@ int main(int argc, char **argv)
     }
     for (int i = 0; i < CONTROLS; i++) controls[i] = 100 * i + 7;
     uint64_t answer[TALEVIQA_ANSWER_WORDS];
-    taleviqa_run(0, lines, state, TALEVIQA_STATE_WORDS, sheet, length, controls, CONTROLS, unscaled[0], POINTS, unscaled[1], POINTS, original[0], POINTS, original[1], POINTS,
+    taleviqa_run(RULES 0, lines, state, TALEVIQA_STATE_WORDS, sheet, length, controls, CONTROLS, unscaled[0], POINTS, unscaled[1], POINTS, original[0], POINTS, original[1], POINTS,
                  current[0], POINTS, current[1], POINTS, flags, POINTS, contours, 1, tox, POINTS, toy, POINTS, tx, POINTS, ty, POINTS, tflags, POINTS, answer, TALEVIQA_ANSWER_WORDS);
     uint64_t sum = answer[TALEVIQA_LINES];
     for (int i = 0; i < POINTS; i++) sum = sum * 31 + (uint32_t)current[0][i] + 7u * (uint32_t)current[1][i] + flags[i] + (uint32_t)tx[i] + (uint32_t)tox[i] + (uint32_t)ty[i] + tflags[i];

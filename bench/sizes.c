@@ -35,7 +35,8 @@ static double run(size_t points, size_t words)
     uint32_t number;
 
     clock_gettime(CLOCK_MONOTONIC, &before);
-    number = taleviqa_run(0, UINT64_MAX, state, TALEVIQA_STATE_WORDS, sheet, words, NULL, 0, unscaled, points, unscaled, points, original, points, original, points,
+    number = taleviqa_run(TALEVIQA_RULES_FREETYPE, 0, UINT64_MAX, state, TALEVIQA_STATE_WORDS, sheet, words, NULL, 0,
+                          unscaled, points, unscaled, points, original, points, original, points,
                           x, points, y, points, flags, points, contours, 1, NULL, 0, NULL, 0, NULL, 0, NULL, 0, NULL, 0, answer, TALEVIQA_ANSWER_WORDS);
     clock_gettime(CLOCK_MONOTONIC, &after);
     if (number != TALEVIQA_FINISHED)

@@ -18,7 +18,7 @@ int main(void)
     const uint16_t contours[] = {2};
     uint64_t answer[TALEVIQA_ANSWER_WORDS];
 
-    taleviqa_run(0, 3, state, TALEVIQA_STATE_WORDS, sheet, sizeof sheet / sizeof sheet[0], NULL, 0,
+    taleviqa_run(TALEVIQA_RULES_FREETYPE, 0, 3, state, TALEVIQA_STATE_WORDS, sheet, sizeof sheet / sizeof sheet[0], NULL, 0,
                  unscaled_x, POINTS, unscaled_y, POINTS, original_x, POINTS, original_y, POINTS,
                  x, POINTS, y, POINTS, flags, POINTS, contours, 1,
                  NULL, 0, NULL, 0, NULL, 0, NULL, 0, NULL, 0, answer, TALEVIQA_ANSWER_WORDS);

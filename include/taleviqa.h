@@ -19,6 +19,13 @@
 extern "C" {
 #endif
 
+/* The rules that a sheet is replayed under, by numbers that never change: the first argument of each call. docs/RULE-EDITIONS.md says what each
+ * changes; they differ in one thing, what MSIRP makes a twilight point from. */
+enum taleviqa_rules {
+    TALEVIQA_RULES_SKRIFA = 0,  /* the Rust's, skrifa 0.49.0: from the point's own original. Every call was under these before there was a choice */
+    TALEVIQA_RULES_FREETYPE = 1 /* the public reference's, FreeType 2.13.3: from rp0's original. bin/replay and its kin go by these */
+};
+
 /* The state, as words of 32 bits. A signed number is its two's complement. */
 enum taleviqa_state_word {
     TALEVIQA_PROJECTION_X = 0, /* vectors: 2.14 numbers from -0x4000 to 0x4000 */
@@ -104,13 +111,19 @@ enum taleviqa_number {
     TALEVIQA_CONTOUR = 12,      /* SHC, pedantic: a contour that the zone hasn't; detail: its number */
     TALEVIQA_COMPATIBILITY = 13, /* SHPIX under backward compatibility */
     TALEVIQA_ENDS = 14,         /* contour ends that don't rise, or one at or above the number of points; nothing has changed */
-    TALEVIQA_BAD_WORD = 16      /* the state is not TALEVIQA_STATE_WORDS words, each within its range, or the answer not TALEVIQA_ANSWER_WORDS */
+    TALEVIQA_BAD_WORD = 16      /* no rules have that number, the state is not TALEVIQA_STATE_WORDS words, each within its range, or the answer not
+                                 * TALEVIQA_ANSWER_WORDS */
 };
 
-/* Replays the lines of the sheet from word `start` on, at most `budget` of them.
+/* Replays the lines of the sheet from word `start` on, at most `budget` of them, under `rules`, one of taleviqa_rules.
  *
  * A line that is refused (4 to 13) leaves what the lines before it did, and for 6 and 7 what its own earlier steps did. After 16 only the
  * answer is written: 16, start, 0, 0, where it has four places.
+ *
+ * Until there were rules the call began with `start`. Source of that time doesn't compile with this header, for it has an argument too few:
+ * TALEVIQA_RULES_SKRIFA in front of the others makes it do what it did. An object that was compiled with the older header isn't told by the linker
+ * and must be compiled anew: each of its arguments stands where the one behind it is looked for, and what comes of such a call C leaves open. The
+ * library then takes the sheet's address for the number of state words, so that it returns 16 before it reads a list, but no promise covers it.
  *
  * sheet: opcode word, count word, operands, and so on. Coordinates are in 64ths of a pixel, unscaled ones in font units.
  * glyph: unscaled, original and current x and y and the flags, all of one length; contours: the number of each contour's last point, each
@@ -119,6 +132,7 @@ enum taleviqa_number {
  * A flag byte has bit 0 on curve, bit 1 touched in x, bit 2 touched in y; other bits are kept.
  * At most 65,535 points in a zone, 65,535 contours, 16,384 control values and 262,144 words of sheet. */
 uint32_t taleviqa_run(
+    uint32_t rules,
     size_t start,
     uint64_t budget,
     uint32_t *state, size_t state_length,

@@ -61,14 +61,27 @@ def help_or(usage, work, arguments):
     return work(arguments)
 
 
-def operands(arguments, options=()):
-    """The options that are set and the other words of a call: '--' ends the options, and '-' is none."""
-    end = arguments.index("--") if "--" in arguments else len(arguments)
-    given = [word for word in arguments[:end] if word.startswith("-") and word != "-"]
-    for word in given:
-        if word not in options:
+def operands(arguments, options=(), valued=()):
+    """What is said by each option that is set, and the other words of a call: '--' ends the options, and '-' is none. An option of `valued` takes
+    what stands behind its '=', or the next word, and stands once; the others say nothing."""
+    given, words, rest = {}, [], iter(arguments)
+    for word in rest:
+        option, equals, value = word.partition("=")
+        if word == "--":
+            words += rest
+        elif not word.startswith("-") or word == "-":
+            words.append(word)
+        elif word in options:
+            given[word] = None
+        elif option not in valued:
             raise Bad(f"no such option: {word}; --help says more")
-    return given, [word for word in arguments[:end] if word not in given] + arguments[end + 1 :]
+        elif option in given:
+            raise Bad(f"{option} is given twice; --help says more")
+        else:
+            given[option] = value if equals else next(rest, None)
+            if given[option] is None:
+                raise Bad(f"{option} wants a word behind it; --help says more")
+    return given, words
 
 
 def only_file(words, what):

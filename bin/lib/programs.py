@@ -21,23 +21,23 @@ LOADER = "/lib64/ld-linux-x86-64.so.2"
 # ---- what a replay says
 
 
-def replay(data):
-    """The four numbers of a record's answer, and all that is printed."""
-    printed = run("replay_record", data)
+def replay(data, rules):
+    """The four numbers of a record's answer under the rules of a name, and all that is printed."""
+    printed = run("replay_record", data, rules)
     return record.answer_in(data, printed), printed
 
 
-def rewrite(data):
-    """The record as it stands after its replay; nothing where it is refused."""
-    written = run("write_record", data)
+def rewrite(data, rules):
+    """The record as it stands after its replay under the rules of a name; nothing where it is refused."""
+    written = run("write_record", data, rules)
     if written:
         record.hold_rewritten(data, written)
     return written
 
 
-def run(name, data):
-    """What a program writes on a record."""
-    path, words = program(name), command(name)
+def run(name, data, rules):
+    """What a program writes on a record. A name of rules that it doesn't know it tells on standard error."""
+    path, words = program(name), command(name) + [rules]
     shown = path.relative_to(ROOT)
     try:
         ran = subprocess.run(words, input=data, stdout=subprocess.PIPE, stderr=subprocess.PIPE, env=environment())

@@ -6,6 +6,8 @@ ONE = 16384
 SETTERS = [0, 1, 2, 3, 4, 5, 0x10, 0x11, 0x12, 0x13, 0x14, 0x15, 0x16, 0x17, 0x18, 0x19, 0x3D, 0x7D, 0x7C, 0x7A,
            0x76, 0x77]
 MOVERS = [0x0F, 0x2E, 0x2F, 0x2F, 0x30, 0x31, 0x32, 0x33, 0x3A, 0x3B, 0x3C, 0x3E, 0x3F, 0x3F, 0x80]
+MSIRP = [0x3A, 0x3B]
+ZP1, NATIVE = streams.STATE_NAMES.index("zp1"), streams.STATE_NAMES.index("native")
 DISTANCES = [0x46, 0x47, 0x49, 0x4A] * 8 + list(range(0xC0, 0x100))
 # Corners of 32-bit numbers, for wild cases.
 CORNERS = [0, 1, -1, 31, 32, 63, 64, -64, ONE, -ONE, 2**30, -2**30, 2**31 - 1, -2**31, -2**31 + 1]
@@ -140,11 +142,14 @@ class Maker:
                 **{code: lambda: [self.random.choice([self.index(counts[2]), -1]), point(1)] for code in range(0xE0, 0x100)},
                 }.get(opcode, list)()
 
+    def opcode(self):
+        return self.random.choice(SETTERS if self.chance(3) else MOVERS if self.chance(2) else DISTANCES)
+
     def sheet(self, state, counts, reach):
         """Lines whose operands suit the state as it will be: pointers and loop are followed."""
         state, words = list(state), []
         for _ in range(self.random.randint(1, 6)):
-            opcode = self.random.choice(SETTERS if self.chance(3) else MOVERS if self.chance(2) else DISTANCES)
+            opcode = self.opcode()
             operands = self.operands(opcode, state, counts, reach)
             if self.chance(30):
                 operands = operands[1:]
@@ -189,9 +194,38 @@ class Maker:
         return streams.Case(state, lists, kind, arguments)
 
 
+class TwilightMaker(Maker):
+    """Sane sheets rich in MSIRP into twilight, and poor in what FreeType does otherwise besides."""
+
+    def opcode(self):
+        return self.random.choice(MSIRP) if self.chance(2) else super().opcode()
+
+    def index(self, count):
+        """Mostly inside, else the first that isn't: a greater one may be told apart by its 16 bits alone."""
+        return self.random.randrange(count) if count and not self.chance(40) else count
+
+    def counts(self):
+        return self.random.randint(1, 8), self.random.randint(1, 6), self.random.randrange(4)
+
+    def state(self, counts):
+        state = super().state(counts)
+        state[ZP1], state[NATIVE] = int(self.chance(6)), 0
+        return state
+
+
+def far_out(reach, cases):
+    """None where no coordinate and no control value of the cases lies beyond the reach."""
+    numbers = [word for case in cases for one in [*case.lists[:6], *case.lists[8:12], case.lists[13]] for word in one]
+    return "its sums might leave 32 bits" if any(abs(streams.signed(word)) > reach for word in numbers) else None
+
+
 def line_obstacle(case):
     """None where no sum of the line or call can leave 32 bits."""
     isect = case.kind == 0 and case.lists[14][case.start] == 0x0F
-    reach = ISECT_REACH if isect else REACH
-    coordinates = [word for one in [*case.lists[:6], *case.lists[8:12], case.lists[13]] for word in one]
-    return "its sums might leave 32 bits" if any(abs(streams.signed(word)) > reach for word in coordinates) else None
+    return far_out(ISECT_REACH if isect else REACH, [case])
+
+
+def sheet_obstacle(case, outcomes):
+    """The same of a whole sheet, by what it starts from and what it is said to end with."""
+    reach = ISECT_REACH if 0x0F in case.lists[14] else REACH
+    return far_out(reach, [case, *(case.line_after(outcome) for outcome in outcomes)])

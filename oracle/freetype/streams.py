@@ -14,6 +14,8 @@ STATE_NAMES = (["projection x", "projection y", "dual x", "dual y", "freedom x",
                 "width cut-in", "flips", "scale", "pushed", "pushes"])
 # FreeType has no count of wrapped roundings: it is the one word that isn't compared.
 WRAPPED = STATE_NAMES.index("wrapped")
+# The rules of a run by their names, and the argument that says their number.
+RULES, CHOICE = {"skrifa": 0, "freetype": 1}, 5
 LIST_NAMES = ["unscaled x", "unscaled y", "original x", "original y", "x", "y", "flags", "contours",
               "twilight original x", "twilight original y", "twilight x", "twilight y", "twilight flags", "values",
               "sheet"]
@@ -26,12 +28,24 @@ class Case:
         self.state, self.lists = state, lists
         self.kind, self.arguments, self.start, self.budget = kind, arguments, start, budget
 
-    def words(self):
+    @property
+    def rules(self):
+        """A run's; a direct call chooses something else there, and has none."""
+        return self.arguments[CHOICE] if self.kind == 0 else RULES["skrifa"]
+
+    def under(self, rules):
+        """The same run by the rules of that name."""
+        arguments = [*self.arguments[:CHOICE], RULES[rules], *self.arguments[CHOICE + 1:]]
+        return Case(self.state, self.lists, self.kind, arguments, self.start, self.budget)
+
+    def words(self, outcome=None):
+        """With the outcome, or with none."""
         limits = [part for number in (self.start, self.budget) for part in halves(number)]
         limits = limits if self.kind == 0 else [0] * 4
         body = [*self.state] + [word for one in self.lists for word in one]
-        head = [self.kind, *self.arguments, *limits] + [0] * 10 + [len(one) for one in self.lists]
-        return [len(head) + len(body) + 1] + head + body
+        said, changes = outcome.words() if outcome else ([0] * 10, [])
+        head = [self.kind, *self.arguments, *limits, *said] + [len(one) for one in self.lists]
+        return [len(head) + len(body) + len(changes) + 1, *head, *body, *changes]
 
     def expanded(self):
         return [*self.state] + [word for one in self.lists for word in one]
@@ -43,13 +57,14 @@ class Case:
         for one in self.lists:
             lists.append(words[place:place + len(one)])
             place += len(one)
-        return Case(words[:len(STATE_NAMES)], lists, start=outcome.place, budget=1)
+        return Case(words[:len(STATE_NAMES)], lists, arguments=self.arguments, start=outcome.place, budget=1)
 
     def text(self):
         names = {name: word for name, word in zip(STATE_NAMES, self.state)}
         state = [f"{name} {signed(word)}" for (name, word), fresh in zip(names.items(), FRESH) if word != fresh]
         lists = [f"{name} {list(map(signed, one))}" for name, one in zip(LIST_NAMES, self.lists) if one]
-        call = f"start {self.start}" if self.kind == 0 else f"kind {self.kind} {list(map(signed, self.arguments))}"
+        by = " by freetype" if self.rules else ""
+        call = f"start {self.start}{by}" if self.kind == 0 else f"kind {self.kind} {list(map(signed, self.arguments))}"
         return "; ".join([call, *state, *lists])
 
 
@@ -59,6 +74,11 @@ class Outcome:
     def __init__(self, number, place, lines, detail, value, changes):
         self.number, self.place, self.lines, self.detail = number, place, lines, detail
         self.value, self.changes = value, changes
+
+    def words(self):
+        """The ten words that it says, and the changed ones."""
+        numbers = [half for number in (self.place, self.lines, self.detail) for half in halves(number)]
+        return [self.number, *numbers, *self.value, len(self.changes)], [word for pair in self.changes for word in pair]
 
     def world(self, case):
         words = case.expanded()

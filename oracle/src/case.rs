@@ -3,6 +3,7 @@
 use crate::{
     answer::Answer,
     direct::{Call, Returned},
+    rules::Rules,
     words::{halves, joined},
     world::{state_of, state_words, World, LIST_COUNT, STATE_WORDS},
 };
@@ -38,6 +39,14 @@ pub struct Outcome {
 }
 
 impl Case {
+    /// The same run by other rules; a direct call has none.
+    pub fn under(mut self, chosen: Rules) -> Self {
+        if let Call::Run { rules, .. } = &mut self.call {
+            *rules = chosen;
+        }
+        self
+    }
+
     pub fn outcome(&self) -> Outcome {
         let mut world = self.world.clone();
         let returned = self.call.perform(&mut world);
@@ -63,7 +72,7 @@ impl Case {
         let (kind, arguments) = self.call.numbers();
         words[1] = kind;
         words[ARGUMENTS..START].copy_from_slice(&arguments);
-        if let Call::Run { start, budget } = self.call {
+        if let Call::Run { start, budget, .. } = self.call {
             words[START..BUDGET].copy_from_slice(&halves(start));
             words[BUDGET..OUTCOME].copy_from_slice(&halves(budget));
         }
@@ -180,7 +189,7 @@ impl Returned {
 
 impl Call {
     /// The kind's number and the eight argument words: zone; index or start;
-    /// end; axis, on, opcode or touch; distance or dx; dy.
+    /// end; rules, axis, on, opcode or touch; distance or dx; dy.
     pub fn numbers(&self) -> (u32, [u32; 8]) {
         let arguments = |zone: u32, index: u64, end: u64, choice: u32, by: (i32, i32)| {
             let [index_low, index_high] = halves(index);
@@ -194,7 +203,7 @@ impl Call {
         let along = |zone, index, axis| arguments(zone, index, 0, axis, (0, 0));
         let by = |zone, index, distance| arguments(zone, index, 0, 0, (distance, 0));
         match *self {
-            Call::Run { .. } => (0, [0; 8]),
+            Call::Run { rules, .. } => (0, along(0, 0, rules.number())),
             Call::Point { zone, index } => (1, at(zone, index)),
             Call::Original { zone, index } => (2, at(zone, index)),
             Call::Unscaled { zone, index } => (3, at(zone, index)),
@@ -236,7 +245,12 @@ impl Call {
         let distance = words[6] as i32;
         let by = (distance, words[7] as i32);
         let call = match kind {
-            0 => Call::Run { start, budget },
+            0 => Call::Run {
+                start,
+                budget,
+                rules: Rules::numbered(choice)
+                    .ok_or(format!("no rules have the number {choice}"))?,
+            },
             1 => Call::Point { zone, index },
             2 => Call::Original { zone, index },
             3 => Call::Unscaled { zone, index },

@@ -3,6 +3,7 @@
 
 mod distances;
 mod ends;
+mod rules;
 mod selectors;
 mod shifts;
 mod wraps;
@@ -41,6 +42,7 @@ pub fn check_all() -> bool {
     wraps::check(&mut claims);
     distances::check(&mut claims);
     ends::check(&mut claims);
+    rules::check(&mut claims);
     budgets_add_up(&mut claims);
     println!("{} claims, {} fail", claims.count, claims.failed);
     claims.failed == 0
@@ -183,17 +185,6 @@ fn easy_to_get_wrong(claims: &mut Claims) {
         "01: SHP with freedom (0, 0) takes a wild point",
         bad(&still, true, &[50, 1, -5]).said(),
         (0, 0),
-    );
-    let msirp = notable::msirp_into_twilight().play();
-    claims.same(
-        "MSIRP into twilight: original",
-        msirp.twilight_original(1),
-        (71, 9),
-    );
-    claims.same(
-        "MSIRP into twilight: current",
-        msirp.twilight_point(1),
-        (1164, 9),
     );
 }
 
@@ -516,12 +507,17 @@ fn budgets_add_up(claims: &mut Claims) {
     let mut agree = 0;
     while split < 10_000 {
         let case = any_case(&mut random);
-        let Call::Run { start, .. } = case.call else {
+        let Call::Run { start, rules, .. } = case.call else {
             continue;
+        };
+        let run = |start, budget| Call::Run {
+            start,
+            budget,
+            rules,
         };
         let first = random.below(4) as u64;
         let second = random.below(4) as u64;
-        if let Some(equal) = two_runs_equal_one(&case, start, first, second) {
+        if let Some(equal) = two_runs_equal_one(&case, run, [start, first, second]) {
             split += 1;
             agree += usize::from(equal);
         }
@@ -530,8 +526,11 @@ fn budgets_add_up(claims: &mut Claims) {
 }
 
 /// None where the first run didn't end with 1.
-fn two_runs_equal_one(case: &Case, start: u64, first: u64, second: u64) -> Option<bool> {
-    let run = |start, budget| Call::Run { start, budget };
+fn two_runs_equal_one(
+    case: &Case,
+    run: impl Fn(u64, u64) -> Call,
+    [start, first, second]: [u64; 3],
+) -> Option<bool> {
     let mut halves = case.world.clone();
     let half = run(start, first).perform(&mut halves).answer;
     if half.number != 1 {

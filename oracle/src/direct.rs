@@ -3,6 +3,7 @@
 use crate::{
     answer::{self, Answer},
     entry, replay,
+    rules::Rules,
     world::*,
 };
 use reference::door::{Machine, Pair, Refused};
@@ -13,6 +14,7 @@ pub enum Call {
     Run {
         start: u64,
         budget: u64,
+        rules: Rules,
     },
     Point {
         zone: u32,
@@ -82,6 +84,15 @@ pub struct Returned {
 }
 
 impl Call {
+    /// A run by the Rust's own rules.
+    pub const fn run(start: u64, budget: u64) -> Self {
+        Self::Run {
+            start,
+            budget,
+            rules: Rules::Skrifa,
+        }
+    }
+
     /// The zone that the call is given alone; None where it takes the state,
     /// and so both zones.
     pub fn own_zone(&self) -> Option<u32> {
@@ -101,9 +112,14 @@ impl Call {
 
     /// Makes the call and leaves in the world what it changed.
     pub fn perform(&self, world: &mut World) -> Returned {
-        if let Call::Run { start, budget } = *self {
+        if let Call::Run {
+            start,
+            budget,
+            rules,
+        } = *self
+        {
             return Returned {
-                answer: replay::run(world, start, budget),
+                answer: replay::run(world, rules, start, budget),
                 value: [0; 2],
             };
         }

@@ -19,6 +19,7 @@ mod projection_rows;
 mod random;
 mod record;
 mod replay;
+mod rules;
 mod sample;
 mod scene;
 mod serve;
@@ -30,12 +31,13 @@ mod words;
 mod world;
 mod wraps;
 
+use rules::Rules;
 use serve::Stream;
 use std::{io::Write, path::Path, process::ExitCode};
 
 const USAGE: &str = "\
 usage: oracle/run COMMAND
-  sample FOLDER            write the fourteen sample files, the same bytes every time
+  sample FOLDER            write the fifteen sample files, the same bytes every time
   check FOLDER             make them again and compare with the folder's
   show FILE                print a sample file as text
   coverage N SEED          make N cases, count what came up, fail if a kind is missing
@@ -48,7 +50,8 @@ usage: oracle/run COMMAND
   serve cases|math|projection         answer a stream from standard input
   serve-wrongly cases|math|projection the same with one answer wrong
   record FILE              write document 01's whole run as a record
-  replay FILE [START BUDGET]  run a record and print everything
+  replay FILE [START BUDGET] [RULES]
+                           run a record and print everything; freetype unless told skrifa
   panics N SEED            find where the Rust panics (build it as checked)";
 
 fn main() -> ExitCode {
@@ -81,8 +84,7 @@ fn command(arguments: &[&str]) -> Result<bool, String> {
         ["serve", name] => serve::serve(stream(name)?).map(|()| true),
         ["serve-wrongly", name] => serve::serve_wrongly(stream(name)?).map(|()| true),
         ["record", file] => write_record(file).map(|()| true),
-        ["replay", file] => replay(file, None),
-        ["replay", file, start, budget] => replay(file, Some((number(start)?, number(budget)?))),
+        ["replay", file, limits @ ..] => replay(file, limits),
         ["panics", count, seed] => {
             panics::find(count_of(count)?, number(seed)?);
             Ok(true)
@@ -144,8 +146,17 @@ fn write_record(file: &str) -> Result<(), String> {
     std::fs::write(file, words::to_bytes(&record)).map_err(|error| format!("{file}: {error}"))
 }
 
-/// Runs a record; document 02's start and budget unless others are given.
-fn replay(file: &str, given: Option<(u64, u64)>) -> Result<bool, String> {
+/// Runs a record; document 02's start, budget and rules unless others are given.
+fn replay(file: &str, given: &[&str]) -> Result<bool, String> {
+    let (limits, rules) = match given {
+        [limits @ .., name] if Rules::named(name).is_some() => (limits, Rules::named(name)),
+        limits => (limits, None),
+    };
+    let limits = match limits {
+        [] => None,
+        [start, budget] => Some((number(start)?, number(budget)?)),
+        _ => return Err("replay takes a FILE, START and BUDGET, and skrifa or freetype".into()),
+    };
     let mut world = match record::read(&read_file(file)?) {
         Ok(world) => world,
         Err(number) => {
@@ -153,8 +164,9 @@ fn replay(file: &str, given: Option<(u64, u64)>) -> Result<bool, String> {
             return Ok(false);
         }
     };
-    let (start, budget) = given.unwrap_or((0, world.lists[world::SHEET].len() as u64));
-    let answer = replay::run(&mut world, start, budget);
+    let (start, budget) = limits.unwrap_or((0, world.lists[world::SHEET].len() as u64));
+    let rules = rules.unwrap_or(Rules::FreeType);
+    let answer = replay::run(&mut world, rules, start, budget);
     print_text(&format!("{answer}\n{}", show::world_text(&world)))?;
     Ok(true)
 }

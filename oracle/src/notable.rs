@@ -137,10 +137,7 @@ pub fn iup_wide_point() -> Scene {
 
 /// The scenes that are a line each.
 pub fn lines() -> Vec<Case> {
-    let run = Call::Run {
-        start: 0,
-        budget: 1,
-    };
+    let run = Call::run(0, 1);
     let scenes = [
         isect_locked(),
         isect_quarter(),

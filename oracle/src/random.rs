@@ -34,6 +34,11 @@ impl Random {
         self.below(times) == 0
     }
 
+    /// Another generator: what is drawn of it changes nothing of what is drawn here.
+    pub fn aside(&self) -> Self {
+        Self::new(!self.state)
+    }
+
     pub fn flip(&mut self) -> bool {
         self.once_in(2)
     }

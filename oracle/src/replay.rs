@@ -4,6 +4,7 @@ use crate::{
     answer::{self, Answer},
     apart, entry,
     opcodes::{row_of, Row},
+    rules::Rules,
     shadow,
     world::World,
 };
@@ -29,12 +30,18 @@ struct Kept {
 }
 
 /// Runs a sheet from a place for at most so many lines.
-pub fn run(world: &mut World, start: u64, budget: u64) -> Answer {
-    watched(world, start, budget, |_| {})
+pub fn run(world: &mut World, rules: Rules, start: u64, budget: u64) -> Answer {
+    watched(world, rules, start, budget, |_| {})
 }
 
 /// The same, telling of each line that was asked of the Rust.
-pub fn watched(world: &mut World, start: u64, budget: u64, mut watch: impl FnMut(Step)) -> Answer {
+pub fn watched(
+    world: &mut World,
+    rules: Rules,
+    start: u64,
+    budget: u64,
+    mut watch: impl FnMut(Step),
+) -> Answer {
     let at_entry = |number| Answer {
         number,
         place: start,
@@ -62,7 +69,7 @@ pub fn watched(world: &mut World, start: u64, budget: u64, mut watch: impl FnMut
         pushes: state.pushes,
     };
     let answer = buffers.with_machine(&mut state, |machine| {
-        let mut line = |words: &[i32]| run_line(machine, words, &mut kept, &mut watch);
+        let mut line = |words: &[i32]| run_line(machine, rules, words, &mut kept, &mut watch);
         run_lines(&mut line, &sheet, start as usize, budget)
     });
     state.wrapped_roundings = kept.wrapped_roundings;
@@ -111,6 +118,7 @@ fn run_lines(
 /// end; another leaves them.
 fn run_line(
     machine: &mut Machine,
+    rules: Rules,
     words: &[i32],
     kept: &mut Kept,
     watch: &mut impl FnMut(Step),
@@ -121,7 +129,10 @@ fn run_line(
     }
     let (said, roundings) = match apart::decided(machine, opcode, operands) {
         Some(decided) => (decided.map(|()| Vec::new()), Vec::new()),
-        None => with_roundings(|| by_the_rust(machine, opcode, operands)),
+        None => {
+            apart::make_ready(machine, rules, opcode, operands);
+            with_roundings(|| by_the_rust(machine, opcode, operands))
+        }
     };
     let (before, pushes_before) = (kept.wrapped_roundings, kept.pushes);
     if let Ok(pushed) = &said {

@@ -1,4 +1,4 @@
-//! The committed sample: fourteen files, the same bytes every time.
+//! The committed sample: fifteen files, the same bytes every time.
 
 use crate::{
     answer,
@@ -7,11 +7,11 @@ use crate::{
     direct::Call,
     generate::{
         distance_case, distance_run_case, every_distance, every_end, every_length, every_limit,
-        every_opcode, every_selector, every_setter, every_shift, every_wrap, far_calls,
+        every_opcode, every_rule, every_selector, every_setter, every_shift, every_wrap, far_calls,
         far_distances, far_references, iup_case, largest_faces, length_case, limit_cases,
-        line_case, long_iup_case, long_iup_shift_case, mended, rounds_by_every_selector, run_case,
-        runs_of_01, selector_counts, selector_run_case, set_words, shift_case, shift_run_case,
-        turns, wrap_case, zone_case,
+        line_case, long_iup_case, long_iup_shift_case, mended, rounds_by_every_selector,
+        rules_run_case, run_case, runs_of_01, selector_counts, selector_run_case, set_words,
+        shift_case, shift_run_case, turns, under_both, wrap_case, zone_case,
     },
     math_rows, notable,
     opcodes::{rows_of, Family},
@@ -33,6 +33,7 @@ const LENGTHS_SEED: u64 = 0x6C65_6E67;
 const TURNS_SEED: u64 = 0x7475_726E;
 const WRAPS_SEED: u64 = 0x7772_6170;
 const DISTANCES_SEED: u64 = 0x6469_7374;
+const RULES_SEED: u64 = 0x7275_6C65;
 const ZONE_CASES: usize = 5_000;
 const IUP_CASES: usize = 3_400;
 const LINES_EACH: usize = 480;
@@ -48,8 +49,9 @@ const COUNTED_CALLS: usize = 60;
 const DISTANCES_EACH: [usize; 4] = [320, 220, 260, 260];
 const DISTANCE_RUN_CASES: usize = 300;
 const DISTANCE_CALLS: usize = 60;
+const RULES_RUN_CASES: usize = 320;
 
-const NAMES: [&str; 14] = [
+const NAMES: [&str; 15] = [
     "math",
     "projection",
     "zone",
@@ -64,12 +66,13 @@ const NAMES: [&str; 14] = [
     "largest",
     "distances",
     "ends",
+    "rules",
 ];
 
-/// Those that hold no cases, and the last.
-const UNLIKE_BEFORE: [&str; 3] = ["math", "projection", "ends"];
+/// Those that hold no cases, and those from `ends` on.
+const UNLIKE_BEFORE: [&str; 4] = ["math", "projection", "ends", "rules"];
 
-/// Writes the fourteen files into a folder and says how large each is.
+/// Writes the fifteen files into a folder and says how large each is.
 pub fn write(folder: &Path) -> Result<(), String> {
     std::fs::create_dir_all(folder).map_err(|error| error.to_string())?;
     for name in NAMES {
@@ -131,7 +134,7 @@ fn make(name: &str) -> (usize, Vec<u32>) {
     }
 }
 
-/// The cases of one of the twelve files that hold cases.
+/// The cases of one of the thirteen files that hold cases.
 fn cases_of(name: &str) -> Vec<Case> {
     match name {
         "zone" => zone_cases(),
@@ -145,6 +148,7 @@ fn cases_of(name: &str) -> Vec<Case> {
         "largest" => largest_faces(),
         "distances" => distances(),
         "ends" => ends(),
+        "rules" => rules(),
         _ => turns_and_far_indices(),
     }
 }
@@ -278,6 +282,17 @@ fn ends() -> Vec<Case> {
         .filter(is_refused_for_its_ends);
     let mut cases = every_end();
     cases.extend(refused.map(mended));
+    cases
+}
+
+/// What tells the rules apart, then random sheets rich in it; each case by both
+/// rules, one right after the other.
+fn rules() -> Vec<Case> {
+    let mut random = Random::new(RULES_SEED);
+    let mut cases = every_rule();
+    for _ in 0..RULES_RUN_CASES {
+        cases.extend(under_both(mended(rules_run_case(&mut random))));
+    }
     cases
 }
 

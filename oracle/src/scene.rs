@@ -1,6 +1,6 @@
 //! Small worlds written by hand, for claims about single lines.
 
-use crate::{answer::Answer, case::Case, direct::Call, world::*};
+use crate::{answer::Answer, case::Case, direct::Call, rules::Rules, world::*};
 use reference::door::{Pair, Refused, State};
 
 /// A world to be run, in document 01's fresh state unless told otherwise.
@@ -69,9 +69,15 @@ impl Scene {
     }
 
     pub fn play(&self) -> Played {
+        self.call(Call::run(0, u64::MAX))
+    }
+
+    /// The same by FreeType's rules.
+    pub fn play_by_freetype(&self) -> Played {
         self.call(Call::Run {
             start: 0,
             budget: u64::MAX,
+            rules: Rules::FreeType,
         })
     }
 

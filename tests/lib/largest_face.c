@@ -44,7 +44,7 @@ static uint32_t run(size_t points, size_t ends, size_t twilight_points, size_t c
 {
     uint32_t state[TALEVIQA_STATE_WORDS] = TALEVIQA_FRESH_STATE;
     clock_t before = clock();
-    uint32_t number = taleviqa_run(0, UINT64_MAX, state, TALEVIQA_STATE_WORDS, sheet, words, values, controls,
+    uint32_t number = taleviqa_run(TALEVIQA_RULES_FREETYPE, 0, UINT64_MAX, state, TALEVIQA_STATE_WORDS, sheet, words, values, controls,
                                    unscaled[0], points, unscaled[1], points, original[0], points, original[1], points,
                                    current[0], points, current[1], points, flags, points, contours, ends,
                                    twilight_original[0], twilight_points, twilight_original[1], twilight_points, twilight[0], twilight_points,

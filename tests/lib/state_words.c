@@ -43,7 +43,7 @@ static uint32_t run(struct world *w, size_t start, size_t state_length, uint64_t
     static const int32_t none[1] = {0};
     static const uint16_t contours[] = {0};
 
-    return taleviqa_run(start, 2, w->state, state_length, sheet, LENGTH(sheet), NULL, 0,
+    return taleviqa_run(TALEVIQA_RULES_FREETYPE, start, 2, w->state, state_length, sheet, LENGTH(sheet), NULL, 0,
                         none, LENGTH(none), none, LENGTH(none), none, LENGTH(none), none, LENGTH(none),
                         w->x, LENGTH(w->x), w->y, LENGTH(w->y), w->flags, LENGTH(w->flags), contours, LENGTH(contours),
                         w->twilight_original_x, LENGTH(w->twilight_original_x), w->twilight_original_y, LENGTH(w->twilight_original_y),

@@ -13,6 +13,7 @@ use line_flip::fliprg;
 use line_isect::isect;
 use line_iup::iup;
 use line_set::set_state;
+use rules::Rules;
 ghost use mathlib.Core.Path.{_≡_};
 ghost use Rattle.line.specs.World.{Sound, fixed, lined, world};
 ghost use Rattle.opcodes.specs.Table.{lineOf};
@@ -49,6 +50,7 @@ fn kind_of(opcode: usize) -> Kind
 // The line of an opcode, with its operands.
 pub fn perform(
     s: GraphicsState,
+    rules: Rules,
     opcode: usize,
     operands: &[i32],
     controls: &[i32],
@@ -66,8 +68,8 @@ pub fn perform(
     ty: &mut [i32],
     tflags: &mut [u8],
 ) -> Stepped
-    requires { ⌜ Sound (fixed (now controls) (now gux) (now guy) (now gox) (now goy) (now contours)) (world s (now gx) (now gy) (now gflags) (now tox) (now toy) (now tx) (now ty) (now tflags)) ⌝ }
-    ensures { λ r. ⌜ lined r (now (gx .exit)) (now (gy .exit)) (now (gflags .exit)) (now (tox .exit)) (now (toy .exit)) (now (tx .exit)) (now (ty .exit)) (now (tflags .exit)) ≡ lineOf (fixed (now (controls .entry)) (now (gux .entry)) (now (guy .entry)) (now (gox .entry)) (now (goy .entry)) (now (contours .entry))) opcode (now (operands .entry)) (world s (now (gx .entry)) (now (gy .entry)) (now (gflags .entry)) (now (tox .entry)) (now (toy .entry)) (now (tx .entry)) (now (ty .entry)) (now (tflags .entry))) ⌝ }
+    requires { ⌜ Sound (fixed rules (now controls) (now gux) (now guy) (now gox) (now goy) (now contours)) (world s (now gx) (now gy) (now gflags) (now tox) (now toy) (now tx) (now ty) (now tflags)) ⌝ }
+    ensures { λ r. ⌜ lined r (now (gx .exit)) (now (gy .exit)) (now (gflags .exit)) (now (tox .exit)) (now (toy .exit)) (now (tx .exit)) (now (ty .exit)) (now (tflags .exit)) ≡ lineOf (fixed rules (now (controls .entry)) (now (gux .entry)) (now (guy .entry)) (now (gox .entry)) (now (goy .entry)) (now (contours .entry))) opcode (now (operands .entry)) (world s (now (gx .entry)) (now (gy .entry)) (now (gflags .entry)) (now (tox .entry)) (now (toy .entry)) (now (tx .entry)) (now (ty .entry)) (now (tflags .entry))) ⌝ }
 {
     let kind = kind_of(opcode);
     match kind {
@@ -91,9 +93,12 @@ pub fn perform(
         ),
         Kind::Distance => perform_distance(
             s,
+            rules,
             opcode,
             operands,
             controls,
+            gox,
+            goy,
             gx,
             gy,
             gflags,

@@ -9,6 +9,7 @@ use line_alignrp::alignrp;
 use line_mdap::mdap;
 use line_miap::miap;
 use line_msirp::msirp;
+use rules::Rules;
 ghost use mathlib.Core.List.{List};
 ghost use mathlib.Core.Logic.{_⊎_};
 ghost use mathlib.Core.Path.{_≡_};
@@ -20,9 +21,12 @@ ghost use Rattle.opcodes.specs.Table.{lineOf};
 
 pub fn perform_distance(
     s: GraphicsState,
+    rules: Rules,
     opcode: usize,
     operands: &[i32],
     controls: &[i32],
+    gox: &[i32],
+    goy: &[i32],
     gx: &mut [i32],
     gy: &mut [i32],
     gflags: &mut [u8],
@@ -33,14 +37,17 @@ pub fn perform_distance(
     tflags: &mut [u8],
 ) -> Stepped
     requires { ⌜ (((0x2E ≤ opcode) × (opcode < 0x30)) ⊎ (((0x3A ≤ opcode) × (opcode < 0x3D)) ⊎ ((0x3E ≤ opcode) × (opcode < 0x40)))) × (length (now gy) ≡ length (now gx)) × (length (now gflags) ≡ length (now gx)) × (length (now ty) ≡ length (now tx)) × (length (now tflags) ≡ length (now tx)) ⌝ }
-    ensures { λ r. ⌜ ((gux guy gox goy : List ℤ) (contours : List ℕ) → lined r (now (gx .exit)) (now (gy .exit)) (now (gflags .exit)) (now (tox .exit)) (now (toy .exit)) (now (tx .exit)) (now (ty .exit)) (now (tflags .exit)) ≡ lineOf (fixed (now (controls .entry)) gux guy gox goy contours) opcode (now (operands .entry)) (world s (now (gx .entry)) (now (gy .entry)) (now (gflags .entry)) (now (tox .entry)) (now (toy .entry)) (now (tx .entry)) (now (ty .entry)) (now (tflags .entry)))) ⌝ }
+    ensures { λ r. ⌜ ((gux guy : List ℤ) (contours : List ℕ) → lined r (now (gx .exit)) (now (gy .exit)) (now (gflags .exit)) (now (tox .exit)) (now (toy .exit)) (now (tx .exit)) (now (ty .exit)) (now (tflags .exit)) ≡ lineOf (fixed rules (now (controls .entry)) gux guy (now (gox .entry)) (now (goy .entry)) contours) opcode (now (operands .entry)) (world s (now (gx .entry)) (now (gy .entry)) (now (gflags .entry)) (now (tox .entry)) (now (toy .entry)) (now (tx .entry)) (now (ty .entry)) (now (tflags .entry)))) ⌝ }
 {
     match opcode {
         0x2E | 0x2F => mdap(s, opcode, operands, gx, gy, gflags, tx, ty, tflags),
         0x3A | 0x3B => msirp(
             s,
+            rules,
             opcode,
             operands,
+            gox,
+            goy,
             gx,
             gy,
             gflags,

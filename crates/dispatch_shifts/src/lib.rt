@@ -14,6 +14,7 @@ ghost use mathlib.Core.Path.{_≡_};
 ghost use Prim.Native.Nat.{_≤_, _<_};
 ghost use lib.IntN.{ℤ};
 ghost use lib.ListN.{length};
+ghost use Rattle.rules.specs.declared.Rules.{Rules};
 ghost use Rattle.line.specs.World.{fixed, lined, world};
 ghost use Rattle.opcodes.specs.Table.{lineOf};
 
@@ -34,7 +35,7 @@ pub fn perform_shift(
     tflags: &mut [u8],
 ) -> Stepped
     requires { ⌜ (0x32 ≤ opcode) × (opcode < 0x39) × (length (now goy) ≡ length (now gox)) × (length (now gy) ≡ length (now gx)) × (length (now gflags) ≡ length (now gx)) × (length (now toy) ≡ length (now tox)) × (length (now ty) ≡ length (now tx)) × (length (now tflags) ≡ length (now tx)) ⌝ }
-    ensures { λ r. ⌜ ((controls gux guy : List ℤ) → lined r (now (gx .exit)) (now (gy .exit)) (now (gflags .exit)) (now (tox .entry)) (now (toy .entry)) (now (tx .exit)) (now (ty .exit)) (now (tflags .exit)) ≡ lineOf (fixed controls gux guy (now (gox .entry)) (now (goy .entry)) (now (contours .entry))) opcode (now (operands .entry)) (world s (now (gx .entry)) (now (gy .entry)) (now (gflags .entry)) (now (tox .entry)) (now (toy .entry)) (now (tx .entry)) (now (ty .entry)) (now (tflags .entry)))) ⌝ }
+    ensures { λ r. ⌜ ((rules : Rules) (controls gux guy : List ℤ) → lined r (now (gx .exit)) (now (gy .exit)) (now (gflags .exit)) (now (tox .entry)) (now (toy .entry)) (now (tx .exit)) (now (ty .exit)) (now (tflags .exit)) ≡ lineOf (fixed rules controls gux guy (now (gox .entry)) (now (goy .entry)) (now (contours .entry))) opcode (now (operands .entry)) (world s (now (gx .entry)) (now (gy .entry)) (now (gflags .entry)) (now (tox .entry)) (now (toy .entry)) (now (tx .entry)) (now (ty .entry)) (now (tflags .entry)))) ⌝ }
 {
     match opcode {
         0x32 | 0x33 => shp(

@@ -1,5 +1,5 @@
 -- What a call leaves, by what its parts ensure: `write_answer`, a call that is taken, and one that is refused. Assumes nothing.
-use mathlib.Core.Path.{_≡_, refl, ap, _∙_}
+use mathlib.Core.Path.{_≡_, refl, ap, sym, _∙_}
 use mathlib.Core.Bool.{true, false}
 use mathlib.Core.List.{List, [], _∷_}
 use Prim.Native.Nat.{ℕ}
@@ -11,12 +11,15 @@ use lib.ListN.{length, set}
 use Rattle.graphics.proofs.Laws.{and-left, and-right}
 use Rattle.graphics.specs.declared.GraphicsState.{GraphicsState}
 use Rattle.line.specs.World.{Fixed, world}
+use Rattle.rules.specs.declared.Named.{Named}
+use Rattle.rules.specs.declared.Named.the-variants.{Known, Unknown}
+use Rattle.rules.specs.declared.Rules.{Rules}
 use Rattle.run_lines.specs.declared.Outcome.{Outcome}
 use Rattle.run_lines.specs.Onward.{ran, numberOfAnswer, detailOfAnswer}
 use Rattle.replay.specs.Run.{runOf}
 use Rattle.state_words.specs.Words.{stateSize, stateWords, stateOf, isState, written}
 use Rattle.state_words.proofs.Back.{size-is}
-use Rattle.exports.specs.Call.{answered, answerSize, badWord, isCall, left, handedBack, callOf}
+use Rattle.exports.specs.Call.{Left, answered, answerSize, badWord, isCall, left, handedBack, callOf}
 
 -- ---- the answer
 all-set : (l : List ℕ) (n p k d : ℕ) → length l ≡ answerSize → set (set (set (set l 0 n) 1 p) 2 k) 3 d ≡ n ∷ p ∷ k ∷ d ∷ []
@@ -51,36 +54,48 @@ module _ (words answer : List ℕ) (e : isCall words answer ≡ true) where
 
 -- ---- the whole call
 module _
-    (f : Fixed) (sheet : List ℤ) (budget start : ℕ) (words answer : List ℕ)
-    (gx gy : List ℤ) (gflags : List ℕ) (tox toy tx ty : List ℤ) (tflags : List ℕ)
+    (f : Rules → Fixed) (sheet : List ℤ) (budget start : ℕ) (words answer : List ℕ)
+    (gx gy : List ℤ) (gflags : List ℕ) (tox toy tx ty : List ℤ) (tflags : List ℕ) (named : Named)
     (n : ℕ) (answer' : List ℕ)
   where
+    abbrev called : Named → Left
+    called = callOf f sheet budget start words answer gx gy gflags tox toy tx ty tflags
+
     pub taken :
-        (o : Outcome) (s : GraphicsState) (words' : List ℕ)
+        (o : Outcome) (rules : Rules) (s : GraphicsState) (words' : List ℕ)
         (gx' gy' : List ℤ) (gflags' : List ℕ) (tox' toy' tx' ty' : List ℤ) (tflags' : List ℕ)
+        → named ≡ Known rules
         → isCall words answer ≡ true
         → s ≡ stateOf words
-        → ran o gx' gy' gflags' tox' toy' tx' ty' tflags' ≡ runOf f sheet budget start (world s gx gy gflags tox toy tx ty tflags)
+        → ran o gx' gy' gflags' tox' toy' tx' ty' tflags' ≡ runOf (f rules) sheet budget start (world s gx gy gflags tox toy tx ty tflags)
         → n ≡ numberOfAnswer (o .answer)
         → words' ≡ written (o .state) words
         → answer' ≡ answered (numberOfAnswer (o .answer)) (o .place) (o .lines) (detailOfAnswer (o .answer)) answer
-        → left n words' answer' gx' gy' gflags' tox' toy' tx' ty' tflags' ≡ callOf f sheet budget start words answer gx gy gflags tox toy tx ty tflags
+        → left n words' answer' gx' gy' gflags' tox' toy' tx' ty' tflags' ≡ called named
     unfolding callOf
-    taken o s words' gx' gy' gflags' tox' toy' tx' ty' tflags' call reads runs number state says =
-        rw call
+    taken o rules s words' gx' gy' gflags' tox' toy' tx' ty' tflags' ruled call reads runs number state says =
+        rw (ruled, call)
         (ap (λ (m : ℕ). left m words' answer' gx' gy' gflags' tox' toy' tx' ty' tflags') number
         ∙ ap (λ (ws : List ℕ). left (numberOfAnswer (o .answer)) ws answer' gx' gy' gflags' tox' toy' tx' ty' tflags') (state ∙ state-left words answer call (o .state))
         ∙ ap (λ (l : List ℕ). left (numberOfAnswer (o .answer)) (stateWords (o .state)) l gx' gy' gflags' tox' toy' tx' ty' tflags')
         (says ∙ answer-left words answer call (numberOfAnswer (o .answer)) (o .place) (o .lines) (detailOfAnswer (o .answer)))
-        ∙ ap handedBack (runs ∙ ap (λ (t : GraphicsState). runOf f sheet budget start (world t gx gy gflags tox toy tx ty tflags)) reads))
+        ∙ ap handedBack (runs ∙ ap (λ (t : GraphicsState). runOf (f rules) sheet budget start (world t gx gy gflags tox toy tx ty tflags)) reads))
+
+    refusal : n ≡ badWord → answer' ≡ answered badWord start 0 0 answer → left n words answer' gx gy gflags tox toy tx ty tflags ≡ left badWord words (answered badWord start 0 0 answer) gx gy gflags tox toy tx ty tflags
+    refusal number says =
+        ap (λ (m : ℕ). left m words answer' gx gy gflags tox toy tx ty tflags) number
+        ∙ ap (λ (l : List ℕ). left badWord words l gx gy gflags tox toy tx ty tflags) says
+
+    pub unnamed : named ≡ Unknown → n ≡ badWord → answer' ≡ answered badWord start 0 0 answer → left n words answer' gx gy gflags tox toy tx ty tflags ≡ called named
+    unfolding callOf
+    unnamed ruled number says = refusal number says ∙ sym (ap called ruled)
 
     pub refused :
-        isCall words answer ≡ false
+        (rules : Rules)
+        → named ≡ Known rules
+        → isCall words answer ≡ false
         → n ≡ badWord
         → answer' ≡ answered badWord start 0 0 answer
-        → left n words answer' gx gy gflags tox toy tx ty tflags ≡ callOf f sheet budget start words answer gx gy gflags tox toy tx ty tflags
+        → left n words answer' gx gy gflags tox toy tx ty tflags ≡ called named
     unfolding callOf
-    refused call number says =
-        rw call
-        (ap (λ (m : ℕ). left m words answer' gx gy gflags tox toy tx ty tflags) number
-        ∙ ap (λ (l : List ℕ). left badWord words l gx gy gflags tox toy tx ty tflags) says)
+    refused rules ruled call number says = rw (ruled, call) (refusal number says)

@@ -7,6 +7,9 @@ use lib.Dec.{eqb}
 use lib.IntN.{ℤ}
 use lib.ListN.{length}
 use Rattle.line.specs.World.{Fixed, world}
+use Rattle.rules.specs.declared.Named.{Named}
+use Rattle.rules.specs.declared.Named.the-variants.{Known, Unknown}
+use Rattle.rules.specs.declared.Rules.{Rules}
 use Rattle.run_lines.specs.Onward.{Ran, numberOfAnswer, detailOfAnswer}
 use Rattle.replay.specs.Run.{runOf}
 use Rattle.state_words.specs.Words.{stateWords, stateOf, isState}
@@ -50,9 +53,10 @@ handedBack r =
     let w = r .world in
     left number (stateWords (w .state)) (number ∷ r .place ∷ r .lines ∷ detailOfAnswer (r .answer) ∷ []) (w .gx) (w .gy) (w .gflags) (w .tox) (w .toy) (w .tx) (w .ty) (w .tflags)
 
--- words that are no state, or an answer that is not four long, are refused, and only the answer changes
-unfoldable pub callOf : Fixed → List ℤ → ℕ → ℕ → List ℕ → List ℕ → List ℤ → List ℤ → List ℕ → List ℤ → List ℤ → List ℤ → List ℤ → List ℕ → Left
-callOf f sheet budget start words answer gx gy gflags tox toy tx ty tflags =
+-- a number that names no rules, words that are no state, or an answer that is not four long, are refused, and only the answer changes
+unfoldable pub callOf : (Rules → Fixed) → List ℤ → ℕ → ℕ → List ℕ → List ℕ → List ℤ → List ℤ → List ℕ → List ℤ → List ℤ → List ℤ → List ℤ → List ℕ → Named → Left
+callOf f sheet budget start words answer gx gy gflags tox toy tx ty tflags Unknown = left badWord words (answered badWord start 0 0 answer) gx gy gflags tox toy tx ty tflags
+callOf f sheet budget start words answer gx gy gflags tox toy tx ty tflags (Known rules) =
     cond (isCall words answer)
-    (handedBack (runOf f sheet budget start (world (stateOf words) gx gy gflags tox toy tx ty tflags)))
+    (handedBack (runOf (f rules) sheet budget start (world (stateOf words) gx gy gflags tox toy tx ty tflags)))
     (left badWord words (answered badWord start 0 0 answer) gx gy gflags tox toy tx ty tflags)

@@ -1,16 +1,21 @@
 // What programs in C call: one run of a sheet, by slices and numbers alone (include/taleviqa.h).
 //
 // `taleviqa_run` answers for every input, and what it returns and leaves in each list is one equation with `callOf` of specs/Call.antt. The state
-// goes in and comes back as the words of the crate state_words; words that are no state are refused with 16, and then nothing changes but the answer.
+// goes in and comes back as the words of the crate state_words; words that are no state are refused with 16, and so is a number that names no rules
+// (crate rules); then nothing changes but the answer.
 use replay::run;
+use rules::Named;
+use rules::by_number;
 use run_lines::Outcome;
 use state_words::is_state;
 use state_words::read_state;
 use state_words::write_state;
 ghost use mathlib.Core.Path.{_≡_};
 ghost use Rattle.line.specs.World.{fixed};
+ghost use Rattle.rules.specs.Rules.{byNumber};
+ghost use Rattle.rules.specs.declared.Rules.{Rules};
 ghost use Rattle.run_lines.specs.Onward.{numberOfAnswer, detailOfAnswer};
-ghost use Rattle.exports.specs.Call.{answered, badWord, isCall, left, callOf};
+ghost use Rattle.exports.specs.Call.{answered, badWord, callOf, isCall, left};
 
 // The answer's places: number, place, lines and detail.
 const ANSWER_WORDS: usize = 4;
@@ -63,6 +68,7 @@ fn say(out: Outcome, answer: &mut [u64]) -> u32
 // A run from a place of the sheet. The number is returned, and stands first in the answer.
 #[no_mangle]
 pub extern "C" fn taleviqa_run(
+    rules: u32,
     start: usize,
     budget: u64,
     state: &mut [u32],
@@ -83,33 +89,39 @@ pub extern "C" fn taleviqa_run(
     tflags: &mut [u8],
     answer: &mut [u64],
 ) -> u32
-    ensures { λ r. ⌜ left r (now (state .exit)) (now (answer .exit)) (now (gx .exit)) (now (gy .exit)) (now (gflags .exit)) (now (tox .exit)) (now (toy .exit)) (now (tx .exit)) (now (ty .exit)) (now (tflags .exit)) ≡ callOf (fixed (now (controls .entry)) (now (gux .entry)) (now (guy .entry)) (now (gox .entry)) (now (goy .entry)) (now (contours .entry))) (now (sheet .entry)) budget start (now (state .entry)) (now (answer .entry)) (now (gx .entry)) (now (gy .entry)) (now (gflags .entry)) (now (tox .entry)) (now (toy .entry)) (now (tx .entry)) (now (ty .entry)) (now (tflags .entry)) ⌝ }
+    ensures { λ r. ⌜ left r (now (state .exit)) (now (answer .exit)) (now (gx .exit)) (now (gy .exit)) (now (gflags .exit)) (now (tox .exit)) (now (toy .exit)) (now (tx .exit)) (now (ty .exit)) (now (tflags .exit)) ≡ callOf (λ (by : Rules). fixed by (now (controls .entry)) (now (gux .entry)) (now (guy .entry)) (now (gox .entry)) (now (goy .entry)) (now (contours .entry))) (now (sheet .entry)) budget start (now (state .entry)) (now (answer .entry)) (now (gx .entry)) (now (gy .entry)) (now (gflags .entry)) (now (tox .entry)) (now (toy .entry)) (now (tx .entry)) (now (ty .entry)) (now (tflags .entry)) (byNumber rules) ⌝ }
 {
-    if is_call(state, answer) {
-        let s = read_state(state);
-        let out = run(
-            start,
-            budget,
-            s,
-            sheet,
-            controls,
-            gux,
-            guy,
-            gox,
-            goy,
-            gx,
-            gy,
-            gflags,
-            contours,
-            tox,
-            toy,
-            tx,
-            ty,
-            tflags,
-        );
-        write_state(out.state, state);
-        say(out, answer)
-    } else {
-        refuse(start, answer)
+    let named = by_number(rules);
+    match named {
+        Named::Unknown => refuse(start, answer),
+        Named::Known(by) => {
+            if !is_call(state, answer) {
+                return refuse(start, answer);
+            }
+            let s = read_state(state);
+            let out = run(
+                start,
+                budget,
+                s,
+                by,
+                sheet,
+                controls,
+                gux,
+                guy,
+                gox,
+                goy,
+                gx,
+                gy,
+                gflags,
+                contours,
+                tox,
+                toy,
+                tx,
+                ty,
+                tflags,
+            );
+            write_state(out.state, state);
+            say(out, answer)
+        }
     }
 }

@@ -38,7 +38,7 @@ use Rattle.zone.specs.declared.Fetched.{Fetched}
 use Rattle.laws_axes.specs.Axes.{Straight, fixedSeen, linedSeen, unitOf, worldSeen, xSeen, ySeen}
 use Rattle.laws_axes.proofs.Lines.{LineSeen, both-there-seen, made-alike, project-alike, related-seen}
 use Rattle.laws_axes.proofs.Seen.{fetch-seen, fetchedSeen, place-seen, placeSeen, seen-by-test, x-length}
-use Rattle.laws_axes.proofs.Steps.{Alike, Same, by-fetched-seen, from-origin-seen, made-seen, one-seen, point-seen, refused-seen, rounded-seen, two-seen, world-again}
+use Rattle.laws_axes.proofs.Steps.{Alike, Same, original-alike, originalAt, place-alike, by-fetched-seen, from-origin-seen, made-seen, one-seen, point-seen, refused-seen, rounded-seen, two-seen, world-again}
 
 -- ---- a distance along the dual vector, between places that look alike
 pub dual-alike : (a : Axis) (v : Vectors) → v ≡ allAlong (unitOf a) → (p q r s : Vector) → placeSeen a p ≡ placeSeen a q → placeSeen a r ≡ placeSeen a s → dualProjectOf v p r ≡ dualProjectOf v q s
@@ -46,31 +46,15 @@ dual-alike a v e p q r s h k =
     ap (λ (u : Vectors). dualProjectOf u p r) e ∙ project-alike a (allAlong (unitOf a)) refl p q r s h k ∙ sym (ap (λ (u : Vectors). dualProjectOf u q s) e)
 
 -- ---- original points
-place-again : (a : Axis) (p : Vector) → placeSeen a (placeSeen a p) ≡ placeSeen a p
-place-again X p = refl
-place-again Y p = refl
-
 fetched-again : (a : Axis) (g : Fetched) → fetchedSeen a (fetchedSeen a g) ≡ fetchedSeen a g
 fetched-again X (At p) = refl
 fetched-again Y (At p) = refl
 fetched-again a (RefusedPlace why) = refl
 
--- of lists that are only read
-place-alike : (a : Axis) (xs ys : List ℤ) (at : ℕ) → placeSeen a (placeOf (xSeen a xs) (ySeen a ys) at) ≡ placeSeen a (placeOf xs ys at)
-place-alike a xs ys at = ap (placeSeen a) (place-seen a xs ys at) ∙ place-again a (placeOf xs ys at)
-
-abbrev originalAt : Fixed → World → ZonePointer → ℕ → Vector
-originalAt f w zone at = placeIn at (f .gox) (f .goy) (w .tox) (w .toy) zone
-
 abbrev fetchedAt : Fixed → World → ZonePointer → ℕ → Fetched
 fetchedAt f w zone at = fetchIn at (f .gox) (f .goy) (w .tox) (w .toy) zone
 
 module _ (a : Axis) (f : Fixed) {v w : World} (e : Alike a v w) where
-  original-alike : (zone : ZonePointer) (at : ℕ) → placeSeen a (originalAt (fixedSeen a f) v zone at) ≡ placeSeen a (originalAt f w zone at)
-  unfolding placeIn
-  original-alike Glyph at = place-alike a (f .gox) (f .goy) at
-  original-alike Twilight at = sym (place-seen a (v .tox) (v .toy) at) ∙ ap (λ (u : World). placeOf (u .tox) (u .toy) at) (e .seen) ∙ place-seen a (w .tox) (w .toy) at
-
   fetched-alike : (zone : ZonePointer) (at : ℕ) → fetchedSeen a (fetchedAt (fixedSeen a f) v zone at) ≡ fetchedSeen a (fetchedAt f w zone at)
   unfolding fetchIn
   fetched-alike Glyph at = ap (fetchedSeen a) (fetch-seen a (f .gox) (f .goy) at) ∙ fetched-again a (fetchOf (f .gox) (f .goy) at)
@@ -84,7 +68,7 @@ module _ (a : Axis) (f : Fixed) {v w : World} (e : Alike a v w) where
   pub originals-seen : (u : Vectors) → u ≡ allAlong (unitOf a) → (p : ZonePointer) (i : ℕ) (q : ZonePointer) (j : ℕ)
       → originalsApart u p i q j (xSeen a (f .gox)) (ySeen a (f .goy)) (v .tox) (v .toy) ≡ originalsApart u p i q j (f .gox) (f .goy) (w .tox) (w .toy)
   unfolding originalsApart
-  originals-seen u straight p i q j = dual-alike a u straight _ _ _ _ (original-alike p i) (original-alike q j)
+  originals-seen u straight p i q j = dual-alike a u straight _ _ _ _ (original-alike a f e p i) (original-alike a f e q j)
 
 -- ---- the outline
 outline-seen : (a : Axis) (f : Fixed) (w : World) → Straight a (w .state) → (p : ZonePointer) (i : ℕ) (q : ZonePointer) (j : ℕ)

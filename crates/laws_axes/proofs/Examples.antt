@@ -6,6 +6,7 @@ use Prim.Native.Nat.{ℕ}
 use mathlib.Core.Bool.{false, true}
 use lib.IntN.{negsuc, pos, ℤ}
 use Rattle.line.specs.World.{Fixed, World, fixed, world}
+use Rattle.rules.specs.declared.Rules.the-variants.{FreeType}
 use Rattle.graphics.specs.declared.GraphicsState.{GraphicsState}
 use Rattle.answer.specs.declared.Refusal.the-variants.{ControlValue}
 use Rattle.line_miap.specs.Miap.{miapOf}
@@ -57,7 +58,7 @@ vertical = withVectors freshState (allAlong yAxis)
 
 -- a glyph with these x and y coordinates, unscaled and original alike, on one contour
 abbrev held : List ℤ → List ℤ → Fixed
-held xs ys = fixed [] xs ys xs ys (4 ∷ [])
+held xs ys = fixed FreeType [] xs ys xs ys (4 ∷ [])
 
 abbrev started : GraphicsState → List ℤ → List ℤ → List ℕ → World
 started s xs ys flags = world s xs ys flags [] [] [] [] []

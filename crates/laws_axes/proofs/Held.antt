@@ -29,7 +29,8 @@ use Rattle.laws_lines.proofs.Stays.{Stays, laid, made-state}
 use Rattle.line_iup.specs.Iup.{iupLineOf, markedFor, walkedIn}
 use Rattle.line_miap.specs.Numbers.{controlPlace}
 use Rattle.line_mirp.specs.Mirp.{mirpPlace}
-use Rattle.line_msirp.specs.Msirp.{madePlace}
+use Rattle.line.specs.Places.{placeIn}
+use Rattle.line_msirp.specs.Msirp.{madeFrom, madePlace}
 use Rattle.line_relative.specs.Relative.{relatedBy}
 use Rattle.line_steps.specs.Steps.{flagsIn, inState, madeIn}
 use Rattle.moves.specs.Apply.{applyIn}
@@ -50,13 +51,13 @@ unfolding relatedBy
 related-held s sets at = either (λ (t : GraphicsState). t .vectors ≡ s .vectors) sets refl refl
 
 -- along the axis where they were
-pub stays-straight : (a : Axis) (u : World) → Stays (u .state) (λ _. Unit {0}) (λ (w : World). Straight a (u .state) → Straight a (w .state))
+pub stays-straight : (a : Axis) (f : Fixed) (u : World) → Stays f (u .state) (λ _. Unit {0}) (λ (w : World). Straight a (u .state) → Straight a (w .state))
 unfolding withPush withRounding
-stays-straight a u = let s = u .state in record {
+stays-straight a f u = let s = u .state in record {
   by-distance = λ zone d at w k. k;
   by-shift = λ zone dx dy touches at w k. k;
   by-control = λ control at zone w k h. ap (λ (t : GraphicsState). t .vectors) (made-state at (controlPlace (s .vectors .freedom) control) w zone) ∙ k h;
-  from-original = λ d at zone w k h. ap (λ (t : GraphicsState). t .vectors) (made-state at (madePlace (s .vectors) d (placeOf (w .tox) (w .toy) at)) w zone) ∙ k h;
+  from-original = λ d zp0 rp0 at zone w k h. ap (λ (t : GraphicsState). t .vectors) (made-state at (madePlace (s .vectors) d (madeFrom (f .rules) (placeOf (w .tox) (w .toy) at) (placeIn rp0 (f .gox) (f .goy) (w .tox) (w .toy) zp0))) w zone) ∙ k h;
   from-reference = λ control reference at zone w k h. ap (λ (t : GraphicsState). t .vectors) (made-state at (mirpPlace (s .vectors .freedom) control reference) w zone) ∙ k h;
   flipped = λ at w k. k;
   ranged = λ start end on w k. k;
@@ -147,12 +148,12 @@ flip-still : (a : Axis) (flags : List ℕ) (at : ℕ) → marksAcross a (flipOf 
 unfolding markedAt
 flip-still a flags at = flip-by a flags at (ltb at (length flags))
 
-pub stays-still : (a : Axis) (u : World) (s : GraphicsState) → Straight a s → Stays s (λ _. Unit {0}) (StillSince a u)
-stays-still a u s e = record {
+pub stays-still : (a : Axis) (f : Fixed) (u : World) (s : GraphicsState) → Straight a s → Stays f s (λ _. Unit {0}) (StillSince a u)
+stays-still a f u s e = record {
   by-distance = λ zone d at w k. laid-still a u zone (moveOf (s .vectors) (s .facts) d) (inert-move a (s .vectors) e (s .facts) d) at w k;
   by-shift = λ zone dx dy touches at w k. laid-still a u zone (zp2MoveOf (s .vectors) (s .facts) dx dy touches) (inert-zp2 a (s .vectors) e (s .facts) dx dy touches) at w k;
   by-control = λ control at zone w k. made-still a u at (controlPlace (s .vectors .freedom) control) zone w k;
-  from-original = λ d at zone w k. made-still a u at (madePlace (s .vectors) d (placeOf (w .tox) (w .toy) at)) zone w k;
+  from-original = λ d zp0 rp0 at zone w k. made-still a u at (madePlace (s .vectors) d (madeFrom (f .rules) (placeOf (w .tox) (w .toy) at) (placeIn rp0 (f .gox) (f .goy) (w .tox) (w .toy) zp0))) zone w k;
   from-reference = λ control reference at zone w k. made-still a u at (mirpPlace (s .vectors .freedom) control reference) zone w k;
   flipped = λ at w k. marks-still a u w (flip-still a (w .gflags) at) k;
   ranged = λ start end on w k. marks-still a u w (set-still a (w .gflags) start end on) k;

@@ -32,7 +32,9 @@ use Rattle.line_iup.specs.Iup.{iupLineOf, markedFor, walkedIn, withX, withY}
 use Rattle.line_mdap.specs.Mdap.{mdapDistance, mdapOf, outsideMdap, roundingStep, roundsIn}
 use Rattle.line_miap.specs.Miap.{miapOf}
 use Rattle.line_miap.specs.Numbers.{controlPlace, miapDistance}
-use Rattle.line_msirp.specs.Msirp.{madePlace, movedPlace, msirpOf}
+use Rattle.rules.specs.declared.Rules.the-variants.{FreeType, Skrifa}
+use Rattle.rules.specs.declared.Rules.{Rules}
+use Rattle.line_msirp.specs.Msirp.{madeFrom, madePlace, movedPlace, msirpOf}
 use Rattle.line_relative.specs.Relative.{bothThere, related}
 use Rattle.line_shc_shz.specs.Shc.{pointAfter, shcOf, shzOf}
 use Rattle.line_span.specs.Span.{pointsFrom, sameZone, shiftBut, spanIn}
@@ -51,7 +53,7 @@ use Rattle.line.specs.Places.{sizeOf}
 use Rattle.projection.specs.Projection.{projectOf}
 use Rattle.line.specs.World.{Fixed, Lined, World, world}
 use Rattle.zone.specs.Zone.{flipOf, placeOf}
-use Rattle.laws_axes.proofs.Steps.{Alike, Same, control-seen, done-seen, each-seen, first-seen, flags-seen, from-origin-seen, laid-seen, looped-seen, made-seen, move-seen, one-seen, passed-seen, point-seen, refused-seen, rounded-seen, state-seen, two-seen, world-again}
+use Rattle.laws_axes.proofs.Steps.{Alike, Same, control-seen, done-seen, each-seen, first-seen, flags-seen, from-origin-seen, laid-seen, looped-seen, made-seen, move-seen, one-seen, original-alike, originalAt, passed-seen, place-alike, point-seen, refused-seen, rounded-seen, state-seen, two-seen, world-again}
 use Rattle.laws_axes.proofs.Walk.{across}
 
 -- a line that sees nothing across the axis
@@ -136,15 +138,26 @@ unfolding madePlace
 made-place-seen X v d p = refl
 made-place-seen Y v d p = refl
 
-made-from-seen : (a : Axis) (v : Vectors) (d : ℤ) (at : ℕ) (zone : ZonePointer) (w : World)
-    → Alike a (madeIn at (madePlace v d (placeOf (xSeen a (w .tox)) (ySeen a (w .toy)) at)) (worldSeen a w) zone) (madeIn at (madePlace v d (placeOf (w .tox) (w .toy) at)) w zone)
-made-from-seen a v d at zone w =
-    let p = placeOf (w .tox) (w .toy) at in
+made-place-alike : (a : Axis) (v : Vectors) (d : ℤ) (p q : Vector) → placeSeen a p ≡ placeSeen a q → placeSeen a (madePlace v d p) ≡ placeSeen a (madePlace v d q)
+made-place-alike a v d p q h = sym (made-place-seen a v d p) ∙ ap (λ (r : Vector). placeSeen a (madePlace v d r)) h ∙ made-place-seen a v d q
+
+-- by the rules from its own original or the reference point's
+from-alike : (a : Axis) (rules : Rules) (p q r t : Vector) → placeSeen a p ≡ placeSeen a q → placeSeen a r ≡ placeSeen a t → placeSeen a (madeFrom rules p r) ≡ placeSeen a (madeFrom rules q t)
+from-alike a Skrifa p q r t h k = h
+from-alike a FreeType p q r t h k = k
+
+abbrev fromIn : Fixed → World → ZonePointer → ℕ → ℕ → Vector
+fromIn f w zp0 rp0 at = madeFrom (f .rules) (placeOf (w .tox) (w .toy) at) (originalAt f w zp0 rp0)
+
+made-from-seen : (a : Axis) (f : Fixed) (v : Vectors) (d : ℤ) (zp0 : ZonePointer) (rp0 at : ℕ) (zone : ZonePointer) (w : World)
+    → Alike a (madeIn at (madePlace v d (fromIn (fixedSeen a f) (worldSeen a w) zp0 rp0 at)) (worldSeen a w) zone) (madeIn at (madePlace v d (fromIn f w zp0 rp0 at)) w zone)
+made-from-seen a f v d zp0 rp0 at zone w =
+    let own = place-alike a (w .tox) (w .toy) at in
+    let reference = original-alike a f (world-again a w) zp0 rp0 in
     record {
       seen =
-          ap (λ (q : Vector). worldSeen a (madeIn at (madePlace v d q) (worldSeen a w) zone)) (place-seen a (w .tox) (w .toy) at)
-          ∙ made-alike a at (madePlace v d (placeSeen a p)) (madePlace v d p) zone (worldSeen a w) (made-place-seen a v d p)
-          ∙ made-seen a at (madePlace v d p) zone (world-again a w) .seen;
+          made-alike a at _ _ zone (worldSeen a w) (made-place-alike a v d _ _ (from-alike a (f .rules) _ _ _ _ own reference))
+          ∙ made-seen a at (madePlace v d (fromIn f w zp0 rp0 at)) zone (world-again a w) .seen;
     }
 
 -- what ends with the references set
@@ -168,12 +181,12 @@ msirp-seen a f op operands w straight =
     let zone = s .pointers .zp1 in
     two-seen a (world-again a w) operands _ _ λ distance point.
     let at = indexOf point in
-    let made = made-from-seen a (s .vectors) distance at zone w in
+    let made = made-from-seen a f (s .vectors) distance (s .pointers .zp0) (s .references .rp0) at zone w in
     let end : World → Lined = λ v. doneIn (related (isOdd op) at v) in
     both-there-seen a at w _ _ _ _ (passed-seen a (world-again a w))
     (point-seen a _ _ _ _ (refused-seen a made)
     (λ p q h. point-seen a _ _ _ _ (refused-seen a made)
-    (λ r t k. ap (λ (d : ℤ). linedSeen a (moveIn zone (sub32 distance d) at (madeIn at (madePlace (s .vectors) distance (placeOf (xSeen a (w .tox)) (ySeen a (w .toy)) at)) (worldSeen a w) zone) end)) (project-alike a (s .vectors) straight p q r t h k)
+    (λ r t k. ap (λ (d : ℤ). linedSeen a (moveIn zone (sub32 distance d) at (madeIn at (madePlace (s .vectors) distance (fromIn (fixedSeen a f) (worldSeen a w) (s .pointers .zp0) (s .references .rp0) at)) (worldSeen a w) zone) end)) (project-alike a (s .vectors) straight p q r t h k)
     ∙ move-seen a end end (related-seen a (isOdd op) at) zone (sub32 distance (projectOf (s .vectors) q t)) at made)
     (s .pointers .zp0) (s .references .rp0) made)
     zone at made)

@@ -13,7 +13,7 @@ use Rattle.answer.specs.declared.Call.the-variants.{Done, Refused}
 use Rattle.answer.specs.declared.Call.{Call}
 use Rattle.answer.specs.declared.Refusal.the-variants.{ControlValue, Missing}
 use Rattle.answer.specs.declared.Refusal.{Refusal}
-use Rattle.laws_axes.proofs.Seen.{apply-seen, fetch-seen, fetchedSeen, movedSeen, placeSeen, project-seen, seen-by-test, x-again, x-set, y-again, y-set}
+use Rattle.laws_axes.proofs.Seen.{apply-seen, fetch-seen, fetchedSeen, movedSeen, place-seen, placeSeen, project-seen, seen-by-test, x-again, x-set, y-again, y-set}
 use Rattle.laws_axes.specs.Axes.{Straight, fixedSeen, linedSeen, unitOf, worldSeen, xSeen, ySeen}
 use Rattle.flags.specs.declared.Axis.the-variants.{X, Y}
 use Rattle.flags.specs.declared.Axis.{Axis}
@@ -28,10 +28,10 @@ use Rattle.line_steps.specs.Steps.{byCall, byDisplaced, byFetched, controlAt, r
 use Rattle.moves.specs.Apply.{Moved, applyIn, applyOf}
 use Rattle.moves.specs.Move.{moveOf}
 use Rattle.moves.specs.declared.Move.{Move}
-use Rattle.line.specs.Places.{fetchIn}
+use Rattle.line.specs.Places.{fetchIn, placeIn}
 use Rattle.projection.specs.Projection.{projectOf}
 use Rattle.line.specs.World.{Fixed, Lined, World, lined, world}
-use Rattle.zone.specs.Zone.{Marked}
+use Rattle.zone.specs.Zone.{Marked, placeOf}
 use Rattle.zone.specs.declared.Fetched.the-variants.{At}
 use Rattle.zone.specs.declared.Fetched.the-variants.{Refused as RefusedPlace}
 use Rattle.zone.specs.declared.Fetched.{Fetched}
@@ -237,3 +237,21 @@ module _ (a : Axis) (step : ℤ → World → Lined) (level : (z : ℤ) (w : Wor
   pub looped-seen : (operands : List ℤ) (w : World) → Straight a (w .state) → Same a (looped operands (worldSeen a w) step) (looped operands w step)
   unfolding reset
   looped-seen operands w straight = ap reset (each-seen (w .state .«loop_counter») operands (worldSeen a w) w (world-again a w) straight)
+
+-- ---- original points
+place-again : (a : Axis) (p : Vector) → placeSeen a (placeSeen a p) ≡ placeSeen a p
+place-again X p = refl
+place-again Y p = refl
+
+-- of lists that are only read
+pub place-alike : (a : Axis) (xs ys : List ℤ) (at : ℕ) → placeSeen a (placeOf (xSeen a xs) (ySeen a ys) at) ≡ placeSeen a (placeOf xs ys at)
+place-alike a xs ys at = ap (placeSeen a) (place-seen a xs ys at) ∙ place-again a (placeOf xs ys at)
+
+abbrev pub originalAt : Fixed → World → ZonePointer → ℕ → Vector
+originalAt f w zone at = placeIn at (f .gox) (f .goy) (w .tox) (w .toy) zone
+
+module _ (a : Axis) (f : Fixed) {v w : World} (e : Alike a v w) where
+  pub original-alike : (zone : ZonePointer) (at : ℕ) → placeSeen a (originalAt (fixedSeen a f) v zone at) ≡ placeSeen a (originalAt f w zone at)
+  unfolding placeIn
+  original-alike Glyph at = place-alike a (f .gox) (f .goy) at
+  original-alike Twilight at = sym (place-seen a (v .tox) (v .toy) at) ∙ ap (λ (u : World). placeOf (u .tox) (u .toy) at) (e .seen) ∙ place-seen a (w .tox) (w .toy) at

@@ -153,7 +153,7 @@ set-straight a f op operands w m e = set-by-straight a (w .state) e op operands 
 pub line-straight : (a : Axis) (f : Fixed) (op : ℕ) (operands : List ℤ) (w : World) → Straight a (w .state) → mixes a op ≡ false
     → Straight a (lineOf f op operands w .world .state)
 line-straight a f op operands w e m =
-    line-leaves (λ _. Unit {0}) (λ _. Unit {0}) (λ z u. u) (λ op f w. mixes a op ≡ false) (StraightSince a) (λ op f w g h. h) (λ op f w g. stays-straight a w)
+    line-leaves (λ _. Unit {0}) (λ _. Unit {0}) (λ z u. u) (λ op f w. mixes a op ≡ false) (StraightSince a) (λ op f w g h. h) (λ op f w g. stays-straight a f w)
     (λ op f operands w g o. set-straight a f op operands w g)
     (λ op h f operands w g o. absurd (no-intersection a op h g))
     (λ op h f operands w g o k. iup-held f op operands w ∙ k)
@@ -187,7 +187,7 @@ set-still a f op operands w = stays a (w .gx) (w .gy) (w .gflags)
 pub line-still : (a : Axis) (f : Fixed) (op : ℕ) (operands : List ℤ) (w : World) → Straight a (w .state) → mixes a op ≡ false → interpolatesAcross a op ≡ false
     → StillSince a w (lineOf f op operands w .world)
 line-still a f op operands w e m n =
-    line-leaves (λ _. Unit {0}) (λ _. Unit {0}) (λ z u. u) (λ op f w. Along a op w) (StillSince a) (λ op f w g. stays a (w .gx) (w .gy) (w .gflags)) (λ op f w g. stays-still a w (w .state) (g .straight))
+    line-leaves (λ _. Unit {0}) (λ _. Unit {0}) (λ z u. u) (λ op f w. Along a op w) (StillSince a) (λ op f w g. stays a (w .gx) (w .gy) (w .gflags)) (λ op f w g. stays-still a f w (w .state) (g .straight))
     (λ op f operands w g o. set-still a f op operands w)
     (λ op h f operands w g o. absurd (no-intersection a op h (g .mixes-not)))
     (λ op h f operands w g o. iup-still a f op operands w (along-code a op h (g .across-not)))

@@ -36,9 +36,9 @@ abbrev pub ySeen : Axis → List ℤ → List ℤ
 ySeen X ys = leveled ys
 ySeen Y ys = ys
 
--- what lines only read; the control values are no coordinates of an axis
+-- what lines only read; the rules and the control values are no coordinates of an axis
 abbrev pub fixedSeen : Axis → Fixed → Fixed
-fixedSeen a f = fixed (f .controls) (xSeen a (f .gux)) (ySeen a (f .guy)) (xSeen a (f .gox)) (ySeen a (f .goy)) (f .contours)
+fixedSeen a f = fixed (f .rules) (f .controls) (xSeen a (f .gux)) (ySeen a (f .guy)) (xSeen a (f .gox)) (ySeen a (f .goy)) (f .contours)
 
 -- what lines change
 abbrev pub worldSeen : Axis → World → World

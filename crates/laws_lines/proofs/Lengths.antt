@@ -18,7 +18,8 @@ use Rattle.line_isect.specs.Isect.{isectOf, putTouched}
 use Rattle.line_iup.specs.Iup.{iupLineOf, markedFor, walkedIn}
 use Rattle.line_miap.specs.Numbers.{controlPlace}
 use Rattle.line_mirp.specs.Mirp.{mirpPlace}
-use Rattle.line_msirp.specs.Msirp.{madePlace}
+use Rattle.line.specs.Places.{placeIn}
+use Rattle.line_msirp.specs.Msirp.{madeFrom, madePlace}
 use Rattle.line_relative.specs.Relative.{relatedBy}
 use Rattle.line_steps.specs.Steps.{bothAt, flagsIn, inState, madeIn}
 use Rattle.moves.proofs.Keeps.{apply-lengths}
@@ -80,12 +81,12 @@ module _ (u : World) where
   flags-kept : (w : World) (m : Marked) → length (m .flags) ≡ length (w .gflags) → Kept u w → Kept u (flagsIn w m .world)
   flags-kept w m e k = record { gx = k .gx; gy = k .gy; gflags = e ∙ k .gflags; tox = k .tox; toy = k .toy; tx = k .tx; ty = k .ty; tflags = k .tflags }
 
-  pub stays-kept : (s : GraphicsState) → Stays s (λ _. Unit {0}) (Kept u)
-  stays-kept s = record {
+  pub stays-kept : (f : Fixed) (s : GraphicsState) → Stays f s (λ _. Unit {0}) (Kept u)
+  stays-kept f s = record {
     by-distance = λ zone d at w k. laid-kept zone (moveOf (s .vectors) (s .facts) d) at w k;
     by-shift = λ zone dx dy touches at w k. laid-kept zone (zp2MoveOf (s .vectors) (s .facts) dx dy touches) at w k;
     by-control = λ control at zone w k. made-kept at (controlPlace (s .vectors .freedom) control) zone w k;
-    from-original = λ d at zone w k. made-kept at (madePlace (s .vectors) d (placeOf (w .tox) (w .toy) at)) zone w k;
+    from-original = λ d zp0 rp0 at zone w k. made-kept at (madePlace (s .vectors) d (madeFrom (f .rules) (placeOf (w .tox) (w .toy) at) (placeIn rp0 (f .gox) (f .goy) (w .tox) (w .toy) zp0))) zone w k;
     from-reference = λ control reference at zone w k. made-kept at (mirpPlace (s .vectors .freedom) control reference) zone w k;
     flipped = λ at w k. flags-kept w (flipOf (w .gflags) at) (marked-length (λ (flag : ℕ). bitXor flag 1) (w .gflags) at) k;
     ranged = λ start end on w k. flags-kept w (setOnCurveOf (w .gflags) start end on) (set-on-curve-length (w .gflags) start end on) k;

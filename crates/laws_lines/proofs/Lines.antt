@@ -42,7 +42,7 @@ module _ (Word : ℤ → Type 0) (Refers : ℕ → Type 0) (refers : (z : ℤ) �
   abbrev pub Has : ℕ → Line → Type 0
   Has op line = (f : Fixed) (operands : List ℤ) (w : World) → Given op f w → Every Word operands → P w (line f op operands w .world)
 
-  module _ (start : (op : ℕ) (f : Fixed) (w : World) → Given op f w → P w w) (stays : (op : ℕ) (f : Fixed) (w : World) → Given op f w → Stays (w .state) Refers (P w))
+  module _ (start : (op : ℕ) (f : Fixed) (w : World) → Given op f w → P w w) (stays : (op : ℕ) (f : Fixed) (w : World) → Given op f w → Stays f (w .state) Refers (P w))
       (set : (op : ℕ) → Has op setOf) (isect : (op : ℕ) → within 0x0F 0x0F op ≡ true → Has op isectOf) (iup : (op : ℕ) → within 0x30 0x31 op ≡ true → Has op iupLineOf) where
     all-rows : RowsHave Has rows
     all-rows =
@@ -87,7 +87,7 @@ set-kept f op operands w = in-state-kept w w (setBy (w .state) op operands .stat
 
 pub line-kept : (f : Fixed) (op : ℕ) (operands : List ℤ) (w : World) → Alike f w → Kept w (lineOf f op operands w .world)
 line-kept f op operands w alike =
-    line-leaves (λ _. Unit {0}) (λ _. Unit {0}) (λ z u. u) (λ op f w. Alike f w) Kept (λ op f w g. kept w) (λ op f w g. stays-kept w (w .state))
+    line-leaves (λ _. Unit {0}) (λ _. Unit {0}) (λ z u. u) (λ op f w. Alike f w) Kept (λ op f w g. kept w) (λ op f w g. stays-kept w f (w .state))
     (λ op f operands w g o. set-kept f op operands w)
     (λ op h f operands w g o. isect-kept f op operands w)
     (λ op h f operands w g o. iup-kept f op operands w g)
@@ -104,7 +104,7 @@ set-line-usable f op operands w = set-usable (w .state) op operands
 
 pub line-usable : (f : Fixed) (op : ℕ) (operands : List ℤ) (w : World) → StillUsable w (lineOf f op operands w .world)
 line-usable f op operands w =
-    line-leaves (λ _. Unit {0}) (λ _. Unit {0}) (λ z u. u) (λ op f w. Unit {0}) StillUsable (λ op f w g h. h) (λ op f w g. stays-usable w)
+    line-leaves (λ _. Unit {0}) (λ _. Unit {0}) (λ z u. u) (λ op f w. Unit {0}) StillUsable (λ op f w g h. h) (λ op f w g. stays-usable f w)
     (λ op f operands w g o. set-line-usable f op operands w)
     (λ op h f operands w g o. isect-usable f op operands w)
     (λ op h f operands w g o. iup-usable f op operands w)

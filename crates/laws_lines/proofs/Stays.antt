@@ -32,7 +32,7 @@ use Rattle.line_distance.specs.Distance.{setsRp0, singleControl}
 use Rattle.line_mdrp.specs.Mdrp.{mdrpOf}
 use Rattle.line_measure.specs.Measure.{gcOf, mdOf, mdOriginal, originalOr, pushes, zeroOr}
 use Rattle.line_mirp.specs.Mirp.{controlBy, mirpOf, mirpPlace}
-use Rattle.line_msirp.specs.Msirp.{madePlace, msirpOf}
+use Rattle.line_msirp.specs.Msirp.{madeFrom, madePlace, msirpOf}
 use Rattle.line_relative.specs.Relative.{bothThere, related, relatedOr}
 use Rattle.line_shc_shz.specs.Shc.{shcOf, shzOf}
 use Rattle.line_span.specs.Span.{pointsFrom, sameZone, shiftBut, spanIn}
@@ -65,13 +65,13 @@ abbrev pub laid : ZonePointer → Move → ℕ → World → World
 laid zone m at w = withPoints w (applyIn m at (w .gx) (w .gy) (w .gflags) (w .tx) (w .ty) (w .tflags) zone)
 
 -- what a line of this state does leaves P; `Refers` is what is asked of a point's number that becomes a reference
-pub record Stays (s : GraphicsState) (Refers : ℕ → Type 0) (P : World → Type 0) : Type 0 where
+pub record Stays (f : Fixed) (s : GraphicsState) (Refers : ℕ → Type 0) (P : World → Type 0) : Type 0 where
   -- moves by a distance, and shifts
   pub by-distance : (zone : ZonePointer) (d : ℤ) (at : ℕ) (w : World) → P w → P (laid zone (moveOf (s .vectors) (s .facts) d) at w)
   pub by-shift : (zone : ZonePointer) (dx dy : ℤ) (touches : Bool) (at : ℕ) (w : World) → P w → P (laid zone (zp2MoveOf (s .vectors) (s .facts) dx dy touches) at w)
-  -- a twilight point made: by a control value, from its own original, and by a control value from another point's
+  -- a twilight point made: by a control value, from an original by the rules, and by a control value from another point's original
   pub by-control : (control : ℤ) (at : ℕ) (zone : ZonePointer) (w : World) → P w → P (madeIn at (controlPlace (s .vectors .freedom) control) w zone)
-  pub from-original : (d : ℤ) (at : ℕ) (zone : ZonePointer) (w : World) → P w → P (madeIn at (madePlace (s .vectors) d (placeOf (w .tox) (w .toy) at)) w zone)
+  pub from-original : (d : ℤ) (zp0 : ZonePointer) (rp0 at : ℕ) (zone : ZonePointer) (w : World) → P w → P (madeIn at (madePlace (s .vectors) d (madeFrom (f .rules) (placeOf (w .tox) (w .toy) at) (placeIn rp0 (f .gox) (f .goy) (w .tox) (w .toy) zp0))) w zone)
   pub from-reference : (control : ℤ) (reference : Vector) (at : ℕ) (zone : ZonePointer) (w : World) → P w → P (madeIn at (mirpPlace (s .vectors .freedom) control reference) w zone)
   -- flags
   pub flipped : (at : ℕ) (w : World) → P w → P (flagsIn w (flipOf (w .gflags) at) .world)
@@ -194,7 +194,7 @@ unfolding shiftBut
 shift-but-state m keeps kept z w = either (λ (l : Lined). l .world .state ≡ w .state) (keeps && eqb (indexOf z) kept) refl (shift-point-state m z w)
 
 -- ---- the lines
-module _ {Refers : ℕ → Type 0} {P : World → Type 0} (f : Fixed) (op : ℕ) (operands : List ℤ) (w : World) (stays : Stays (w .state) Refers P) (p : P w) where
+module _ {Refers : ℕ → Type 0} {P : World → Type 0} (f : Fixed) (op : ℕ) (operands : List ℤ) (w : World) (stays : Stays f (w .state) Refers P) (p : P w) where
   abbrev s : GraphicsState
   s = w .state
 
@@ -258,8 +258,9 @@ module _ {Refers : ℕ → Type 0} {P : World → Type 0} (f : Fixed) (op : ℕ)
         two-stays P Operand operands w _ o p λ distance point refers.
         let at = indexOf point in
         let zone = s .pointers .zp1 in
-        let place = madePlace (s .vectors) distance (placeOf (w .tox) (w .toy) at) in
-        let m = stays .from-original distance at zone w p in
+        let reference = placeIn (s .references .rp0) (f .gox) (f .goy) (w .tox) (w .toy) (s .pointers .zp0) in
+        let place = madePlace (s .vectors) distance (madeFrom (f .rules) (placeOf (w .tox) (w .toy) at) reference) in
+        let m = stays .from-original distance (s .pointers .zp0) (s .references .rp0) at zone w p in
         both-there-stays at _ _ (λ why. passed-stays P w why p)
         (point-stays P zone at (madeIn at place w zone) _ _ (λ why. m) λ here.
         point-stays P (s .pointers .zp0) (s .references .rp0) (madeIn at place w zone) _ _ (λ why. m) λ reference.

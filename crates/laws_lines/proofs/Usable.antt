@@ -22,7 +22,8 @@ use Rattle.line_isect.specs.Isect.{isectOf}
 use Rattle.line_iup.specs.Iup.{iupLineOf, markedFor, walkedIn}
 use Rattle.line_miap.specs.Numbers.{controlPlace}
 use Rattle.line_mirp.specs.Mirp.{mirpPlace}
-use Rattle.line_msirp.specs.Msirp.{madePlace}
+use Rattle.line.specs.Places.{placeIn}
+use Rattle.line_msirp.specs.Msirp.{madeFrom, madePlace}
 use Rattle.line_relative.specs.Relative.{relatedBy}
 use Rattle.line_set.specs.Setters.{axisBy, loopBy, modeBy, onOperand, operandBy, pointerBy, referenceBy, setBy, takesOperand, vectorsBy, zoneBy}
 use Rattle.line.specs.Operands.{isOdd}
@@ -109,12 +110,12 @@ related-usable : (sets : Bool) (at : ℕ) (s : GraphicsState) → usableState (r
 unfolding relatedBy
 related-usable sets at s = either (λ (t : GraphicsState). usableState t ≡ usableState s) sets (usable-references s _) (usable-references s _)
 
-pub stays-usable : (u : World) → Stays (u .state) (λ _. Unit {0}) (UsableSince u)
-stays-usable u = let s = u .state in record {
+pub stays-usable : (f : Fixed) (u : World) → Stays f (u .state) (λ _. Unit {0}) (UsableSince u)
+stays-usable f u = let s = u .state in record {
   by-distance = λ zone d at w k. k;
   by-shift = λ zone dx dy touches at w k. k;
   by-control = λ control at zone w k h. ap usableState (made-state at (controlPlace (s .vectors .freedom) control) w zone) ∙ k h;
-  from-original = λ d at zone w k h. ap usableState (made-state at (madePlace (s .vectors) d (placeOf (w .tox) (w .toy) at)) w zone) ∙ k h;
+  from-original = λ d zp0 rp0 at zone w k h. ap usableState (made-state at (madePlace (s .vectors) d (madeFrom (f .rules) (placeOf (w .tox) (w .toy) at) (placeIn rp0 (f .gox) (f .goy) (w .tox) (w .toy) zp0))) w zone) ∙ k h;
   from-reference = λ control reference at zone w k h. ap usableState (made-state at (mirpPlace (s .vectors .freedom) control reference) w zone) ∙ k h;
   flipped = λ at w k. k;
   ranged = λ start end on w k. k;

@@ -35,6 +35,9 @@ use Rattle.run_lines.specs.Onward.{Ran, ran}
 use Rattle.run_lines.specs.declared.Outcome.{Outcome}
 use Rattle.replay.specs.Run.{runOf}
 use Rattle.exports.specs.Call.{Left, callOf, left}
+use Rattle.rules.specs.Rules.{byNumber}
+use Rattle.rules.specs.declared.Rules.the-variants.{FreeType}
+use Rattle.rules.specs.declared.Rules.{Rules}
 use Rattle.record_read.specs.Format.{held}
 use Rattle.record_read.specs.Read.{openOf}
 use Rattle.record_read.specs.declared.Opened.{Opened}
@@ -58,14 +61,14 @@ one-part part p q = ap part (one-outcome p q)
 abbrev outcomeOf : Ran → Outcome
 outcomeOf x = record { answer = x .answer; place = x .place; lines = x .lines; state = x .world .state }
 
-module _ (start budget : ℕ) (sheet controls gux guy gox goy gx gy : List ℤ) (gflags contours : List ℕ) (tox toy tx ty : List ℤ) (tflags : List ℕ) where
+module _ (rules : Rules) (start budget : ℕ) (sheet controls gux guy gox goy gx gy : List ℤ) (gflags contours : List ℕ) (tox toy tx ty : List ℤ) (tflags : List ℕ) where
   pub run-has-one-outcome : (s : GraphicsState)
       (r₁ : Outcome) (gx₁ gy₁ : List ℤ) (gflags₁ : List ℕ) (tox₁ toy₁ tx₁ ty₁ : List ℤ) (tflags₁ : List ℕ)
       (r₂ : Outcome) (gx₂ gy₂ : List ℤ) (gflags₂ : List ℕ) (tox₂ toy₂ tx₂ ty₂ : List ℤ) (tflags₂ : List ℕ)
       → ran r₁ gx₁ gy₁ gflags₁ tox₁ toy₁ tx₁ ty₁ tflags₁
-      ≡ runOf (fixed controls gux guy gox goy contours) sheet budget start (world s gx gy gflags tox toy tx ty tflags)
+      ≡ runOf (fixed rules controls gux guy gox goy contours) sheet budget start (world s gx gy gflags tox toy tx ty tflags)
       → ran r₂ gx₂ gy₂ gflags₂ tox₂ toy₂ tx₂ ty₂ tflags₂
-      ≡ runOf (fixed controls gux guy gox goy contours) sheet budget start (world s gx gy gflags tox toy tx ty tflags)
+      ≡ runOf (fixed rules controls gux guy gox goy contours) sheet budget start (world s gx gy gflags tox toy tx ty tflags)
       → (r₁ ≡ r₂)
       × (gx₁ ≡ gx₂)
       × (gy₁ ≡ gy₂)
@@ -87,13 +90,13 @@ module _ (start budget : ℕ) (sheet controls gux guy gox goy gx gy : List ℤ) 
     one-part (λ (x : Ran). x .world .tflags) p q,
   )
 
-  pub taleviqa-run-has-one-outcome : (state answer : List ℕ)
+  pub taleviqa-run-has-one-outcome : (rules : ℕ) (state answer : List ℕ)
       (r₁ : ℕ) (state₁ answer₁ : List ℕ) (gx₁ gy₁ : List ℤ) (gflags₁ : List ℕ) (tox₁ toy₁ tx₁ ty₁ : List ℤ) (tflags₁ : List ℕ)
       (r₂ : ℕ) (state₂ answer₂ : List ℕ) (gx₂ gy₂ : List ℤ) (gflags₂ : List ℕ) (tox₂ toy₂ tx₂ ty₂ : List ℤ) (tflags₂ : List ℕ)
       → left r₁ state₁ answer₁ gx₁ gy₁ gflags₁ tox₁ toy₁ tx₁ ty₁ tflags₁
-      ≡ callOf (fixed controls gux guy gox goy contours) sheet budget start state answer gx gy gflags tox toy tx ty tflags
+      ≡ callOf (λ (by : Rules). fixed by controls gux guy gox goy contours) sheet budget start state answer gx gy gflags tox toy tx ty tflags (byNumber rules)
       → left r₂ state₂ answer₂ gx₂ gy₂ gflags₂ tox₂ toy₂ tx₂ ty₂ tflags₂
-      ≡ callOf (fixed controls gux guy gox goy contours) sheet budget start state answer gx gy gflags tox toy tx ty tflags
+      ≡ callOf (λ (by : Rules). fixed by controls gux guy gox goy contours) sheet budget start state answer gx gy gflags tox toy tx ty tflags (byNumber rules)
       → (r₁ ≡ r₂)
       × (state₁ ≡ state₂)
       × (answer₁ ≡ answer₂)
@@ -106,7 +109,7 @@ module _ (start budget : ℕ) (sheet controls gux guy gox goy gx gy : List ℤ) 
       × (ty₁ ≡ ty₂)
       × (tflags₁ ≡ tflags₂)
   taleviqa-run-has-one-outcome
-      state answer
+      rules state answer
       r₁ state₁ answer₁ gx₁ gy₁ gflags₁ tox₁ toy₁ tx₁ ty₁ tflags₁
       r₂ state₂ answer₂ gx₂ gy₂ gflags₂ tox₂ toy₂ tx₂ ty₂ tflags₂
       p q = (
@@ -124,8 +127,8 @@ module _ (start budget : ℕ) (sheet controls gux guy gox goy gx gy : List ℤ) 
       )
 
   pub write-has-one-outcome : (most : ℕ) (s : GraphicsState) (out : List ℕ) (r₁ : ℕ) (out₁ : List ℕ) (r₂ : ℕ) (out₂ : List ℕ)
-      → wrote r₁ out₁ ≡ writeOf most (held (fixed controls gux guy gox goy contours) sheet (world s gx gy gflags tox toy tx ty tflags)) out
-      → wrote r₂ out₂ ≡ writeOf most (held (fixed controls gux guy gox goy contours) sheet (world s gx gy gflags tox toy tx ty tflags)) out
+      → wrote r₁ out₁ ≡ writeOf most (held (fixed FreeType controls gux guy gox goy contours) sheet (world s gx gy gflags tox toy tx ty tflags)) out
+      → wrote r₂ out₂ ≡ writeOf most (held (fixed FreeType controls gux guy gox goy contours) sheet (world s gx gy gflags tox toy tx ty tflags)) out
       → (r₁ ≡ r₂) × (out₁ ≡ out₂)
   write-has-one-outcome most s out r₁ out₁ r₂ out₂ p q = (one-part (λ (x : Wrote). x .size) p q, one-part (λ (x : Wrote). x .bytes) p q)
 
@@ -133,20 +136,20 @@ module _ (start budget : ℕ) (sheet controls gux guy gox goy gx gy : List ℤ) 
 pub open-has-one-outcome : (bytes : List ℕ) (r₁ r₂ : Opened) → r₁ ≡ openOf bytes → r₂ ≡ openOf bytes → r₁ ≡ r₂
 open-has-one-outcome bytes r₁ r₂ p q = one-outcome p q
 
-pub replay-within-has-one-outcome : (most : ℕ) (bytes out : List ℕ) (r₁ : Replayed) (out₁ : List ℕ) (r₂ : Replayed) (out₂ : List ℕ)
-    → shelved r₁ out₁ ≡ shelfWithin most bytes out → shelved r₂ out₂ ≡ shelfWithin most bytes out → (r₁ ≡ r₂) × (out₁ ≡ out₂)
-replay-within-has-one-outcome most bytes out r₁ out₁ r₂ out₂ p q = (one-part (λ (x : Shelved). x .said) p q, one-part (λ (x : Shelved). x .out) p q)
+pub replay-within-has-one-outcome : (rules : Rules) (most : ℕ) (bytes out : List ℕ) (r₁ : Replayed) (out₁ : List ℕ) (r₂ : Replayed) (out₂ : List ℕ)
+    → shelved r₁ out₁ ≡ shelfWithin rules most bytes out → shelved r₂ out₂ ≡ shelfWithin rules most bytes out → (r₁ ≡ r₂) × (out₁ ≡ out₂)
+replay-within-has-one-outcome rules most bytes out r₁ out₁ r₂ out₂ p q = (one-part (λ (x : Shelved). x .said) p q, one-part (λ (x : Shelved). x .out) p q)
 
-pub replay-has-one-outcome : (bytes out : List ℕ) (r₁ : Replayed) (out₁ : List ℕ) (r₂ : Replayed) (out₂ : List ℕ)
-    → shelved r₁ out₁ ≡ shelfOf bytes out → shelved r₂ out₂ ≡ shelfOf bytes out → (r₁ ≡ r₂) × (out₁ ≡ out₂)
-replay-has-one-outcome bytes out r₁ out₁ r₂ out₂ p q = replay-within-has-one-outcome mostBytes bytes out r₁ out₁ r₂ out₂ p q
+pub replay-has-one-outcome : (rules : Rules) (bytes out : List ℕ) (r₁ : Replayed) (out₁ : List ℕ) (r₂ : Replayed) (out₂ : List ℕ)
+    → shelved r₁ out₁ ≡ shelfOf rules bytes out → shelved r₂ out₂ ≡ shelfOf rules bytes out → (r₁ ≡ r₂) × (out₁ ≡ out₂)
+replay-has-one-outcome rules bytes out r₁ out₁ r₂ out₂ p q = replay-within-has-one-outcome rules mostBytes bytes out r₁ out₁ r₂ out₂ p q
 
-pub print-has-one-outcome : (bytes text : List ℕ) (r₁ : ℕ) (text₁ : List ℕ) (r₂ : ℕ) (text₂ : List ℕ)
-    → r₁ ≡ length (printOf bytes) → Front r₁ text₁ → text₁ ≡ printOf bytes ++ drop r₁ text
-    → r₂ ≡ length (printOf bytes) → Front r₂ text₂ → text₂ ≡ printOf bytes ++ drop r₂ text
+pub print-has-one-outcome : (rules : Rules) (bytes text : List ℕ) (r₁ : ℕ) (text₁ : List ℕ) (r₂ : ℕ) (text₂ : List ℕ)
+    → r₁ ≡ length (printOf rules bytes) → Front r₁ text₁ → text₁ ≡ printOf rules bytes ++ drop r₁ text
+    → r₂ ≡ length (printOf rules bytes) → Front r₂ text₂ → text₂ ≡ printOf rules bytes ++ drop r₂ text
     → (r₁ ≡ r₂) × (text₁ ≡ text₂)
-print-has-one-outcome bytes text r₁ text₁ r₂ text₂ n₁ front₁ p n₂ front₂ q =
-    let same : r₁ ≡ r₂ = one-outcome n₁ n₂ in (same, p ∙ ap (λ (n : ℕ). printOf bytes ++ drop n text) same ∙ sym q)
+print-has-one-outcome rules bytes text r₁ text₁ r₂ text₂ n₁ front₁ p n₂ front₂ q =
+    let same : r₁ ≡ r₂ = one-outcome n₁ n₂ in (same, p ∙ ap (λ (n : ℕ). printOf rules bytes ++ drop n text) same ∙ sym q)
 
 pub write-state-has-one-outcome : (s : GraphicsState) (words words₁ words₂ : List ℕ) → words₁ ≡ written s words → words₂ ≡ written s words → words₁ ≡ words₂
 write-state-has-one-outcome s words words₁ words₂ p q = one-outcome p q

@@ -1,13 +1,14 @@
 -- What is read can be held by a record of the newest edition, where that has 24 KiB at most: `read-keepable` holds of every byte string that `readOf`
 -- keeps. Assumes nothing.
 use mathlib.Core.List.{List, [], _∷_}
-use mathlib.Core.Path.{_≡_, subst}
+use mathlib.Core.Path.{_≡_, subst, ap, sym}
 use Prim.Native.Nat.{_%_, _*_, _+_, _<_, _≤_, _^_, ℕ}
 use native.Mathlib.Omega.{arith}
 use mir.Facts.{sfits-toZ}
 use mir.Syntax.{w32}
 use mir.Val.{SFits}
 use lib.ListN.{getD}
+use Rattle.rules.specs.declared.Rules.the-variants.{FreeType}
 use Rattle.int.specs.Word.{ofBits}
 use Rattle.state_words.specs.Words.{stateOf}
 use Rattle.words.specs.Lists.{endsOf, flagsOf, numbersOf, part}
@@ -111,6 +112,11 @@ by-verdict bytes f (Damaged why) h e = absurd (refused-or-kept e)
 pub read-widths : (bytes : List ℕ) → Bytes bytes → (h : Held) → readOf bytes ≡ Kept h → HeldInWidth h
 read-widths bytes f h e = by-verdict bytes f (openOf bytes) h e
 
+-- and no rules but those that every record is read under
+rules-read : (bytes : List ℕ) (o : Opened) (h : Held) → readAs bytes o ≡ Kept h → h .fixed .rules ≡ FreeType
+rules-read bytes (Whole l) h e = let g : heldIn bytes l ≡ h = cc e in ap (λ (k : Held). k .fixed .rules) (sym g)
+rules-read bytes (Damaged why) h e = absurd (refused-or-kept e)
+
 -- and can be held by a record, where the newest edition has room for it
 pub read-keepable : (bytes : List ℕ) → Bytes bytes → (h : Held) → readOf bytes ≡ Kept h → recordSize (layoutFor h) ≤ mostBytes → Keepable h
-read-keepable bytes f h e short = record { sizes = whence bytes h e .fit; short = short; widths = read-widths bytes f h e }
+read-keepable bytes f h e short = record { rules = rules-read bytes (openOf bytes) h e; sizes = whence bytes h e .fit; short = short; widths = read-widths bytes f h e }

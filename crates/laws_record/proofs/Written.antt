@@ -15,6 +15,7 @@ use Rattle.record_read.specs.Format.{Held, bodyWords, glyphWords, layoutFor, tr
 use Rattle.record_layout.specs.Order.{listPlace}
 use Rattle.record_read.specs.Read.{heldIn, keptIn, stateIn}
 use Rattle.record_layout.specs.declared.Layout.{Layout}
+use Rattle.rules.specs.declared.Rules.{Rules}
 use Rattle.line.specs.World.{Alike, fixed, world}
 use Rattle.line.proofs.Alike.{fits-alike}
 use Rattle.laws_record.proofs.Keepable.{Keepable}
@@ -27,11 +28,11 @@ state-count s = refl
 pub joined-long : (xs ys : List ℕ) {m n : ℕ} → length xs ≡ m → length ys ≡ n → length (xs ++ ys) ≡ m + n
 joined-long xs ys e g = length-append xs ys ∙ ap₂ (λ (a b : ℕ). a + b) e g
 
-abbrev held : GraphicsState → List ℤ → List ℤ → List ℤ → List ℤ → List ℤ → List ℤ → List ℕ → List ℕ → List ℤ → List ℤ → List ℤ → List ℤ → List ℕ → List ℤ → List ℤ → Held
-held s x0 x1 x2 x3 x4 x5 x6 x7 x8 x9 x10 x11 x12 x13 x14 = record { fixed = fixed x13 x0 x1 x2 x3 x7; sheet = x14; world = world s x4 x5 x6 x8 x9 x10 x11 x12 }
+abbrev held : Rules → GraphicsState → List ℤ → List ℤ → List ℤ → List ℤ → List ℤ → List ℤ → List ℕ → List ℕ → List ℤ → List ℤ → List ℤ → List ℤ → List ℕ → List ℤ → List ℤ → Held
+held r s x0 x1 x2 x3 x4 x5 x6 x7 x8 x9 x10 x11 x12 x13 x14 = record { fixed = fixed r x13 x0 x1 x2 x3 x7; sheet = x14; world = world s x4 x5 x6 x8 x9 x10 x11 x12 }
 
-same-held : {s s′ : GraphicsState} {x0 y0 : List ℤ} {x1 y1 : List ℤ} {x2 y2 : List ℤ} {x3 y3 : List ℤ} {x4 y4 : List ℤ} {x5 y5 : List ℤ} {x6 y6 : List ℕ} {x7 y7 : List ℕ} {x8 y8 : List ℤ} {x9 y9 : List ℤ} {x10 y10 : List ℤ} {x11 y11 : List ℤ} {x12 y12 : List ℕ} {x13 y13 : List ℤ} {x14 y14 : List ℤ} → s ≡ s′ → x0 ≡ y0 → x1 ≡ y1 → x2 ≡ y2 → x3 ≡ y3 → x4 ≡ y4 → x5 ≡ y5 → x6 ≡ y6 → x7 ≡ y7 → x8 ≡ y8 → x9 ≡ y9 → x10 ≡ y10 → x11 ≡ y11 → x12 ≡ y12 → x13 ≡ y13 → x14 ≡ y14 → held s x0 x1 x2 x3 x4 x5 x6 x7 x8 x9 x10 x11 x12 x13 x14 ≡ held s′ y0 y1 y2 y3 y4 y5 y6 y7 y8 y9 y10 y11 y12 y13 y14
-same-held e e0 e1 e2 e3 e4 e5 e6 e7 e8 e9 e10 e11 e12 e13 e14 = cc
+same-held : {r r′ : Rules} {s s′ : GraphicsState} {x0 y0 : List ℤ} {x1 y1 : List ℤ} {x2 y2 : List ℤ} {x3 y3 : List ℤ} {x4 y4 : List ℤ} {x5 y5 : List ℤ} {x6 y6 : List ℕ} {x7 y7 : List ℕ} {x8 y8 : List ℤ} {x9 y9 : List ℤ} {x10 y10 : List ℤ} {x11 y11 : List ℤ} {x12 y12 : List ℕ} {x13 y13 : List ℤ} {x14 y14 : List ℤ} → r ≡ r′ → s ≡ s′ → x0 ≡ y0 → x1 ≡ y1 → x2 ≡ y2 → x3 ≡ y3 → x4 ≡ y4 → x5 ≡ y5 → x6 ≡ y6 → x7 ≡ y7 → x8 ≡ y8 → x9 ≡ y9 → x10 ≡ y10 → x11 ≡ y11 → x12 ≡ y12 → x13 ≡ y13 → x14 ≡ y14 → held r s x0 x1 x2 x3 x4 x5 x6 x7 x8 x9 x10 x11 x12 x13 x14 ≡ held r′ s′ y0 y1 y2 y3 y4 y5 y6 y7 y8 y9 y10 y11 y12 y13 y14
+same-held d e e0 e1 e2 e3 e4 e5 e6 e7 e8 e9 e10 e11 e12 e13 e14 = cc
 
 module _ (h : Held) (k : Keepable h) (fit : Words (wordsOf h)) where
   alike : Alike (h .fixed) (h .world)
@@ -366,4 +367,4 @@ module _ (h : Held) (k : Keepable h) (fit : Words (wordsOf h)) where
 
     -- the state and every list stand where the layout says
     pub read-as-written : heldIn b (layoutFor h) ≡ h
-    read-as-written = same-held state-read unscaledX-read unscaledY-read originalX-read originalY-read currentX-read currentY-read flags-read ends-read twilightOriginalX-read twilightOriginalY-read twilightX-read twilightY-read twilightFlags-read controls-read sheet-read
+    read-as-written = same-held (sym (k .rules)) state-read unscaledX-read unscaledY-read originalX-read originalY-read currentX-read currentY-read flags-read ends-read twilightOriginalX-read twilightOriginalY-read twilightX-read twilightY-read twilightFlags-read controls-read sheet-read

@@ -14,6 +14,7 @@ use Rattle.graphics.specs.declared.GraphicsState.{GraphicsState}
 use Rattle.answer.specs.declared.Refusal.the-variants.{Point}
 use Rattle.run_lines.specs.Onward.{Ran, detailOfAnswer, ends, numberOfAnswer, onCall, replayOf}
 use Rattle.contour_ends.specs.Ends.{risingFrom}
+use Rattle.rules.specs.declared.Rules.the-variants.{FreeType}
 use Rattle.replay.specs.Run.{entryOf, onEntry, runOf}
 use Rattle.line.specs.Sizes.{fits}
 use Rattle.run_step.specs.Step.{onDecoded, stepOf}
@@ -83,7 +84,7 @@ abbrev pub heights : List ℤ
 heights = three (pos 40) (pos 100) (pos 130)
 
 abbrev pub glyph : Fixed
-glyph = fixed [] zeros heights zeros heights (2 ∷ [])
+glyph = fixed FreeType [] zeros heights zeros heights (2 ∷ [])
 
 -- every x 0, and no twilight points
 abbrev pub holding : GraphicsState → List ℤ → List ℕ → World

@@ -5,6 +5,7 @@ use Prim.Native.Nat.{_<_, ℕ}
 use native.Mathlib.Omega.{arith}
 use lib.IntN.{pos}
 use mir.Facts.{sfits-lit}
+use Rattle.rules.specs.declared.Rules.the-variants.{FreeType}
 use Rattle.graphics.specs.State.{xAxis, yAxis}
 use Rattle.line.specs.Sizes.{fits}
 use Rattle.line.specs.World.{World}
@@ -43,6 +44,7 @@ flags-fit = let one : 1 < 256 = omega arith in one-word one (one-word one (one-w
 pub sample-keepable : Keepable sample
 unfolding fits glyphFits twilightFits pairFits placedFits
 sample-keepable = record {
+  rules = refl;
   sizes = refl;
   short = omega arith;
   widths = record {
@@ -81,18 +83,18 @@ sample-reads = kept-as-written sample sample-keepable
 
 -- ---- its replay
 -- with the budget of its seven words the run is that of three lines
-pub sample-after : after sample .world ≡ holding (stateWith yAxis 0 0 0 false) (three (pos 64) (pos 124) (pos 154)) (flags 5 1 1)
+pub sample-after : after FreeType sample .world ≡ holding (stateWith yAxis 0 0 0 false) (three (pos 64) (pos 124) (pos 154)) (flags 5 1 1)
 sample-after =
     let run = numbers .run-3 in
     ap (λ (r : Ran). r .world) (finished-runs glyph whole 3 4 0 (atFirst (stateWith xAxis 0 0 0 false)) (ap (λ (r : Ran). r .answer) run) ∙ run)
 
 -- which leaves another record
-pub sample-moves : after sample ≡ sample → ⊥
+pub sample-moves : after FreeType sample ≡ sample → ⊥
 sample-moves e =
     let y : three (pos 64) (pos 124) (pos 154) ≡ heights = ap (λ (w : World). w .gy) (sym sample-after) ∙ ap (λ (h : Held). h .world .gy) e in
     let z : _≡_ {A = ℕ} 64 40 = cc y in
     omega arith
 
 -- and reads back as that, written over the first
-pub sample-replayed : readOf (written (shelfOf (recordOf sample) (recordOf sample))) ≡ Kept (after sample)
-sample-replayed = replayed-reads (recordOf sample) (recordOf sample) sample (record-bytes sample) sample-reads (omega arith) (omega (arith, record-long sample sample-keepable))
+pub sample-replayed : readOf (written (shelfOf FreeType (recordOf sample) (recordOf sample))) ≡ Kept (after FreeType sample)
+sample-replayed = replayed-reads FreeType (recordOf sample) (recordOf sample) sample (record-bytes sample) sample-reads (omega arith) (omega (arith, record-long sample sample-keepable))

@@ -22,7 +22,10 @@ use Rattle.line_isect.specs.Isect.{isectOf, putTouched}
 use Rattle.line_iup.specs.Iup.{iupLineOf, markedFor, walkedIn}
 use Rattle.line_miap.specs.Numbers.{controlPlace}
 use Rattle.line_mirp.specs.Mirp.{mirpPlace}
-use Rattle.line_msirp.specs.Msirp.{madePlace}
+use Rattle.line.specs.Places.{placeIn}
+use Rattle.rules.specs.declared.Rules.the-variants.{FreeType, Skrifa}
+use Rattle.rules.specs.declared.Rules.{Rules}
+use Rattle.line_msirp.specs.Msirp.{madeFrom, madePlace}
 use Rattle.line_relative.specs.Relative.{relatedBy}
 use Rattle.line_steps.specs.Loop.{points}
 use Rattle.line_steps.specs.Steps.{flagsIn, inState, madeIn}
@@ -34,7 +37,7 @@ use Rattle.line.specs.Operands.{isOdd}
 use Rattle.flags.specs.Flag.{touchBits}
 use Rattle.flags.specs.declared.Axis.the-variants.{X, Y}
 use Rattle.flags.specs.declared.CoordAxis.the-variants.{Both}
-use Rattle.record_read.proofs.Widths.{InWidth, StateInWidth}
+use Rattle.record_read.proofs.Widths.{FixedInWidth, InWidth, StateInWidth}
 use Rattle.state_words.proofs.Back.{VectorFits}
 use Rattle.words.proofs.Widths.{Below, every-set}
 use Rattle.line.specs.World.{Fixed, World}
@@ -84,6 +87,15 @@ made-place-fits v d p f =
     by true z d h = add32-fits z d
     by false z d h = h
 
+from-fits : (rules : Rules) {own reference : Vector} → VectorFits own → VectorFits reference → VectorFits (madeFrom rules own reference)
+from-fits Skrifa h k = h
+from-fits FreeType h k = k
+
+place-in-fits : {f : Fixed} {w : World} → FixedInWidth f → InWidth w → (at : ℕ) (zone : ZonePointer) → VectorFits (placeIn at (f .gox) (f .goy) (w .tox) (w .toy) zone)
+unfolding placeIn
+place-in-fits o k at Glyph = place-fits (o .gox) (o .goy) at
+place-in-fits o k at Twilight = place-fits (k .tox) (k .toy) at
+
 mirp-place-fits : (freedom : Vector) (control : ℤ) (reference : Vector) → VectorFits (mirpPlace freedom control reference)
 unfolding mirpPlace
 mirp-place-fits freedom control reference = (add32-fits (reference .x) _, add32-fits (reference .y) _)
@@ -103,12 +115,12 @@ flags-fit : (w : World) (m : Marked) → Below 256 (m .flags) → InWidth w → 
 flags-fit w m f k = record { state = k .state; gx = k .gx; gy = k .gy; gflags = f; tox = k .tox; toy = k .toy; tx = k .tx; ty = k .ty; tflags = k .tflags }
 
 -- a point's number that becomes a reference has 64 bits
-pub stays-in-width : (s : GraphicsState) → Stays s (λ (at : ℕ). at < 2 ^ 64) InWidth
-stays-in-width s = record {
+pub stays-in-width : (f : Fixed) → FixedInWidth f → (s : GraphicsState) → Stays f s (λ (at : ℕ). at < 2 ^ 64) InWidth
+stays-in-width f o s = record {
   by-distance = λ zone d at w k. laid-fits zone (moveOf (s .vectors) (s .facts) d) (move-small (s .vectors) (s .facts) d) at w k;
   by-shift = λ zone dx dy touches at w k. laid-fits zone (zp2MoveOf (s .vectors) (s .facts) dx dy touches) (zp2-small (s .vectors) (s .facts) dx dy touches) at w k;
   by-control = λ control at zone w k. made-fits at (controlPlace (s .vectors .freedom) control) (control-fits (s .vectors .freedom) control) zone w k;
-  from-original = λ d at zone w k. made-fits at (madePlace (s .vectors) d (placeOf (w .tox) (w .toy) at)) (made-place-fits (s .vectors) d (placeOf (w .tox) (w .toy) at) (place-fits (k .tox) (k .toy) at)) zone w k;
+  from-original = λ d zp0 rp0 at zone w k. made-fits at (madePlace (s .vectors) d (madeFrom (f .rules) (placeOf (w .tox) (w .toy) at) (placeIn rp0 (f .gox) (f .goy) (w .tox) (w .toy) zp0))) (made-place-fits (s .vectors) d _ (from-fits (f .rules) (place-fits (k .tox) (k .toy) at) (place-in-fits o k rp0 zp0))) zone w k;
   from-reference = λ control reference at zone w k. made-fits at (mirpPlace (s .vectors .freedom) control reference) (mirp-place-fits (s .vectors .freedom) control reference) zone w k;
   flipped = λ at w k. flags-fit w (flipOf (w .gflags) at) (flip-fits (k .gflags) at) k;
   ranged = λ start end on w k. flags-fit w (setOnCurveOf (w .gflags) start end on) (on-curve-fits (k .gflags) start end on) k;

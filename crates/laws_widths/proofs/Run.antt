@@ -18,7 +18,7 @@ use Rattle.opcodes.specs.Decode.{decodeOf}
 use Rattle.opcodes.specs.Table.{lineOf}
 use Rattle.opcodes.specs.declared.Decoded.the-variants.{Operands, Refused as RefusedLine}
 use Rattle.opcodes.specs.declared.Decoded.{Decoded}
-use Rattle.record_read.proofs.Widths.{InWidth}
+use Rattle.record_read.proofs.Widths.{FixedInWidth, InWidth}
 use Rattle.replay.specs.Run.{entered, onEntry, runOf}
 use Rattle.run_step.specs.Step.{onDecoded, stepOf}
 use Rattle.words.proofs.Widths.{Numbers, every-drop, every-take}
@@ -32,19 +32,19 @@ set-in-width : (f : Fixed) (op : ℕ) {operands : List ℤ} → Numbers operands
 unfolding setOf
 set-in-width f op {operands} o w k = in-state-fits w (setBy (w .state) op operands .state) (set-within (k .state) op o) k
 
-pub line-in-width : (f : Fixed) (op : ℕ) {operands : List ℤ} → Numbers operands → {w : World} → InWidth w → InWidth (lineOf f op operands w .world)
-line-in-width f op {operands} o {w} k =
-    line-leaves (SFits w32) (λ (at : ℕ). at < 2 ^ 64) (λ z h. index-fits h) (λ op f w. InWidth w) (λ u w. InWidth w) (λ op f w g. g) (λ op f w g. stays-in-width (w .state))
-    (λ op f operands w g o. set-in-width f op o w g)
-    (λ op h f operands w g o. isect-in-width f op operands w g)
-    (λ op h f operands w g o. iup-in-width f op operands w g)
-    op f operands w k o
+pub line-in-width : (f : Fixed) → FixedInWidth f → (op : ℕ) {operands : List ℤ} → Numbers operands → {w : World} → InWidth w → InWidth (lineOf f op operands w .world)
+line-in-width f x op {operands} o {w} k =
+    line-leaves (SFits w32) (λ (at : ℕ). at < 2 ^ 64) (λ z h. index-fits h) (λ op f w. FixedInWidth f × InWidth w) (λ u w. InWidth w) (λ op f w g. g .1) (λ op f w g. stays-in-width f (g .0) (w .state))
+    (λ op f operands w g o. set-in-width f op o w (g .1))
+    (λ op h f operands w g o. isect-in-width f op operands w (g .1))
+    (λ op h f operands w g o. iup-in-width f op operands w (g .1))
+    op f operands w (x, k) o
 
 -- ---- a step: a line's operands are a part of the sheet
-module _ (f : Fixed) {sheet : List ℤ} (o : Numbers sheet) where
+module _ (f : Fixed) (x : FixedInWidth f) {sheet : List ℤ} (o : Numbers sheet) where
   decoded-in-width : (at : ℕ) (w : World) → InWidth w → (d : Decoded) → InWidth (onDecoded f sheet at w d .world)
   unfolding onDecoded
-  decoded-in-width at w k (Operands op first end) = line-in-width f op (every-take (every-drop o first) (end - first)) k
+  decoded-in-width at w k (Operands op first end) = line-in-width f x op (every-take (every-drop o first) (end - first)) k
   decoded-in-width at w k (RefusedLine why) = k
 
   pub step-in-width : (at : ℕ) (w : World) → InWidth w → InWidth (stepOf f sheet at w .world)
@@ -58,24 +58,24 @@ unfolding onCall
 call-in-width lines place v Done rest k keeps = keeps place
 call-in-width lines place v (RefusedCall why) rest k keeps = k
 
-module _ (f : Fixed) {sheet : List ℤ} (o : Numbers sheet) where
+module _ (f : Fixed) (x : FixedInWidth f) {sheet : List ℤ} (o : Numbers sheet) where
   pub replay-in-width : (budget lines at : ℕ) (w : World) → InWidth w → InWidth (replayOf f sheet budget lines at w .world)
   unfolding replayOf
   replay-in-width zero lines at w k = either (λ (r : Ran). InWidth (r .world)) (ltb at (length sheet)) k k
   replay-in-width (suc budget) lines at w k =
       let g = stepOf f sheet at w in
-      let v = step-in-width f o at w k in
+      let v = step-in-width f x o at w k in
       either (λ (r : Ran). InWidth (r .world)) (ltb at (length sheet))
       (call-in-width lines (g .place) (g .world) (g .call) (replayOf f sheet budget (suc lines)) v (λ p. replay-in-width budget (suc lines) p (g .world) v))
       k
 
 -- the public run, which needs no premise on the sizes: where its entry refuses, the world is the one given
-entry-in-width : (f : Fixed) (sheet : List ℤ) (budget start : ℕ) (w : World) → Numbers sheet → InWidth w → (begun : Call)
+entry-in-width : (f : Fixed) (sheet : List ℤ) (budget start : ℕ) (w : World) → FixedInWidth f → Numbers sheet → InWidth w → (begun : Call)
     → InWidth (onEntry f sheet budget start w begun .world)
 unfolding onEntry
-entry-in-width f sheet budget start w o k Done = replay-in-width f o budget 0 start w k
-entry-in-width f sheet budget start w o k (RefusedCall why) = k
+entry-in-width f sheet budget start w x o k Done = replay-in-width f x o budget 0 start w k
+entry-in-width f sheet budget start w x o k (RefusedCall why) = k
 
-pub run-in-width : (f : Fixed) (sheet : List ℤ) (budget start : ℕ) (w : World) → Numbers sheet → InWidth w → InWidth (runOf f sheet budget start w .world)
+pub run-in-width : (f : Fixed) (sheet : List ℤ) (budget start : ℕ) (w : World) → FixedInWidth f → Numbers sheet → InWidth w → InWidth (runOf f sheet budget start w .world)
 unfolding runOf
-run-in-width f sheet budget start w o k = entry-in-width f sheet budget start w o k (entered f sheet start w)
+run-in-width f sheet budget start w x o k = entry-in-width f sheet budget start w x o k (entered f sheet start w)

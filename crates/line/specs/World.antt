@@ -9,10 +9,12 @@ use lib.ListN.{length}
 use Rattle.answer.specs.declared.Call.{Call}
 use Rattle.contour_ends.specs.Ends.{endsRise}
 use Rattle.graphics.specs.declared.GraphicsState.{GraphicsState}
+use Rattle.rules.specs.declared.Rules.{Rules}
 use Rattle.line.specs.declared.Stepped.{Stepped}
 
--- the control values, the glyph's unscaled and original points, and its contours' ends
+-- the rules by their name, the control values, the glyph's unscaled and original points, and its contours' ends
 pub record Fixed : Type 0 where
+  pub rules : Rules
   pub controls : List ℤ
   pub gux : List ℤ
   pub guy : List ℤ
@@ -20,8 +22,12 @@ pub record Fixed : Type 0 where
   pub goy : List ℤ
   pub contours : List ℕ
 
-abbrev pub fixed : List ℤ → List ℤ → List ℤ → List ℤ → List ℤ → List ℕ → Fixed
-fixed controls gux guy gox goy contours = record { controls = controls; gux = gux; guy = guy; gox = gox; goy = goy; contours = contours }
+abbrev pub fixed : Rules → List ℤ → List ℤ → List ℤ → List ℤ → List ℤ → List ℕ → Fixed
+fixed rules controls gux guy gox goy contours = record { rules = rules; controls = controls; gux = gux; guy = guy; gox = gox; goy = goy; contours = contours }
+
+-- the same under other rules
+abbrev pub under : Rules → Fixed → Fixed
+under rules f = fixed rules (f .controls) (f .gux) (f .guy) (f .gox) (f .goy) (f .contours)
 
 -- the state, the glyph's current points and flags, and the twilight zone
 pub record World : Type 0 where

@@ -23,6 +23,7 @@ ghost use Rattle.line.specs.Line.{doneWith, refusedWith};
 ghost use Rattle.line.specs.Operands.{isOdd, indexAt};
 ghost use Rattle.line.specs.Places.{placeIn, fetchIn, sizeOf, pair, putAt};
 ghost use Rattle.line.specs.Sizes.{fits};
+ghost use Rattle.rules.specs.declared.Rules.{Rules};
 ghost use Rattle.line.specs.World.{fixed};
 ghost use Rattle.zone.specs.Zone.{placeOf};
 
@@ -156,7 +157,7 @@ pub fn sizes_fit(
     ty: &[i32],
     tflags: &[u8],
 ) -> bool
-    ensures { λ r. ⌜ r ≡ fits (fixed (now (controls .entry)) (now (gux .entry)) (now (guy .entry)) (now (gox .entry)) (now (goy .entry)) (now (contours .entry))) (now (sheet .entry)) (now (gx .entry)) (now (gy .entry)) (now (gflags .entry)) (now (tox .entry)) (now (toy .entry)) (now (tx .entry)) (now (ty .entry)) (now (tflags .entry)) ⌝ }
+    ensures { λ r. ⌜ ((rules : Rules) → r ≡ fits (fixed rules (now (controls .entry)) (now (gux .entry)) (now (guy .entry)) (now (gox .entry)) (now (goy .entry)) (now (contours .entry))) (now (sheet .entry)) (now (gx .entry)) (now (gy .entry)) (now (gflags .entry)) (now (tox .entry)) (now (toy .entry)) (now (tx .entry)) (now (ty .entry)) (now (tflags .entry))) ⌝ }
 {
     glyph_fits(gux, guy, gox, goy, gx, gy, gflags, contours)
         & twilight_fits(tox, toy, tx, ty, tflags)

@@ -18,6 +18,7 @@ ghost use lib.IntN.{ℤ};
 ghost use lib.ListN.{length};
 ghost use Rattle.contour_ends.specs.Ends.{endsRise};
 ghost use Rattle.graphics.specs.declared.GraphicsState.{GraphicsState};
+ghost use Rattle.rules.specs.declared.Rules.{Rules};
 ghost use Rattle.line.specs.World.{fixed, lined, world};
 ghost use Rattle.line_iup.specs.Iup.{iupLineOf, markedFor, walkedIn};
 
@@ -50,7 +51,7 @@ fn walk_on(
     contours: &[u16],
 )
     requires { ⌜ (length (now gux) ≡ length (now gx)) × (length (now guy) ≡ length (now gx)) × (length (now gox) ≡ length (now gx)) × (length (now goy) ≡ length (now gx)) × (length (now gy) ≡ length (now gx)) × (length (now gflags) ≡ length (now gx)) × (endsRise (length (now gx)) (now contours) ≡ true) ⌝ }
-    ensures { λ _. ⌜ ((s : GraphicsState) (controls tox toy tx ty : List ℤ) (tflags : List ℕ) → world s (now (gx .exit)) (now (gy .exit)) (now (gflags .entry)) tox toy tx ty tflags ≡ walkedIn (fixed controls (now (gux .entry)) (now (guy .entry)) (now (gox .entry)) (now (goy .entry)) (now (contours .entry))) (world s (now (gx .entry)) (now (gy .entry)) (now (gflags .entry)) tox toy tx ty tflags) x) ⌝ }
+    ensures { λ _. ⌜ ((s : GraphicsState) (rules : Rules) (controls tox toy tx ty : List ℤ) (tflags : List ℕ) → world s (now (gx .exit)) (now (gy .exit)) (now (gflags .entry)) tox toy tx ty tflags ≡ walkedIn (fixed rules controls (now (gux .entry)) (now (guy .entry)) (now (gox .entry)) (now (goy .entry)) (now (contours .entry))) (world s (now (gx .entry)) (now (gy .entry)) (now (gflags .entry)) tox toy tx ty tflags) x) ⌝ }
 {
     if x {
         iup::iup(gux, gox, gx, gflags, contours, Axis::X);
@@ -73,7 +74,7 @@ pub fn iup(
     contours: &[u16],
 ) -> Stepped
     requires { ⌜ (length (now gux) ≡ length (now gx)) × (length (now guy) ≡ length (now gx)) × (length (now gox) ≡ length (now gx)) × (length (now goy) ≡ length (now gx)) × (length (now gy) ≡ length (now gx)) × (length (now gflags) ≡ length (now gx)) × (endsRise (length (now gx)) (now contours) ≡ true) ⌝ }
-    ensures { λ r. ⌜ ((controls operands tox toy tx ty : List ℤ) (tflags : List ℕ) → lined r (now (gx .exit)) (now (gy .exit)) (now (gflags .entry)) tox toy tx ty tflags ≡ iupLineOf (fixed controls (now (gux .entry)) (now (guy .entry)) (now (gox .entry)) (now (goy .entry)) (now (contours .entry))) opcode operands (world s (now (gx .entry)) (now (gy .entry)) (now (gflags .entry)) tox toy tx ty tflags)) ⌝ }
+    ensures { λ r. ⌜ ((rules : Rules) (controls operands tox toy tx ty : List ℤ) (tflags : List ℕ) → lined r (now (gx .exit)) (now (gy .exit)) (now (gflags .entry)) tox toy tx ty tflags ≡ iupLineOf (fixed rules controls (now (gux .entry)) (now (guy .entry)) (now (gox .entry)) (now (goy .entry)) (now (contours .entry))) opcode operands (world s (now (gx .entry)) (now (gy .entry)) (now (gflags .entry)) tox toy tx ty tflags)) ⌝ }
 {
     let facts = s.facts;
     if facts.past_both_iups() {

@@ -31,6 +31,7 @@ ghost use mathlib.Core.List.{List};
 ghost use Prim.Native.Nat.{ℕ};
 ghost use lib.IntN.{ℤ};
 ghost use lib.ListN.{length};
+ghost use Rattle.rules.specs.declared.Rules.{Rules};
 ghost use Rattle.line.specs.World.{fixed, lined, world};
 ghost use Rattle.line_mdrp.specs.Mdrp.{mdrpDistance, mdrpOf};
 
@@ -67,7 +68,7 @@ pub fn mdrp(
     tflags: &mut [u8],
 ) -> Stepped
     requires { ⌜ (length (now gy) ≡ length (now gx)) × (length (now gflags) ≡ length (now gx)) × (length (now ty) ≡ length (now tx)) × (length (now tflags) ≡ length (now tx)) ⌝ }
-    ensures { λ r. ⌜ ((controls : List ℤ) (contours : List ℕ) → lined r (now (gx .exit)) (now (gy .exit)) (now (gflags .exit)) (now (tox .entry)) (now (toy .entry)) (now (tx .exit)) (now (ty .exit)) (now (tflags .exit)) ≡ mdrpOf (fixed controls (now (gux .entry)) (now (guy .entry)) (now (gox .entry)) (now (goy .entry)) contours) opcode (now (operands .entry)) (world s (now (gx .entry)) (now (gy .entry)) (now (gflags .entry)) (now (tox .entry)) (now (toy .entry)) (now (tx .entry)) (now (ty .entry)) (now (tflags .entry)))) ⌝ }
+    ensures { λ r. ⌜ ((rules : Rules) (controls : List ℤ) (contours : List ℕ) → lined r (now (gx .exit)) (now (gy .exit)) (now (gflags .exit)) (now (tox .entry)) (now (toy .entry)) (now (tx .exit)) (now (ty .exit)) (now (tflags .exit)) ≡ mdrpOf (fixed rules controls (now (gux .entry)) (now (guy .entry)) (now (gox .entry)) (now (goy .entry)) contours) opcode (now (operands .entry)) (world s (now (gx .entry)) (now (gy .entry)) (now (gflags .entry)) (now (tox .entry)) (now (toy .entry)) (now (tx .entry)) (now (ty .entry)) (now (tflags .entry)))) ⌝ }
 {
     if operands.len() < 1 {
         return refused(s, Refusal::Missing);

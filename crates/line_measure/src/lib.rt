@@ -28,6 +28,7 @@ ghost use Prim.Native.Nat.{ℕ};
 ghost use lib.Dec.{ltb};
 ghost use lib.IntN.{ℤ};
 ghost use lib.ListN.{length};
+ghost use Rattle.rules.specs.declared.Rules.{Rules};
 ghost use Rattle.line.specs.World.{World, fixed, lined, world};
 ghost use Rattle.line_steps.specs.Steps.{inState, into};
 ghost use Rattle.line_measure.specs.Measure.{gcOf, mdOf, zeroOr};
@@ -152,7 +153,7 @@ pub fn gc(
     ty: &[i32],
 ) -> Stepped
     requires { ⌜ (length (now goy) ≡ length (now gox)) × (length (now gy) ≡ length (now gx)) × (length (now toy) ≡ length (now tox)) × (length (now ty) ≡ length (now tx)) ⌝ }
-    ensures { λ r. ⌜ ((controls gux guy : List ℤ) (contours gflags tflags : List ℕ) → lined r (now (gx .entry)) (now (gy .entry)) gflags (now (tox .entry)) (now (toy .entry)) (now (tx .entry)) (now (ty .entry)) tflags ≡ gcOf (fixed controls gux guy (now (gox .entry)) (now (goy .entry)) contours) opcode (now (operands .entry)) (world s (now (gx .entry)) (now (gy .entry)) gflags (now (tox .entry)) (now (toy .entry)) (now (tx .entry)) (now (ty .entry)) tflags)) ⌝ }
+    ensures { λ r. ⌜ ((rules : Rules) (controls gux guy : List ℤ) (contours gflags tflags : List ℕ) → lined r (now (gx .entry)) (now (gy .entry)) gflags (now (tox .entry)) (now (toy .entry)) (now (tx .entry)) (now (ty .entry)) tflags ≡ gcOf (fixed rules controls gux guy (now (gox .entry)) (now (goy .entry)) contours) opcode (now (operands .entry)) (world s (now (gx .entry)) (now (gy .entry)) gflags (now (tox .entry)) (now (toy .entry)) (now (tx .entry)) (now (ty .entry)) tflags)) ⌝ }
 {
     if operands.len() < 1 {
         return refused(s, Refusal::Missing);
@@ -183,7 +184,7 @@ pub fn md(
     ty: &[i32],
 ) -> Stepped
     requires { ⌜ (length (now goy) ≡ length (now gox)) × (length (now gy) ≡ length (now gx)) × (length (now toy) ≡ length (now tox)) × (length (now ty) ≡ length (now tx)) ⌝ }
-    ensures { λ r. ⌜ ((controls : List ℤ) (contours gflags tflags : List ℕ) → lined r (now (gx .entry)) (now (gy .entry)) gflags (now (tox .entry)) (now (toy .entry)) (now (tx .entry)) (now (ty .entry)) tflags ≡ mdOf (fixed controls (now (gux .entry)) (now (guy .entry)) (now (gox .entry)) (now (goy .entry)) contours) opcode (now (operands .entry)) (world s (now (gx .entry)) (now (gy .entry)) gflags (now (tox .entry)) (now (toy .entry)) (now (tx .entry)) (now (ty .entry)) tflags)) ⌝ }
+    ensures { λ r. ⌜ ((rules : Rules) (controls : List ℤ) (contours gflags tflags : List ℕ) → lined r (now (gx .entry)) (now (gy .entry)) gflags (now (tox .entry)) (now (toy .entry)) (now (tx .entry)) (now (ty .entry)) tflags ≡ mdOf (fixed rules controls (now (gux .entry)) (now (guy .entry)) (now (gox .entry)) (now (goy .entry)) contours) opcode (now (operands .entry)) (world s (now (gx .entry)) (now (gy .entry)) gflags (now (tox .entry)) (now (toy .entry)) (now (tx .entry)) (now (ty .entry)) tflags)) ⌝ }
 {
     if operands.len() < 2 {
         return refused(s, Refusal::Missing);

@@ -49,6 +49,7 @@ ghost use lib.ListN.{getD, length};
 ghost use Rattle.graphics.specs.declared.GraphicsState.{GraphicsState};
 ghost use Rattle.int.specs.Word.{add32, indexOf};
 ghost use Rattle.line.specs.Places.{placeIn};
+ghost use Rattle.rules.specs.declared.Rules.{Rules};
 ghost use Rattle.line.specs.World.{fixed, lined, world};
 ghost use Rattle.line_distance.specs.Distance.{chosenOf, cutInOf};
 ghost use Rattle.line_relative.specs.Steps.{reachOf};
@@ -220,7 +221,7 @@ pub fn mirp(
     tflags: &mut [u8],
 ) -> Stepped
     requires { ⌜ (length (now gy) ≡ length (now gx)) × (length (now gflags) ≡ length (now gx)) × (length (now ty) ≡ length (now tx)) × (length (now tflags) ≡ length (now tx)) ⌝ }
-    ensures { λ r. ⌜ ((gux guy : List ℤ) (contours : List ℕ) → lined r (now (gx .exit)) (now (gy .exit)) (now (gflags .exit)) (now (tox .exit)) (now (toy .exit)) (now (tx .exit)) (now (ty .exit)) (now (tflags .exit)) ≡ mirpOf (fixed (now (controls .entry)) gux guy (now (gox .entry)) (now (goy .entry)) contours) opcode (now (operands .entry)) (world s (now (gx .entry)) (now (gy .entry)) (now (gflags .entry)) (now (tox .entry)) (now (toy .entry)) (now (tx .entry)) (now (ty .entry)) (now (tflags .entry)))) ⌝ }
+    ensures { λ r. ⌜ ((rules : Rules) (gux guy : List ℤ) (contours : List ℕ) → lined r (now (gx .exit)) (now (gy .exit)) (now (gflags .exit)) (now (tox .exit)) (now (toy .exit)) (now (tx .exit)) (now (ty .exit)) (now (tflags .exit)) ≡ mirpOf (fixed rules (now (controls .entry)) gux guy (now (gox .entry)) (now (goy .entry)) contours) opcode (now (operands .entry)) (world s (now (gx .entry)) (now (gy .entry)) (now (gflags .entry)) (now (tox .entry)) (now (toy .entry)) (now (tx .entry)) (now (ty .entry)) (now (tflags .entry)))) ⌝ }
 {
     if operands.len() < 2 {
         return refused(s, Refusal::Missing);

@@ -20,22 +20,23 @@ use Rattle.line_steps.specs.Steps.{afterMove, doneIn, madeIn, passedOver, refus
 use Rattle.moves.specs.Apply.{BothMoved, applyIn}
 use Rattle.moves.specs.Move.{moveOf, originalMoveOf}
 use Rattle.moves.specs.declared.Move.{Move}
+use Rattle.line.specs.Places.{placeIn}
 use Rattle.line.specs.Operands.{indexAt, isOdd}
 use Rattle.projection.specs.Projection.{projectOf}
 use Rattle.line.specs.World.{Fixed, Lined, World}
 use Rattle.zone.specs.Zone.{placeOf}
-use Rattle.line_msirp.specs.Msirp.{madePlace, msirpOf}
+use Rattle.line_msirp.specs.Msirp.{madeFrom, madePlace, msirpOf}
 
 -- ---- the twilight point
 abbrev placed : ℤ → ℤ → Vector
 placed x y = record { x = x; y = y }
 
-pub made-from : (v : Vectors) (distance : ℤ) {p original : Vector} {d px py dx dy x y x′ y′ : ℤ} {m : Move} → p ≡ original → d ≡ distance → m ≡ originalMoveOf v d
+pub made-from : (v : Vectors) (distance : ℤ) (p : Vector) {d px py dx dy x y x′ y′ : ℤ} {m : Move} → d ≡ distance → m ≡ originalMoveOf v d
     → px ≡ p .x → dx ≡ m .dx → x ≡ cond (m .«moves_x») (add32 px dx) px → x′ ≡ x
     → py ≡ p .y → dy ≡ m .dy → y ≡ cond (m .«moves_y») (add32 py dy) py → y′ ≡ y
-    → placed x′ y′ ≡ madePlace v distance original
+    → placed x′ y′ ≡ madePlace v distance p
 unfolding madePlace
-made-from v distance ep ed em epx edx ex ex′ epy edy ey ey′ = rw (ex′, ex, ey′, ey, epx, epy, edx, edy, em, ed, ep) refl
+made-from v distance p ed em epx edx ex ex′ epy edy ey ey′ = rw (ex′, ex, ey′, ey, epx, epy, edx, edy, em, ed) refl
 
 -- ---- the distance
 pub distance-from : {distance d p p′ along r r′ : ℤ} → d ≡ distance → p′ ≡ p → p ≡ along → r′ ≡ r → r ≡ sub32 d p′ → r′ ≡ sub32 distance along
@@ -54,7 +55,7 @@ module _ (f : Fixed) (opcode : ℕ) (operands : List ℤ) (w : World) {r : Lined
     msirp-passed t p = two-there w operands _ h (rw (← d, ← j) (looked-up w (passedOver w) at _ (w .state .pointers .zp1) e t p))
 
     pub msirp-moved : (made : World) {place reference : Vector} {by : ℤ} {odd : Bool} {m : Move} {b : BothMoved} → there ≡ Done
-        → made ≡ madeIn at (madePlace (w .state .vectors) distance (placeOf (w .tox) (w .toy) at)) w (w .state .pointers .zp1)
+        → made ≡ madeIn at (madePlace (w .state .vectors) distance (madeFrom (f .rules) (placeOf (w .tox) (w .toy) at) (placeIn (w .state .references .rp0) (f .gox) (f .goy) (w .tox) (w .toy) (w .state .pointers .zp0)))) w (w .state .pointers .zp1)
         → place ≡ placeOn made (w .state .pointers .zp1) at
         → reference ≡ placeOn made (w .state .pointers .zp0) (w .state .references .rp0)
         → by ≡ sub32 distance (projectOf (w .state .vectors) place reference) → m ≡ moveOf (made .state .vectors) (made .state .facts) by

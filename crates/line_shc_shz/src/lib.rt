@@ -21,6 +21,7 @@ ghost use lib.IntN.{ℤ};
 ghost use lib.ListN.{getD, length};
 ghost use Rattle.answer.specs.declared.Refusal.the-variants.{Contour};
 ghost use Rattle.line_steps.specs.Steps.{inState, into, passedOver};
+ghost use Rattle.rules.specs.declared.Rules.{Rules};
 ghost use Rattle.line.specs.World.{World, fixed, lined, world};
 ghost use Rattle.line_shc_shz.specs.Shc.{pointAfter, shcOf, shzOf};
 
@@ -73,7 +74,7 @@ pub fn shc(
     tflags: &mut [u8],
 ) -> Stepped
     requires { ⌜ (length (now goy) ≡ length (now gox)) × (length (now gy) ≡ length (now gx)) × (length (now gflags) ≡ length (now gx)) × (length (now toy) ≡ length (now tox)) × (length (now ty) ≡ length (now tx)) × (length (now tflags) ≡ length (now tx)) ⌝ }
-    ensures { λ r. ⌜ ((controls gux guy : List ℤ) → lined r (now (gx .exit)) (now (gy .exit)) (now (gflags .exit)) (now (tox .entry)) (now (toy .entry)) (now (tx .exit)) (now (ty .exit)) (now (tflags .exit)) ≡ shcOf (fixed controls gux guy (now (gox .entry)) (now (goy .entry)) (now (contours .entry))) opcode (now (operands .entry)) (world s (now (gx .entry)) (now (gy .entry)) (now (gflags .entry)) (now (tox .entry)) (now (toy .entry)) (now (tx .entry)) (now (ty .entry)) (now (tflags .entry)))) ⌝ }
+    ensures { λ r. ⌜ ((rules : Rules) (controls gux guy : List ℤ) → lined r (now (gx .exit)) (now (gy .exit)) (now (gflags .exit)) (now (tox .entry)) (now (toy .entry)) (now (tx .exit)) (now (ty .exit)) (now (tflags .exit)) ≡ shcOf (fixed rules controls gux guy (now (gox .entry)) (now (goy .entry)) (now (contours .entry))) opcode (now (operands .entry)) (world s (now (gx .entry)) (now (gy .entry)) (now (gflags .entry)) (now (tox .entry)) (now (toy .entry)) (now (tx .entry)) (now (ty .entry)) (now (tflags .entry)))) ⌝ }
 {
     if operands.len() < 1 {
         return refused(s, Refusal::Missing);
@@ -129,7 +130,7 @@ pub fn shz(
     tflags: &mut [u8],
 ) -> Stepped
     requires { ⌜ (length (now goy) ≡ length (now gox)) × (length (now gy) ≡ length (now gx)) × (length (now gflags) ≡ length (now gx)) × (length (now toy) ≡ length (now tox)) × (length (now ty) ≡ length (now tx)) × (length (now tflags) ≡ length (now tx)) ⌝ }
-    ensures { λ r. ⌜ ((controls gux guy : List ℤ) → lined r (now (gx .exit)) (now (gy .exit)) (now (gflags .exit)) (now (tox .entry)) (now (toy .entry)) (now (tx .exit)) (now (ty .exit)) (now (tflags .exit)) ≡ shzOf (fixed controls gux guy (now (gox .entry)) (now (goy .entry)) (now (contours .entry))) opcode (now (operands .entry)) (world s (now (gx .entry)) (now (gy .entry)) (now (gflags .entry)) (now (tox .entry)) (now (toy .entry)) (now (tx .entry)) (now (ty .entry)) (now (tflags .entry)))) ⌝ }
+    ensures { λ r. ⌜ ((rules : Rules) (controls gux guy : List ℤ) → lined r (now (gx .exit)) (now (gy .exit)) (now (gflags .exit)) (now (tox .entry)) (now (toy .entry)) (now (tx .exit)) (now (ty .exit)) (now (tflags .exit)) ≡ shzOf (fixed rules controls gux guy (now (gox .entry)) (now (goy .entry)) (now (contours .entry))) opcode (now (operands .entry)) (world s (now (gx .entry)) (now (gy .entry)) (now (gflags .entry)) (now (tox .entry)) (now (toy .entry)) (now (tx .entry)) (now (ty .entry)) (now (tflags .entry)))) ⌝ }
 {
     if operands.len() < 1 {
         return refused(s, Refusal::Missing);

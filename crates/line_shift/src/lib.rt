@@ -33,6 +33,7 @@ ghost use mathlib.Core.Path.{_≡_};
 ghost use lib.IntN.{ℤ};
 ghost use lib.ListN.{length};
 ghost use Rattle.line_steps.specs.Loop.{each, ended, inZone, points, shiftAt, shiftUnlessIdle, zones};
+ghost use Rattle.rules.specs.declared.Rules.{Rules};
 ghost use Rattle.line.specs.World.{Fixed, fixed, lined, world};
 ghost use Rattle.moves.specs.Displacement.{displacedIn};
 ghost use Rattle.line_shift.specs.Shift.{pixelMove, shpOf, shpixOf};
@@ -162,7 +163,7 @@ pub fn shp(
     tflags: &mut [u8],
 ) -> Stepped
     requires { ⌜ (length (now goy) ≡ length (now gox)) × (length (now gy) ≡ length (now gx)) × (length (now gflags) ≡ length (now gx)) × (length (now toy) ≡ length (now tox)) × (length (now ty) ≡ length (now tx)) × (length (now tflags) ≡ length (now tx)) ⌝ }
-    ensures { λ r. ⌜ ((controls gux guy : List ℤ) (contours : List ℕ) → lined r (now (gx .exit)) (now (gy .exit)) (now (gflags .exit)) (now (tox .entry)) (now (toy .entry)) (now (tx .exit)) (now (ty .exit)) (now (tflags .exit)) ≡ shpOf (fixed controls gux guy (now (gox .entry)) (now (goy .entry)) contours) opcode (now (operands .entry)) (world s (now (gx .entry)) (now (gy .entry)) (now (gflags .entry)) (now (tox .entry)) (now (toy .entry)) (now (tx .entry)) (now (ty .entry)) (now (tflags .entry)))) ⌝ }
+    ensures { λ r. ⌜ ((rules : Rules) (controls gux guy : List ℤ) (contours : List ℕ) → lined r (now (gx .exit)) (now (gy .exit)) (now (gflags .exit)) (now (tox .entry)) (now (toy .entry)) (now (tx .exit)) (now (ty .exit)) (now (tflags .exit)) ≡ shpOf (fixed rules controls gux guy (now (gox .entry)) (now (goy .entry)) contours) opcode (now (operands .entry)) (world s (now (gx .entry)) (now (gy .entry)) (now (gflags .entry)) (now (tox .entry)) (now (toy .entry)) (now (tx .entry)) (now (ty .entry)) (now (tflags .entry)))) ⌝ }
 {
     let vectors = s.vectors;
     let facts = s.facts;

@@ -1,14 +1,41 @@
-// Standard input and output of a program that takes a record.
+// Standard input and output of a program that takes a record, and the rules that its argument names.
 //
 // A read that fails (a directory, a closed input, an error of the device) is told apart from the end of the input: what was read before it is no record.
 // What is written is written at once, and what is not written whole is said on standard error.
 use libc::STDERR_FILENO;
 use libc::STDIN_FILENO;
 use libc::STDOUT_FILENO;
+use rules::Named;
+use rules::Rules;
+use rules::by_name;
 ghost use Rattle.io.specs.Counts.{Counts};
 
 // One byte more than a record may have, so that a longer one is seen to be too long.
 pub const INPUT_ROOM: usize = 24577;
+
+// Longer than any name of rules, so that a longer argument is none.
+const NAME_ROOM: usize = 32;
+
+// The rules that the program's one argument names; FreeType's, the newest, where it has none.
+pub fn chosen_rules() -> Named {
+    let words = os::arg_count();
+    if words < 2 {
+        return Named::Known(Rules::FreeType);
+    }
+    if words > 2 {
+        return Named::Unknown;
+    }
+    let mut name = [0u8; NAME_ROOM];
+    let size = os::arg(1, &mut name);
+    by_name(&name[..size])
+}
+
+pub fn say_no_such_rules() {
+    io::write_all(
+        STDERR_FILENO,
+        b"no such rules: the one argument is skrifa or freetype, and none means freetype\n",
+    );
+}
 
 // How many bytes were read, and whether a read failed.
 pub struct Input {

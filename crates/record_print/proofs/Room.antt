@@ -21,6 +21,7 @@ use Rattle.record_read.specs.declared.Opened.{Opened}
 use Rattle.record_read.specs.declared.Opened.the-variants.{Damaged, Whole}
 use Rattle.record_run.specs.After.{Shelved, shelved}
 use Rattle.record_run.specs.declared.Replayed.{Replayed}
+use Rattle.rules.specs.declared.Rules.{Rules}
 use Rattle.record_replay.specs.Shelf.{onRead, shelfWithin}
 use Rattle.record_print.specs.Print.{Front, answerLine, blank, glyphLines, pointLine, pointLines, printOf, room, textOf}
 use Rattle.record_print.specs.Steps.{Put, endedBy}
@@ -79,11 +80,11 @@ pub glyph-most : (out : List ℕ) (l : Layout) → length (glyphLines out l) ≤
 glyph-most out l = lines-most out (listPlace l 4) (listPlace l 5) (listPlace l 6) (l .points)
 
 -- a point takes seven words of a record, which has 6,110 for its lists
-pub few-points : (most : ℕ) (bytes out : List ℕ) → shelfWithin most bytes out .said .layout .points ≤ 872
+pub few-points : (rules : Rules) (most : ℕ) (bytes out : List ℕ) → shelfWithin rules most bytes out .said .layout .points ≤ 872
 unfolding shelfWithin onRead
-few-points most bytes out = by-verdict (openOf bytes) refl
+few-points rules most bytes out = by-verdict (openOf bytes) refl
   where
-    by-verdict : (o : Opened) → openOf bytes ≡ o → onRead most out (readAs bytes o) .said .layout .points ≤ 872
+    by-verdict : (o : Opened) → openOf bytes ≡ o → onRead rules most out (readAs bytes o) .said .layout .points ≤ 872
     by-verdict (Whole l) e =
         let s = sound bytes l e in
         let m = layoutOf bytes in
@@ -96,23 +97,23 @@ few-points most bytes out = by-verdict (openOf bytes) refl
 abbrev textRoom : ℕ
 textRoom = 24576
 
-module _ (bytes : List ℕ) {r : Replayed} {out : List ℕ} (e : shelved r out ≡ shelfWithin room bytes blank) where
+module _ (rules : Rules) (bytes : List ℕ) {r : Replayed} {out : List ℕ} (e : shelved r out ≡ shelfWithin rules room bytes blank) where
   pub lines-few : length (glyphLines out (r .layout)) ≤ 24416
   lines-few =
-      let few : r .layout .points ≤ 872 = subst (λ (s : Shelved). s .said .layout .points ≤ 872) (sym e) (few-points room bytes blank) in
+      let few : r .layout .points ≤ 872 = subst (λ (s : Shelved). s .said .layout .points ≤ 872) (sym e) (few-points rules room bytes blank) in
       omega (arith, few, glyph-most out (r .layout))
 
   -- the answer's line and the points' are the whole text
   pub printed : {n m : ℕ} {l₀ l₁ l₂ : List ℕ} → Put (answerLine r) 0 n l₀ l₁ → Put (glyphLines out (r .layout)) n m l₁ l₂ → length (answerLine r) ≤ 74 → length l₀ ≡ textRoom
-      → (m ≡ length (printOf bytes)) × (Front m l₂ × (l₂ ≡ printOf bytes ++ drop m l₀))
+      → (m ≡ length (printOf rules bytes)) × (Front m l₂ × (l₂ ≡ printOf rules bytes ++ drop m l₀))
   unfolding printOf textOf
   printed {n} {m} {l₀} {l₁} {l₂} p q a t =
       let few = lines-few in
-      let same : answerLine r ++ glyphLines out (r .layout) ≡ printOf bytes = ap textOf e in
-      let whole : Put (printOf bytes) 0 m l₀ l₂ = subst (λ (s : List ℕ). Put s 0 m l₀ l₂) same (put-join p q) in
-      let long : m ≡ length (printOf bytes) = omega (arith, whole .behind) in
+      let same : answerLine r ++ glyphLines out (r .layout) ≡ printOf rules bytes = ap textOf e in
+      let whole : Put (printOf rules bytes) 0 m l₀ l₂ = subst (λ (s : List ℕ). Put s 0 m l₀ l₂) same (put-join p q) in
+      let long : m ≡ length (printOf rules bytes) = omega (arith, whole .behind) in
       let roomy : m ≤ textRoom = omega (arith, long, ap length same, length-append (answerLine r) (glyphLines out (r .layout))) in
-      let within : m ≤ length l₂ = omega (arith, roomy, t, ap length (whole .there), length-sets l₀ 0 (printOf bytes)) in (
+      let within : m ≤ length l₂ = omega (arith, roomy, t, ap length (whole .there), length-sets l₀ 0 (printOf rules bytes)) in (
         long,
-        ((within, sym (length-take-le m l₂ within)), whole .there ∙ sets-eq (printOf bytes) l₀ 0 (omega (arith, long, roomy, t)) ∙ ap (λ (k : ℕ). printOf bytes ++ drop k l₀) (sym (whole .behind))),
+        ((within, sym (length-take-le m l₂ within)), whole .there ∙ sets-eq (printOf rules bytes) l₀ 0 (omega (arith, long, roomy, t)) ∙ ap (λ (k : ℕ). printOf rules bytes ++ drop k l₀) (sym (whole .behind))),
       )

@@ -11,6 +11,7 @@ use Rattle.record_layout.specs.declared.Layout.{Layout}
 use Rattle.record_read.specs.Read.{worldIn}
 use Rattle.record_run.specs.After.{Shelved}
 use Rattle.record_run.specs.declared.Replayed.{Replayed}
+use Rattle.rules.specs.declared.Rules.{Rules}
 use Rattle.record_replay.specs.Shelf.{shelfWithin}
 use Rattle.record_print.specs.Text.{decimal, line, signedDecimal}
 
@@ -45,8 +46,8 @@ room = mostBytes + (stateSize - 26) * 4
 unfoldable pub blank : List ℕ
 blank = replicate room 0
 
-unfoldable pub printOf : List ℕ → List ℕ
-printOf bytes = textOf (shelfWithin room bytes blank)
+unfoldable pub printOf : Rules → List ℕ → List ℕ
+printOf rules bytes = textOf (shelfWithin rules room bytes blank)
 
 -- so many bytes stand at the front of a text; the second part follows from the first, and a caller that lends the front finds both
 abbrev pub Front : ℕ → List ℕ → Type 0

@@ -13,6 +13,7 @@ use record_layout::place;
 use record_layout::wide;
 use record_replay::replay_within;
 use record_run::Replayed;
+use rules::Rules;
 use words::word;
 ghost use mathlib.Core.Path.{_≡_};
 ghost use Prim.Native.Nat.{_+_, _≤_};
@@ -135,13 +136,13 @@ fn put_points(out: &[u8], l: Layout, text: &mut [u8], at: usize) -> usize
 }
 
 // What the replay of a record prints, at the front of `text`, and how many bytes it has.
-pub fn print(bytes: &[u8], text: &mut [u8; TEXT_ROOM]) -> usize
-    ensures { λ r. ⌜ r ≡ length (printOf (now (bytes .entry))) ⌝ }
+pub fn print(rules: Rules, bytes: &[u8], text: &mut [u8; TEXT_ROOM]) -> usize
+    ensures { λ r. ⌜ r ≡ length (printOf rules (now (bytes .entry))) ⌝ }
     ensures { λ r. ⌜ Front r (now (text .exit)) ⌝ }
-    ensures { λ r. ⌜ now (text .exit) ≡ printOf (now (bytes .entry)) ++ drop r (now (text .entry)) ⌝ }
+    ensures { λ r. ⌜ now (text .exit) ≡ printOf rules (now (bytes .entry)) ++ drop r (now (text .entry)) ⌝ }
 {
     let mut out = [0u8; RECORD_ROOM];
-    let said = replay_within(RECORD_ROOM, bytes, &mut out);
+    let said = replay_within(rules, RECORD_ROOM, bytes, &mut out);
     let next = put_answer(said, text);
     put_points(&out, said.layout, text, next)
 }

@@ -9,6 +9,7 @@ use Rattle.limits.specs.Limits.{mostPoints, mostContours, mostControlValues, mo
 use Rattle.state_words.specs.Words.{stateOf, stateWords, isState}
 use Rattle.graphics.specs.State.{freshState}
 use Rattle.words.specs.Lists.{word, part, numbersOf, flagsOf, endsOf, allAtMost, wrappingSum}
+use Rattle.rules.specs.declared.Rules.the-variants.{FreeType}
 use Rattle.line.specs.World.{Fixed, fixed, World, world}
 use Rattle.record_layout.specs.declared.Layout.{Layout}
 use Rattle.record_layout.specs.Order.{atTrailer, listIn, mostBytes, trailerSize}
@@ -90,7 +91,7 @@ numbersIn bytes l k = numbersOf (listIn bytes l k)
 
 abbrev pub fixedIn : List ℕ → Layout → Fixed
 fixedIn bytes l =
-    fixed (numbersIn bytes l 13) (numbersIn bytes l 0) (numbersIn bytes l 1) (numbersIn bytes l 2) (numbersIn bytes l 3) (endsOf (listIn bytes l 7))
+    fixed FreeType (numbersIn bytes l 13) (numbersIn bytes l 0) (numbersIn bytes l 1) (numbersIn bytes l 2) (numbersIn bytes l 3) (endsOf (listIn bytes l 7))
 
 abbrev pub worldIn : List ℕ → Layout → World
 worldIn bytes l =

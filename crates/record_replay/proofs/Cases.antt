@@ -10,6 +10,8 @@ use Rattle.int.specs.Word.{ofBits}
 use Rattle.words.proofs.Parts.{mapped-length}
 use Rattle.words.specs.Lists.{endOf, endsOf, flagOf, flagsOf, numbersOf}
 use Rattle.graphics.specs.declared.GraphicsState.{GraphicsState}
+use Rattle.rules.specs.declared.Rules.the-variants.{FreeType}
+use Rattle.rules.specs.declared.Rules.{Rules}
 use Rattle.line.specs.World.{Fixed, World, fixed, world}
 use Rattle.record_layout.specs.Order.{countOf, listIn, listPlace}
 use Rattle.record_layout.specs.declared.Layout.{Layout}
@@ -43,22 +45,22 @@ pub same-world : {s s′ : GraphicsState} {gx gx′ gy gy′ : List ℤ} {gflags
 same-world a b c d e f g h i = cc
 
 pub same-fixed : {k k′ ux ux′ uy uy′ ox ox′ oy oy′ : List ℤ} {c c′ : List ℕ}
-    → k ≡ k′ → ux ≡ ux′ → uy ≡ uy′ → ox ≡ ox′ → oy ≡ oy′ → c ≡ c′ → fixed k ux uy ox oy c ≡ fixed k′ ux′ uy′ ox′ oy′ c′
+    → k ≡ k′ → ux ≡ ux′ → uy ≡ uy′ → ox ≡ ox′ → oy ≡ oy′ → c ≡ c′ → fixed FreeType k ux uy ox oy c ≡ fixed FreeType k′ ux′ uy′ ox′ oy′ c′
 same-fixed a b c d e f = cc
 
-pub whole-held : (most : ℕ) (l : Layout) (bytes : List ℕ) (w : World) (out : List ℕ) {f : Fixed} {sheet : List ℤ} → f ≡ fixedIn bytes l → sheet ≡ heldIn bytes l .sheet → w ≡ heldIn bytes l .world
-    → shelvedFor most (newest l) (held f sheet w) out ≡ shelvedFor most (newest l) (heldIn bytes l) out
-whole-held most l bytes w out e g h = ap (λ k. shelvedFor most (newest l) k out) (ap₂ (λ f s. held f s w) e g ∙ ap (held (fixedIn bytes l) (heldIn bytes l .sheet)) h)
+pub whole-held : (rules : Rules) (most : ℕ) (l : Layout) (bytes : List ℕ) (w : World) (out : List ℕ) {f : Fixed} {sheet : List ℤ} → f ≡ fixedIn bytes l → sheet ≡ heldIn bytes l .sheet → w ≡ heldIn bytes l .world
+    → shelvedFor rules most (newest l) (held f sheet w) out ≡ shelvedFor rules most (newest l) (heldIn bytes l) out
+whole-held rules most l bytes w out e g h = ap (λ k. shelvedFor rules most (newest l) k out) (ap₂ (λ f s. held f s w) e g ∙ ap (held (fixedIn bytes l) (heldIn bytes l .sheet)) h)
 
 -- ---- the verdict
-module _ (most : ℕ) (bytes out : List ℕ) where
-  pub damaged : (why : Damage) → openOf bytes ≡ Damaged why → shelved (refusedAs (damageNumber why)) out ≡ shelfWithin most bytes out
+module _ (rules : Rules) (most : ℕ) (bytes out : List ℕ) where
+  pub damaged : (why : Damage) → openOf bytes ≡ Damaged why → shelved (refusedAs (damageNumber why)) out ≡ shelfWithin rules most bytes out
   unfolding shelfWithin onRead
-  damaged why e = sym (ap (λ o. onRead most out (readAs bytes o)) e)
+  damaged why e = sym (ap (λ o. onRead rules most out (readAs bytes o)) e)
 
-  pub opened : (l : Layout) → openOf bytes ≡ Whole l → shelvedFor most (newest l) (heldIn bytes l) out ≡ shelfWithin most bytes out
+  pub opened : (l : Layout) → openOf bytes ≡ Whole l → shelvedFor rules most (newest l) (heldIn bytes l) out ≡ shelfWithin rules most bytes out
   unfolding shelfWithin onRead
-  opened l e = sym (ap (λ o. onRead most out (readAs bytes o)) e ∙ ap (λ m. shelvedFor most m (heldIn bytes l) out) (layout-kept bytes l))
+  opened l e = sym (ap (λ o. onRead rules most out (readAs bytes o)) e ∙ ap (λ m. shelvedFor rules most m (heldIn bytes l) out) (layout-kept bytes l))
 
 -- a record's lists have no more words together than are between its state and its trailer
 pub within : (bytes : List ℕ) (l : Layout) → openOf bytes ≡ Whole l → (l .points ≤ pointRoom) × ((l .contours ≤ listRoom) × ((l .twilight ≤ twilightRoom) × ((l .controls ≤ listRoom) × (l .words ≤ listRoom))))

@@ -1,6 +1,7 @@
 -- What a replay of a record says and leaves: document 02, K4 and K5. Assumes nothing.
 use Prim.Native.Nat.{ℕ}
 use mathlib.Core.List.{List}
+use Rattle.rules.specs.declared.Rules.{Rules}
 use Rattle.state_words.specs.Words.{stateSize}
 use Rattle.record_layout.specs.Order.{mostBytes}
 use Rattle.record_read.specs.Format.{layout, layoutFor}
@@ -13,14 +14,14 @@ use Rattle.record_run.specs.declared.Replayed.{Replayed}
 abbrev pub refusedAs : ℕ → Replayed
 refusedAs n = record { number = n; place = 0; lines = 0; detail = 0; size = 0; layout = layout stateSize 0 0 0 0 0 }
 
-unfoldable pub onRead : ℕ → List ℕ → Read → Shelved
-onRead most out (Kept h) = shelvedFor most (layoutFor h) h out
-onRead most out (Refused n) = shelved (refusedAs n) out
+unfoldable pub onRead : Rules → ℕ → List ℕ → Read → Shelved
+onRead rules most out (Kept h) = shelvedFor rules most (layoutFor h) h out
+onRead rules most out (Refused n) = shelved (refusedAs n) out
 
--- with a record of at most so many bytes
-unfoldable pub shelfWithin : ℕ → List ℕ → List ℕ → Shelved
-shelfWithin most bytes out = onRead most out (readOf bytes)
+-- by these rules, with a record of at most so many bytes
+unfoldable pub shelfWithin : Rules → ℕ → List ℕ → List ℕ → Shelved
+shelfWithin rules most bytes out = onRead rules most out (readOf bytes)
 
 -- "The newest edition is written, or nothing where that passes 24 KiB."
-abbrev pub shelfOf : List ℕ → List ℕ → Shelved
-shelfOf bytes out = shelfWithin mostBytes bytes out
+abbrev pub shelfOf : Rules → List ℕ → List ℕ → Shelved
+shelfOf rules bytes out = shelfWithin rules mostBytes bytes out

@@ -30,9 +30,11 @@ use record_read::load_state;
 use record_read::open;
 use record_run::Replayed;
 use record_run::run_and_write;
+use rules::Rules;
 ghost use mathlib.Core.Path.{_≡_};
 ghost use Prim.Native.Nat.{_≤_};
 ghost use Rattle.line.specs.World.{fixed};
+ghost use Rattle.rules.specs.declared.Rules.the-variants.{FreeType};
 ghost use Rattle.record_replay.specs.Steps.{listRoom, newest, pointRoom, twilightRoom};
 ghost use Rattle.record_read.specs.Format.{held};
 ghost use Rattle.record_read.specs.Read.{worldIn, heldIn};
@@ -55,6 +57,7 @@ fn renew(l: Layout) -> Layout
 
 // A replay over what lines only read; what they change is loaded here.
 fn replay_over(
+    rules: Rules,
     most: usize,
     bytes: &[u8],
     l: Layout,
@@ -69,7 +72,7 @@ fn replay_over(
 ) -> Replayed
     requires { ⌜ l .points ≤ pointRoom ⌝ }
     requires { ⌜ l .twilight ≤ twilightRoom ⌝ }
-    ensures { λ r. ⌜ shelved r (now (out .exit)) ≡ shelvedFor most (newest l) (held (fixed (now (controls .entry)) (now (gux .entry)) (now (guy .entry)) (now (gox .entry)) (now (goy .entry)) (now (contours .entry))) (now (sheet .entry)) (worldIn (now (bytes .entry)) l)) (now (out .entry)) ⌝ }
+    ensures { λ r. ⌜ shelved r (now (out .exit)) ≡ shelvedFor rules most (newest l) (held (fixed FreeType (now (controls .entry)) (now (gux .entry)) (now (guy .entry)) (now (gox .entry)) (now (goy .entry)) (now (contours .entry))) (now (sheet .entry)) (worldIn (now (bytes .entry)) l)) (now (out .entry)) ⌝ }
 {
     let n = wide(l.points);
     let m = wide(l.twilight);
@@ -91,6 +94,7 @@ fn replay_over(
     flags_in(bytes, l, TWILIGHT_FLAGS, &mut tflags);
     let s = load_state(bytes);
     run_and_write(
+        rules,
         most,
         renew(l),
         s,
@@ -114,13 +118,13 @@ fn replay_over(
 }
 
 // A replay of a whole record; what lines only read is loaded here.
-fn replay_whole(most: usize, bytes: &[u8], l: Layout, out: &mut [u8]) -> Replayed
+fn replay_whole(rules: Rules, most: usize, bytes: &[u8], l: Layout, out: &mut [u8]) -> Replayed
     requires { ⌜ l .points ≤ pointRoom ⌝ }
     requires { ⌜ l .contours ≤ listRoom ⌝ }
     requires { ⌜ l .twilight ≤ twilightRoom ⌝ }
     requires { ⌜ l .controls ≤ listRoom ⌝ }
     requires { ⌜ l .words ≤ listRoom ⌝ }
-    ensures { λ r. ⌜ shelved r (now (out .exit)) ≡ shelvedFor most (newest l) (heldIn (now (bytes .entry)) l) (now (out .entry)) ⌝ }
+    ensures { λ r. ⌜ shelved r (now (out .exit)) ≡ shelvedFor rules most (newest l) (heldIn (now (bytes .entry)) l) (now (out .entry)) ⌝ }
 {
     let words = wide(l.words);
     let values = wide(l.controls);
@@ -141,6 +145,7 @@ fn replay_whole(most: usize, bytes: &[u8], l: Layout, out: &mut [u8]) -> Replaye
     let mut contours = [0u16; LIST_ROOM];
     ends_in(bytes, l, ENDS, &mut contours);
     replay_over(
+        rules,
         most,
         bytes,
         l,
@@ -170,19 +175,19 @@ fn refuse(number: u32) -> Replayed
 }
 
 // A record replayed: the answer, and the record as it then stands at the front of `out`, where it has at most `most` bytes and there is room for it.
-pub fn replay_within(most: usize, bytes: &[u8], out: &mut [u8]) -> Replayed
-    ensures { λ r. ⌜ shelved r (now (out .exit)) ≡ shelfWithin most (now (bytes .entry)) (now (out .entry)) ⌝ }
+pub fn replay_within(rules: Rules, most: usize, bytes: &[u8], out: &mut [u8]) -> Replayed
+    ensures { λ r. ⌜ shelved r (now (out .exit)) ≡ shelfWithin rules most (now (bytes .entry)) (now (out .entry)) ⌝ }
 {
     let opened = open(bytes);
     match opened {
         Opened::Damaged(why) => refuse(why.number()),
-        Opened::Whole(l) => replay_whole(most, bytes, l, out),
+        Opened::Whole(l) => replay_whole(rules, most, bytes, l, out),
     }
 }
 
 // The same, with a record of 24 KiB at most.
-pub fn replay(bytes: &[u8], out: &mut [u8]) -> Replayed
-    ensures { λ r. ⌜ shelved r (now (out .exit)) ≡ shelfOf (now (bytes .entry)) (now (out .entry)) ⌝ }
+pub fn replay(rules: Rules, bytes: &[u8], out: &mut [u8]) -> Replayed
+    ensures { λ r. ⌜ shelved r (now (out .exit)) ≡ shelfOf rules (now (bytes .entry)) (now (out .entry)) ⌝ }
 {
-    replay_within(MOST_BYTES, bytes, out)
+    replay_within(rules, MOST_BYTES, bytes, out)
 }

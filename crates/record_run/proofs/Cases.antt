@@ -4,7 +4,8 @@ use mathlib.Core.Path.{_∙_, _≡_, ap, ap₂, sym}
 use Prim.Native.Nat.{ℕ}
 use lib.IntN.{ℤ}
 use lib.ListN.{length}
-use Rattle.line.specs.World.{Fixed, World, world}
+use Rattle.line.specs.World.{Fixed, World, world, under}
+use Rattle.rules.specs.declared.Rules.{Rules}
 use Rattle.run_lines.specs.Onward.{Ran, detailOfAnswer, numberOfAnswer, ran}
 use Rattle.run_lines.specs.declared.Outcome.{Outcome}
 use Rattle.replay.specs.Run.{runOf}
@@ -23,22 +24,22 @@ pub said : (l : Layout) (o : Outcome) (size : ℕ) {n d : ℕ} → n ≡ numberO
 said l o size e f = ap₂ (λ (n d : ℕ). replayed n (o .place) (o .lines) d size l) e f
 
 -- ---- what is written
-pub ran-and-written : (most : ℕ) (l : Layout) (f : Fixed) (sheet : List ℤ) (w : World) (out : List ℕ)
+pub ran-and-written : (rules : Rules) (most : ℕ) (l : Layout) (f : Fixed) (sheet : List ℤ) (w : World) (out : List ℕ)
     (o : Outcome) (gx gy : List ℤ) (gflags : List ℕ) (tox toy tx ty : List ℤ) (tflags : List ℕ) {size : ℕ} {left : List ℕ} {r : Replayed}
-    → ran o gx gy gflags tox toy tx ty tflags ≡ runOf f sheet (length sheet) 0 w
+    → ran o gx gy gflags tox toy tx ty tflags ≡ runOf (under rules f) sheet (length sheet) 0 w
     → wrote size left ≡ writeOf most (held f sheet (world (o .state) gx gy gflags tox toy tx ty tflags)) out
     → r ≡ told l o size
-    → shelved r left ≡ shelvedFor most l (held f sheet w) out
-ran-and-written most l f sheet w out o gx gy gflags tox toy tx ty tflags {size} {left} e g t =
+    → shelved r left ≡ shelvedFor rules most l (held f sheet w) out
+ran-and-written rules most l f sheet w out o gx gy gflags tox toy tx ty tflags {size} {left} e g t =
     ap (λ r. shelved r left) t
     ∙ ap (shelvedAs l (ran o gx gy gflags tox toy tx ty tflags)) g
     ∙ ap (λ r. shelvedAs l r (writeOf most (held f sheet (r .world)) out)) e
 
 -- ---- what is left in the lists
-pub lists-left : (f : Fixed) (sheet : List ℤ) (w : World)
+pub lists-left : (rules : Rules) (f : Fixed) (sheet : List ℤ) (w : World)
     (o : Outcome) (gx gy : List ℤ) (gflags : List ℕ) (tox toy tx ty : List ℤ) (tflags : List ℕ)
-    → ran o gx gy gflags tox toy tx ty tflags ≡ runOf f sheet (length sheet) 0 w
-    → leftWith (held f sheet w) gx gy gflags tox toy tx ty tflags ≡ ranFrom (held f sheet w) .world
-lists-left f sheet w o gx gy gflags tox toy tx ty tflags e =
+    → ran o gx gy gflags tox toy tx ty tflags ≡ runOf (under rules f) sheet (length sheet) 0 w
+    → leftWith rules (held f sheet w) gx gy gflags tox toy tx ty tflags ≡ ranFrom rules (held f sheet w) .world
+lists-left rules f sheet w o gx gy gflags tox toy tx ty tflags e =
     ap (λ (r : Ran). world (r .world .state) gx gy gflags tox toy tx ty tflags) (sym e)
     ∙ ap (λ (r : Ran). r .world) e

@@ -3,7 +3,8 @@ use Prim.Native.Nat.{ℕ}
 use mathlib.Core.List.{List}
 use lib.IntN.{ℤ}
 use lib.ListN.{length}
-use Rattle.line.specs.World.{World, world}
+use Rattle.line.specs.World.{World, under, world}
+use Rattle.rules.specs.declared.Rules.{Rules}
 use Rattle.run_lines.specs.Onward.{Ran, numberOfAnswer, detailOfAnswer}
 use Rattle.run_lines.specs.declared.Outcome.{Outcome}
 use Rattle.replay.specs.Run.{runOf}
@@ -20,17 +21,17 @@ pub record Shelved : Type 0 where
 abbrev pub shelved : Replayed → List ℕ → Shelved
 shelved said out = record { said = said; out = out }
 
--- "The start is 0, the budget the sheet's word count."
-abbrev pub ranFrom : Held → Ran
-ranFrom h = runOf (h .fixed) (h .sheet) (length (h .sheet)) 0 (h .world)
+-- "The start is 0, the budget the sheet's word count." By which rules is the caller's choice: a record holds none
+abbrev pub ranFrom : Rules → Held → Ran
+ranFrom rules h = runOf (under rules (h .fixed)) (h .sheet) (length (h .sheet)) 0 (h .world)
 
 -- "the record as it stands after the replay"
-abbrev pub after : Held → Held
-after h = held (h .fixed) (h .sheet) (ranFrom h .world)
+abbrev pub after : Rules → Held → Held
+after rules h = held (h .fixed) (h .sheet) (ranFrom rules h .world)
 
 -- the world after the run, with these lists in the place of its own
-abbrev pub leftWith : Held → List ℤ → List ℤ → List ℕ → List ℤ → List ℤ → List ℤ → List ℤ → List ℕ → World
-leftWith h gx gy gflags tox toy tx ty tflags = world (ranFrom h .world .state) gx gy gflags tox toy tx ty tflags
+abbrev pub leftWith : Rules → Held → List ℤ → List ℤ → List ℕ → List ℤ → List ℤ → List ℤ → List ℤ → List ℕ → World
+leftWith rules h gx gy gflags tox toy tx ty tflags = world (ranFrom rules h .world .state) gx gy gflags tox toy tx ty tflags
 
 -- number, place, lines and detail, the bytes that are written, and how the lists lie in them
 abbrev pub saidOf : Layout → Ran → ℕ → Replayed
@@ -46,5 +47,5 @@ abbrev pub shelvedAs : Layout → Ran → Wrote → Shelved
 shelvedAs l r w = shelved (saidOf l r (w .size)) (w .bytes)
 
 -- of at most so many bytes
-abbrev pub shelvedFor : ℕ → Layout → Held → List ℕ → Shelved
-shelvedFor most l h out = shelvedAs l (ranFrom h) (writeOf most (after h) out)
+abbrev pub shelvedFor : Rules → ℕ → Layout → Held → List ℕ → Shelved
+shelvedFor rules most l h out = shelvedAs l (ranFrom rules h) (writeOf most (after rules h) out)

@@ -6,8 +6,10 @@ use graphics::GraphicsState;
 use record_layout::Layout;
 use record_write::write;
 use replay::run;
+use rules::Rules;
 use run_lines::Outcome;
 ghost use mathlib.Core.Path.{_≡_};
+ghost use Rattle.rules.specs.declared.Rules.the-variants.{FreeType};
 ghost use Rattle.line.specs.World.{fixed, world};
 ghost use Rattle.record_read.specs.Format.{held};
 ghost use Rattle.record_run.specs.After.{ranFrom, leftWith, shelved, shelvedFor, told};
@@ -39,6 +41,7 @@ fn say(l: Layout, outcome: Outcome, size: usize) -> Replayed
 // A run of these lists from the sheet's start, with a budget of its words, and the record as it then stands at the front of `out`,
 // where it has at most `most` bytes.
 pub fn run_and_write(
+    rules: Rules,
     most: usize,
     l: Layout,
     s: GraphicsState,
@@ -59,13 +62,14 @@ pub fn run_and_write(
     tflags: &mut [u8],
     out: &mut [u8],
 ) -> Replayed
-    ensures { λ r. ⌜ shelved r (now (out .exit)) ≡ shelvedFor most l (held (fixed (now (controls .entry)) (now (gux .entry)) (now (guy .entry)) (now (gox .entry)) (now (goy .entry)) (now (contours .entry))) (now (sheet .entry)) (world s (now (gx .entry)) (now (gy .entry)) (now (gflags .entry)) (now (tox .entry)) (now (toy .entry)) (now (tx .entry)) (now (ty .entry)) (now (tflags .entry)))) (now (out .entry)) ⌝ }
-    ensures { λ r. ⌜ leftWith (held (fixed (now (controls .entry)) (now (gux .entry)) (now (guy .entry)) (now (gox .entry)) (now (goy .entry)) (now (contours .entry))) (now (sheet .entry)) (world s (now (gx .entry)) (now (gy .entry)) (now (gflags .entry)) (now (tox .entry)) (now (toy .entry)) (now (tx .entry)) (now (ty .entry)) (now (tflags .entry)))) (now (gx .exit)) (now (gy .exit)) (now (gflags .exit)) (now (tox .exit)) (now (toy .exit)) (now (tx .exit)) (now (ty .exit)) (now (tflags .exit)) ≡ ranFrom (held (fixed (now (controls .entry)) (now (gux .entry)) (now (guy .entry)) (now (gox .entry)) (now (goy .entry)) (now (contours .entry))) (now (sheet .entry)) (world s (now (gx .entry)) (now (gy .entry)) (now (gflags .entry)) (now (tox .entry)) (now (toy .entry)) (now (tx .entry)) (now (ty .entry)) (now (tflags .entry)))) .world ⌝ }
+    ensures { λ r. ⌜ shelved r (now (out .exit)) ≡ shelvedFor rules most l (held (fixed FreeType (now (controls .entry)) (now (gux .entry)) (now (guy .entry)) (now (gox .entry)) (now (goy .entry)) (now (contours .entry))) (now (sheet .entry)) (world s (now (gx .entry)) (now (gy .entry)) (now (gflags .entry)) (now (tox .entry)) (now (toy .entry)) (now (tx .entry)) (now (ty .entry)) (now (tflags .entry)))) (now (out .entry)) ⌝ }
+    ensures { λ r. ⌜ leftWith rules (held (fixed FreeType (now (controls .entry)) (now (gux .entry)) (now (guy .entry)) (now (gox .entry)) (now (goy .entry)) (now (contours .entry))) (now (sheet .entry)) (world s (now (gx .entry)) (now (gy .entry)) (now (gflags .entry)) (now (tox .entry)) (now (toy .entry)) (now (tx .entry)) (now (ty .entry)) (now (tflags .entry)))) (now (gx .exit)) (now (gy .exit)) (now (gflags .exit)) (now (tox .exit)) (now (toy .exit)) (now (tx .exit)) (now (ty .exit)) (now (tflags .exit)) ≡ ranFrom rules (held (fixed FreeType (now (controls .entry)) (now (gux .entry)) (now (guy .entry)) (now (gox .entry)) (now (goy .entry)) (now (contours .entry))) (now (sheet .entry)) (world s (now (gx .entry)) (now (gy .entry)) (now (gflags .entry)) (now (tox .entry)) (now (toy .entry)) (now (tx .entry)) (now (ty .entry)) (now (tflags .entry)))) .world ⌝ }
 {
     let outcome = run(
         0,
         sheet.len() as u64,
         s,
+        rules,
         sheet,
         controls,
         gux,

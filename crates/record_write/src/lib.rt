@@ -35,6 +35,7 @@ use words::sum;
 ghost use Prim.Native.Nat.{_*_, _%_, _^_, _<_};
 ghost use Rattle.record_layout.specs.Order.{atTrailer};
 ghost use Rattle.state_words.specs.Words.{stateSize};
+ghost use Rattle.rules.specs.declared.Rules.the-variants.{FreeType};
 ghost use Rattle.line.specs.World.{fixed, world};
 ghost use Rattle.record_read.specs.Format.{held, layout};
 ghost use Rattle.record_write.specs.Written.{wrote, writeOf};
@@ -184,7 +185,7 @@ fn store(
     tflags: &[u8],
     out: &mut [u8],
 )
-    ensures { λ _. ⌜ now (out .exit) ≡ withRecord l (held (fixed (now (controls .entry)) (now (gux .entry)) (now (guy .entry)) (now (gox .entry)) (now (goy .entry)) (now (contours .entry))) (now (sheet .entry)) (world s (now (gx .entry)) (now (gy .entry)) (now (gflags .entry)) (now (tox .entry)) (now (toy .entry)) (now (tx .entry)) (now (ty .entry)) (now (tflags .entry)))) (now (out .entry)) ⌝ }
+    ensures { λ _. ⌜ now (out .exit) ≡ withRecord l (held (fixed FreeType (now (controls .entry)) (now (gux .entry)) (now (guy .entry)) (now (gox .entry)) (now (goy .entry)) (now (contours .entry))) (now (sheet .entry)) (world s (now (gx .entry)) (now (gy .entry)) (now (gflags .entry)) (now (tox .entry)) (now (toy .entry)) (now (tx .entry)) (now (ty .entry)) (now (tflags .entry)))) (now (out .entry)) ⌝ }
 {
     store_state(s, out);
     store_originals(l, gux, guy, gox, goy, out);
@@ -216,7 +217,7 @@ pub fn write(
     tflags: &[u8],
     out: &mut [u8],
 ) -> usize
-    ensures { λ r. ⌜ wrote r (now (out .exit)) ≡ writeOf most (held (fixed (now (controls .entry)) (now (gux .entry)) (now (guy .entry)) (now (gox .entry)) (now (goy .entry)) (now (contours .entry))) (now (sheet .entry)) (world s (now (gx .entry)) (now (gy .entry)) (now (gflags .entry)) (now (tox .entry)) (now (toy .entry)) (now (tx .entry)) (now (ty .entry)) (now (tflags .entry)))) (now (out .entry)) ⌝ }
+    ensures { λ r. ⌜ wrote r (now (out .exit)) ≡ writeOf most (held (fixed FreeType (now (controls .entry)) (now (gux .entry)) (now (guy .entry)) (now (gox .entry)) (now (goy .entry)) (now (contours .entry))) (now (sheet .entry)) (world s (now (gx .entry)) (now (gy .entry)) (now (gflags .entry)) (now (tox .entry)) (now (toy .entry)) (now (tx .entry)) (now (ty .entry)) (now (tflags .entry)))) (now (out .entry)) ⌝ }
 {
     let sized = sizes_fit(
         sheet,

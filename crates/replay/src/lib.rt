@@ -9,7 +9,7 @@
 //     let sheet = [0, 0, 47, 1, 0, 48, 0];
 //     let none: [i32; 0] = [];
 //     let r = run(
-//         0, 3, GraphicsState::fresh(), &sheet, &none,
+//         0, 3, GraphicsState::fresh(), Rules::FreeType, &sheet, &none,
 //         &unscaled_x, &unscaled_y, &original_x, &original_y, &mut x, &mut y, &mut flags, &contours,
 //         &mut twilight_original_x, &mut twilight_original_y, &mut twilight_x, &mut twilight_y, &mut twilight_flags,
 //     );
@@ -23,6 +23,7 @@ use contour_ends::ends_rise;
 use graphics::GraphicsState;
 use line::sizes_fit;
 use opcodes::needs_table;
+use rules::Rules;
 use run_lines::Answer;
 use run_lines::Outcome;
 use run_lines::onward;
@@ -65,6 +66,7 @@ pub fn run(
     start: usize,
     budget: u64,
     s: GraphicsState,
+    rules: Rules,
     sheet: &[i32],
     controls: &[i32],
     gux: &[i32],
@@ -81,7 +83,7 @@ pub fn run(
     ty: &mut [i32],
     tflags: &mut [u8],
 ) -> Outcome
-    ensures { λ r. ⌜ ran r (now (gx .exit)) (now (gy .exit)) (now (gflags .exit)) (now (tox .exit)) (now (toy .exit)) (now (tx .exit)) (now (ty .exit)) (now (tflags .exit)) ≡ runOf (fixed (now (controls .entry)) (now (gux .entry)) (now (guy .entry)) (now (gox .entry)) (now (goy .entry)) (now (contours .entry))) (now (sheet .entry)) budget start (world s (now (gx .entry)) (now (gy .entry)) (now (gflags .entry)) (now (tox .entry)) (now (toy .entry)) (now (tx .entry)) (now (ty .entry)) (now (tflags .entry))) ⌝ }
+    ensures { λ r. ⌜ ran r (now (gx .exit)) (now (gy .exit)) (now (gflags .exit)) (now (tox .exit)) (now (toy .exit)) (now (tx .exit)) (now (ty .exit)) (now (tflags .exit)) ≡ runOf (fixed rules (now (controls .entry)) (now (gux .entry)) (now (guy .entry)) (now (gox .entry)) (now (goy .entry)) (now (contours .entry))) (now (sheet .entry)) budget start (world s (now (gx .entry)) (now (gy .entry)) (now (gflags .entry)) (now (tox .entry)) (now (toy .entry)) (now (tx .entry)) (now (ty .entry)) (now (tflags .entry))) ⌝ }
 {
     let sized = sizes_fit(
         sheet,
@@ -110,6 +112,7 @@ pub fn run(
                 start,
                 budget,
                 s,
+                rules,
                 sheet,
                 &needs,
                 controls,

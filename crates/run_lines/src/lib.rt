@@ -6,6 +6,7 @@
 use answer::Call;
 use answer::Refusal;
 use graphics::GraphicsState;
+use rules::Rules;
 use run_step::step;
 ghost use mathlib.Core.Path.{_≡_};
 ghost use Rattle.opcodes.specs.Table.{needsTable};
@@ -57,6 +58,7 @@ pub fn onward(
     start: usize,
     budget: u64,
     s: GraphicsState,
+    rules: Rules,
     sheet: &[i32],
     needs: &[u8],
     controls: &[i32],
@@ -75,8 +77,8 @@ pub fn onward(
     tflags: &mut [u8],
 ) -> Outcome
     requires { ⌜ now needs ≡ needsTable ⌝ }
-    requires { ⌜ Sound (fixed (now controls) (now gux) (now guy) (now gox) (now goy) (now contours)) (world s (now gx) (now gy) (now gflags) (now tox) (now toy) (now tx) (now ty) (now tflags)) ⌝ }
-    ensures { λ r. ⌜ ran r (now (gx .exit)) (now (gy .exit)) (now (gflags .exit)) (now (tox .exit)) (now (toy .exit)) (now (tx .exit)) (now (ty .exit)) (now (tflags .exit)) ≡ replayOf (fixed (now (controls .entry)) (now (gux .entry)) (now (guy .entry)) (now (gox .entry)) (now (goy .entry)) (now (contours .entry))) (now (sheet .entry)) budget 0 start (world s (now (gx .entry)) (now (gy .entry)) (now (gflags .entry)) (now (tox .entry)) (now (toy .entry)) (now (tx .entry)) (now (ty .entry)) (now (tflags .entry))) ⌝ }
+    requires { ⌜ Sound (fixed rules (now controls) (now gux) (now guy) (now gox) (now goy) (now contours)) (world s (now gx) (now gy) (now gflags) (now tox) (now toy) (now tx) (now ty) (now tflags)) ⌝ }
+    ensures { λ r. ⌜ ran r (now (gx .exit)) (now (gy .exit)) (now (gflags .exit)) (now (tox .exit)) (now (toy .exit)) (now (tx .exit)) (now (ty .exit)) (now (tflags .exit)) ≡ replayOf (fixed rules (now (controls .entry)) (now (gux .entry)) (now (guy .entry)) (now (gox .entry)) (now (goy .entry)) (now (contours .entry))) (now (sheet .entry)) budget 0 start (world s (now (gx .entry)) (now (gy .entry)) (now (gflags .entry)) (now (tox .entry)) (now (toy .entry)) (now (tx .entry)) (now (ty .entry)) (now (tflags .entry))) ⌝ }
 {
     let mut state = s;
     let mut at = start;
@@ -94,6 +96,7 @@ pub fn onward(
         let r = step(
             at,
             state,
+            rules,
             sheet,
             needs,
             controls,

@@ -8,6 +8,7 @@ use graphics::GraphicsState;
 use line::Stepped;
 use opcodes::Decoded;
 use opcodes::decode;
+use rules::Rules;
 ghost use mathlib.Core.Path.{_≡_};
 ghost use Rattle.opcodes.specs.Table.{needsTable};
 ghost use Rattle.line.specs.World.{Sound, fixed, world};
@@ -42,6 +43,7 @@ fn land(at: usize, end: usize, r: Stepped) -> Landing
 pub fn step(
     at: usize,
     s: GraphicsState,
+    rules: Rules,
     sheet: &[i32],
     needs: &[u8],
     controls: &[i32],
@@ -60,8 +62,8 @@ pub fn step(
     tflags: &mut [u8],
 ) -> Landing
     requires { ⌜ now needs ≡ needsTable ⌝ }
-    requires { ⌜ Sound (fixed (now controls) (now gux) (now guy) (now gox) (now goy) (now contours)) (world s (now gx) (now gy) (now gflags) (now tox) (now toy) (now tx) (now ty) (now tflags)) ⌝ }
-    ensures { λ r. ⌜ went r (now (gx .exit)) (now (gy .exit)) (now (gflags .exit)) (now (tox .exit)) (now (toy .exit)) (now (tx .exit)) (now (ty .exit)) (now (tflags .exit)) ≡ stepOf (fixed (now (controls .entry)) (now (gux .entry)) (now (guy .entry)) (now (gox .entry)) (now (goy .entry)) (now (contours .entry))) (now (sheet .entry)) at (world s (now (gx .entry)) (now (gy .entry)) (now (gflags .entry)) (now (tox .entry)) (now (toy .entry)) (now (tx .entry)) (now (ty .entry)) (now (tflags .entry))) ⌝ }
+    requires { ⌜ Sound (fixed rules (now controls) (now gux) (now guy) (now gox) (now goy) (now contours)) (world s (now gx) (now gy) (now gflags) (now tox) (now toy) (now tx) (now ty) (now tflags)) ⌝ }
+    ensures { λ r. ⌜ went r (now (gx .exit)) (now (gy .exit)) (now (gflags .exit)) (now (tox .exit)) (now (toy .exit)) (now (tx .exit)) (now (ty .exit)) (now (tflags .exit)) ≡ stepOf (fixed rules (now (controls .entry)) (now (gux .entry)) (now (guy .entry)) (now (gox .entry)) (now (goy .entry)) (now (contours .entry))) (now (sheet .entry)) at (world s (now (gx .entry)) (now (gy .entry)) (now (gflags .entry)) (now (tox .entry)) (now (toy .entry)) (now (tx .entry)) (now (ty .entry)) (now (tflags .entry))) ⌝ }
 {
     let line = decode(sheet, needs, s.loop_counter, at);
     match line {
@@ -73,6 +75,7 @@ pub fn step(
         Decoded::Operands { opcode, first, end } => {
             let r = perform(
                 s,
+                rules,
                 opcode,
                 &sheet[first..end],
                 controls,

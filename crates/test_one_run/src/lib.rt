@@ -1,11 +1,14 @@
 // One of the oracle's runs: a sheet run on lists, and judged by the case (docs/ORACLE.md).
 //
-// Words 10 and 11 of a case hold the start, 12 and 13 the budget. A run tests every size itself. Nothing is promised here but that every
-// function is safe and ends.
+// Word 7 of a case holds the rules' number, 10 and 11 the start, 12 and 13 the budget; no run agrees by a number that names no rules. A run tests every size
+// itself. Nothing is promised here but that every function is safe and ends.
 use graphics::GraphicsState;
+use rules::Named;
+use rules::by_number;
 use run_lines::Outcome;
 use test_cases::long;
 use test_cases::state_of;
+use test_cases::word;
 use test_compare::Compared;
 use test_compare::Said;
 use test_compare::compare_pair;
@@ -65,6 +68,9 @@ pub fn agrees_on(
     ty: &mut [i32],
     tflags: &mut [u8],
 ) -> bool {
+    let Named::Known(rules) = by_number(word(case, 7)) else {
+        return false;
+    };
     let start = long(case, 10) as usize;
     let budget = long(case, 12);
     let s = state_of(case);
@@ -72,6 +78,7 @@ pub fn agrees_on(
         start,
         budget,
         s,
+        rules,
         sheet,
         controls,
         gux,

@@ -3,8 +3,8 @@
 // A case agrees where the call says what the case says, and leaves every coordinate, every flag and the state, with its count of wrapped roundings,
 // as the case says (the crates test_zone_calls, test_state_calls and test_runs). What this prints is held to the file `stdout`; the cases stand
 // in the file `stdin`: the direct calls other than iup, those of iup, single lines, runs, the shifts and range flips, the selectors, direct
-// calls whose lists don't fit, cases that one rule alone decides, roundings of every kind of wrap, the largest faces, and the distances. Room for
-// the lists is made once, and lent.
+// calls whose lists don't fit, cases that one rule alone decides, roundings of every kind of wrap, the largest faces, the distances, contour ends,
+// and runs under each of the rules. Room for the lists is made once, and lent.
 use libc::STDIN_FILENO;
 use test_cases::KIND;
 use test_cases::word;

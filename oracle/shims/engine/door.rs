@@ -248,6 +248,16 @@ impl<'a> Machine<'a> {
         self.engine.graphics.loop_counter
     }
 
+    /// The zones that zp0 to zp2 name.
+    pub fn zone_pointers(&self) -> [u32; 3] {
+        let graphics = &self.engine.graphics;
+        [graphics.zp0, graphics.zp1, graphics.zp2].map(|pointer| pointer as u32)
+    }
+
+    pub fn rp0(&self) -> u64 {
+        self.engine.graphics.rp0 as u64
+    }
+
     pub fn is_pedantic(&self) -> bool {
         self.engine.graphics.is_pedantic
     }
@@ -267,6 +277,11 @@ impl<'a> Machine<'a> {
 
     pub fn original(&self, zone: u32, index: u64) -> Result<Pair, Refused> {
         self.zone(zone).original(index as usize).map(pair)
+    }
+
+    /// Puts an original that is there.
+    pub fn set_original(&mut self, zone: u32, index: u64, place: Pair) {
+        self.zone_mut(zone).original[index as usize] = scaled(place);
     }
 
     pub fn unscaled(&self, zone: u32, index: u64) -> Pair {

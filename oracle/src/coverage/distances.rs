@@ -73,13 +73,18 @@ const EDGES: [(&str, fn(&mut World) -> &mut i32); 2] = [
 ];
 
 pub fn keys(case: &Case, outcome: &Outcome) -> Vec<String> {
-    let Call::Run { start, budget } = case.call else {
+    let Call::Run {
+        start,
+        budget,
+        rules,
+    } = case.call
+    else {
         let pushed = case.world.state.pushes > 0;
         return pushed.then(direct_call_key).into_iter().collect();
     };
     let mut keys = first_line_keys(case, outcome);
     let native = case.world.state.native_cleartype_x;
-    replay::watched(&mut case.world.clone(), start, budget, |step| {
+    replay::watched(&mut case.world.clone(), rules, start, budget, |step| {
         keys.extend(pushing_keys(outcome, &step));
         keys.extend(counting_keys(outcome, &step, native));
     });

@@ -8,6 +8,7 @@ mod largest;
 mod lengths;
 mod required;
 mod rows;
+mod rules;
 mod selectors;
 mod shifts;
 mod wraps;
@@ -114,6 +115,9 @@ impl Coverage {
         for key in ends::keys(case, outcome) {
             self.add(key);
         }
+        for key in rules::keys(case, outcome) {
+            self.add(key);
+        }
     }
 
     fn count_math(&mut self, row: &MathRow) {
@@ -203,7 +207,7 @@ impl Coverage {
     }
 
     fn count_run(&mut self, case: &Case, outcome: &Outcome) {
-        let Call::Run { start, budget } = case.call else {
+        let Call::Run { start, budget, .. } = case.call else {
             return;
         };
         let answer = outcome.returned.answer;
@@ -286,7 +290,7 @@ impl Coverage {
     /// Names what must come up more often than it did; true if there is none.
     fn often_enough(&self) -> bool {
         let mut enough = true;
-        for (key, fewest) in distances::fewest() {
+        for (key, fewest) in distances::fewest().into_iter().chain(rules::fewest()) {
             let count = self.counts.get(&key).copied().unwrap_or_default();
             if count < fewest {
                 println!(" TOO FEW  {key}: {count}, at least {fewest}");

@@ -1,6 +1,8 @@
 //! What must come up in a run of the generator and in the sample.
 
-use super::{branches, distances, ends, keys::*, largest, lengths, rows, selectors, shifts, wraps};
+use super::{
+    branches, distances, ends, keys::*, largest, lengths, rows, rules, selectors, shifts, wraps,
+};
 use crate::{
     answer,
     opcodes::{name_of, rounds, row_of, Family, Row, TABLE},
@@ -30,6 +32,7 @@ pub fn required() -> Vec<String> {
     keys.extend(largest::required());
     keys.extend(distances::required());
     keys.extend(ends::required());
+    keys.extend(rules::required());
     keys
 }
 

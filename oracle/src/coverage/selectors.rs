@@ -7,6 +7,7 @@ use crate::{
     direct::Call,
     lines_of::{finished_lines, ReachedLine},
     opcodes::{codes_of, is_of, name_of, rounding_codes_of, rounds, Family},
+    replay,
     world::*,
 };
 use reference::door;
@@ -82,13 +83,12 @@ fn rounded(case: &Case, number: usize, line: &ReachedLine, kind: (u8, u8)) -> Op
 }
 
 /// The run again, up to the line of that number.
-fn world_before(case: &Case, number: usize) -> World {
-    let Call::Run { start, .. } = case.call else {
+pub fn world_before(case: &Case, number: usize) -> World {
+    let Call::Run { start, rules, .. } = case.call else {
         unreachable!("only runs have lines");
     };
     let mut world = case.world.clone();
-    let budget = number as u64;
-    Call::Run { start, budget }.perform(&mut world);
+    replay::run(&mut world, rules, start, number as u64);
     world
 }
 

@@ -31,14 +31,19 @@ pub fn row_keys(row: &MathRow) -> Vec<String> {
 }
 
 pub fn keys(case: &Case, outcome: &Outcome) -> Vec<String> {
-    let Call::Run { start, budget } = case.call else {
+    let Call::Run {
+        start,
+        budget,
+        rules,
+    } = case.call
+    else {
         let counted = case.world.state.wrapped_roundings > 0;
         let key = "a direct call keeps a count above 0";
         return counted.then(|| key.into()).into_iter().collect();
     };
     let mut keys = Vec::new();
     let mut steps = 0;
-    replay::watched(&mut case.world.clone(), start, budget, |step| {
+    replay::watched(&mut case.world.clone(), rules, start, budget, |step| {
         steps += 1;
         if matches!(step.opcode, 0x2E | 0x2F | 0x3E | 0x3F) {
             keys.extend(step_keys(case, outcome, &step, steps == 1));
@@ -114,10 +119,10 @@ fn wraps_without_native(case: &Case) -> bool {
     let mut world = case.world.clone();
     world.state.native_cleartype_x = false;
     world.state.wrapped_roundings = 0;
-    let Call::Run { start, .. } = case.call else {
+    let Call::Run { start, rules, .. } = case.call else {
         return false;
     };
-    replay::run(&mut world, start, 1);
+    replay::run(&mut world, rules, start, 1);
     world.state.wrapped_roundings > 0
 }
 

@@ -52,10 +52,7 @@ pub fn every_distance() -> Vec<Case> {
 }
 
 fn run(scene: Scene, sheet: &[i32]) -> Case {
-    scene.sheet(sheet).case(Call::Run {
-        start: 0,
-        budget: 1,
-    })
+    scene.sheet(sheet).case(Call::run(0, 1))
 }
 
 /// Three points in each zone, no coordinate like another.

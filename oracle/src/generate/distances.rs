@@ -90,7 +90,7 @@ pub fn distance_case(random: &mut Random, row: &Row) -> Case {
         _ => 0,
     };
     Case {
-        call: Call::Run { start, budget },
+        call: Call::run(start, budget),
         world,
     }
 }

@@ -104,10 +104,7 @@ fn far_reference(line: &[i32], zones: [u32; 3], place: usize) -> Case {
             state.zones = zones;
             state.pedantic = place % 2 == 1;
         });
-    scene.sheet(line).case(Call::Run {
-        start: 0,
-        budget: 1,
-    })
+    scene.sheet(line).case(Call::run(0, 1))
 }
 
 /// Those of document 01 from the table's last to its first, then the others.

@@ -6,10 +6,7 @@
 use crate::{case::Case, direct::Call, scene::Scene, world::*};
 use std::ops::RangeInclusive;
 
-const WHOLE_RUN: Call = Call::Run {
-    start: 0,
-    budget: u64::MAX,
-};
+const WHOLE_RUN: Call = Call::run(0, u64::MAX);
 const LAST_POINT: i32 = MOST_POINTS as i32 - 1;
 const LAST_CONTOUR: i32 = MOST_CONTOURS as i32 - 1;
 

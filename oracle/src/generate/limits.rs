@@ -106,10 +106,7 @@ fn sheet_on(lists: &RangeInclusive<usize>, size: usize) -> Vec<u32> {
 }
 
 fn calls_on(random: &mut Random, lists: &RangeInclusive<usize>, size: usize) -> Vec<Call> {
-    let run = Call::Run {
-        start: 0,
-        budget: u64::MAX,
-    };
+    let run = Call::run(0, u64::MAX);
     let mut calls = vec![run];
     if lists.start() >= &CONTROL_VALUES {
         return calls;

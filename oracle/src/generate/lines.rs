@@ -28,7 +28,7 @@ pub fn line_case(random: &mut Random, row: &Row) -> Case {
     }
     let budget = random.pick(&[1, 1, 1, 1, 1, 1, 1, 2, u64::MAX, 0]);
     Case {
-        call: Call::Run { start: 0, budget },
+        call: Call::run(0, budget),
         world,
     }
 }

@@ -10,6 +10,7 @@ mod lengths;
 mod limits;
 mod lines;
 mod operands;
+mod rules;
 mod runs;
 mod selectors;
 mod shift_grid;
@@ -29,6 +30,7 @@ pub use largest::largest_faces;
 pub use lengths::{every_length, every_limit, length_case};
 pub use limits::{limit_cases, long_iup_case, long_iup_shift_case};
 pub use lines::line_case;
+pub use rules::{every_rule, rules_run_case, under_both};
 pub use runs::{
     every_opcode, every_setter, run_case, runs_of_01, selector_run_case, shift_run_case,
     whole_run_of_01,
@@ -44,17 +46,21 @@ use crate::{
     notable,
     opcodes::{rows_of, Family, Row},
     random::Random,
+    rules::ALL as ALL_RULES,
     wraps::count,
 };
 use distances::any_distance;
 
 /// The ends of the others are mended.
 const SLOPPY_ONCE_IN: usize = 8;
+/// Of any cases, those that are made of what tells the rules apart.
+const RULES_ONCE_IN: usize = 20;
 
 /// What no chance is left to: document 01's runs, the scenes of note, each
 /// opcode, each setter, each shift, each selector and lines that round by it, the
 /// limits, lists that don't fit, far indices, what one rule alone decides, each
-/// kind of wrapped rounding, the largest faces, the distances, and contour ends.
+/// kind of wrapped rounding, the largest faces, the distances, contour ends, and
+/// what tells the rules apart.
 pub fn fixed_cases(random: &mut Random) -> Vec<Case> {
     let mut cases = runs_of_01().to_vec();
     cases.extend(notable::lines());
@@ -76,16 +82,25 @@ pub fn fixed_cases(random: &mut Random) -> Vec<Case> {
     cases.extend(every_distance());
     cases.extend(far_distances());
     cases.extend(every_end());
+    cases.extend(every_rule());
     cases
 }
 
 /// Any case at all, for comparisons, coverage and searches. Its contour ends may
-/// be sloppy, but seldom: such a case is refused before anything is done.
+/// be sloppy, but seldom: such a case is refused before anything is done. Half of
+/// the runs go by FreeType's rules, and now and then one is rich in what tells them
+/// apart. That is drawn aside, so that the others ask what they asked before.
 pub fn any_case(random: &mut Random) -> Case {
     let case = case_of_any_ends(random);
-    match random.once_in(SLOPPY_ONCE_IN) {
+    let case = match random.once_in(SLOPPY_ONCE_IN) {
         true => case,
         false => mended(case),
+    };
+    let mut aside = random.aside();
+    let chosen = aside.pick(&ALL_RULES);
+    match aside.once_in(RULES_ONCE_IN) {
+        true => mended(rules_run_case(&mut aside)).under(chosen),
+        false => case.under(chosen),
     }
 }
 

@@ -82,10 +82,10 @@ pub fn run_of(random: &mut Random, state: State, choice: Choice) -> Case {
         make_unsound(random, &mut world.state);
     }
     Case {
-        call: Call::Run {
-            start: start(random, &places, world.lists[SHEET].len()),
-            budget: budget(random, places.len()),
-        },
+        call: Call::run(
+            start(random, &places, world.lists[SHEET].len()),
+            budget(random, places.len()),
+        ),
         world,
     }
 }
@@ -209,10 +209,7 @@ pub fn whole_run_of_01() -> Case {
     world.lists[CONTOURS] = vec![2];
     world.lists[SHEET] = vec![0, 0, 47, 1, 0, 48, 0];
     Case {
-        call: Call::Run {
-            start: 0,
-            budget: 3,
-        },
+        call: Call::run(0, 3),
         world,
     }
 }
@@ -222,10 +219,7 @@ pub fn whole_run_of_01() -> Case {
 pub fn runs_of_01() -> [Case; 4] {
     let whole = whole_run_of_01();
     let mut short = whole.clone();
-    short.call = Call::Run {
-        start: 0,
-        budget: 2,
-    };
+    short.call = Call::run(0, 2);
     let mut pedantic = whole.clone();
     pedantic.world.lists[SHEET] = vec![47, 1, -1_i32 as u32];
     let mut lenient = pedantic.clone();

@@ -13,10 +13,7 @@ use reference::door::Rounding;
 /// What may stand above a selector's byte, and doesn't count.
 pub const ABOVE_THE_BYTE: [i32; 5] = [-0x100, 0x7FFF_FF00, 0x100, i32::MIN, 0x0055_AA00];
 
-const WHOLE_RUN: Call = Call::Run {
-    start: 0,
-    budget: u64::MAX,
-};
+const WHOLE_RUN: Call = Call::run(0, u64::MAX);
 
 /// Each byte as the operand of each kind, from a state of which every number
 /// is set anew.

@@ -36,10 +36,7 @@ pub fn every_shift() -> Vec<Case> {
     scenes.extend(pixels_by_amount());
     scenes.extend(ranges());
     scenes.extend(counts());
-    let run = Call::Run {
-        start: 0,
-        budget: 1,
-    };
+    let run = Call::run(0, 1);
     scenes.iter().map(|scene| scene.case(run)).collect()
 }
 

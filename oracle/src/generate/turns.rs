@@ -12,10 +12,7 @@ use reference::door::{Pair, Rounding};
 
 const MIN: i32 = i32::MIN;
 const MAX: i32 = i32::MAX;
-const WHOLE_RUN: Call = Call::Run {
-    start: 0,
-    budget: u64::MAX,
-};
+const WHOLE_RUN: Call = Call::run(0, u64::MAX);
 /// Directions to move in, measured along x.
 const FREEDOMS: [[i32; 2]; 4] = [X, [8192, 14189], DIAGONAL, [-16384, 0]];
 
@@ -137,7 +134,7 @@ fn sheet_limit() -> Vec<Case> {
         let end = words as u64;
         for start in [0, 2, end - 2, end - 1, end, end + 1] {
             for budget in [0, 1] {
-                cases.push(scene.case(Call::Run { start, budget }));
+                cases.push(scene.case(Call::run(start, budget)));
             }
         }
     }

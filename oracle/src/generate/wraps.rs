@@ -35,10 +35,7 @@ const WILD_LISTS: [usize; 5] = [
 const EACH: usize = 3;
 /// Counts that a run starts with.
 const COUNTS: [u32; 6] = [0, END, 3, END - 1, 0, 1 << 31];
-const WHOLE_RUN: Call = Call::Run {
-    start: 0,
-    budget: u64::MAX,
-};
+const WHOLE_RUN: Call = Call::run(0, u64::MAX);
 
 /// Some of each kind, and near misses, by both instructions, in either zone and along either axis;
 /// lines that keep the count; runs that bring it to its end.
@@ -172,7 +169,7 @@ pub fn wrap_case(random: &mut Random) -> Case {
     }
     world.lists[SHEET] = sheet.iter().map(|word| *word as u32).collect();
     let budget = random.pick(&[u64::MAX, u64::MAX, u64::MAX, u64::MAX, 3, 1]);
-    let call = Call::Run { start: 0, budget };
+    let call = Call::run(0, budget);
     Case { call, world }
 }
 

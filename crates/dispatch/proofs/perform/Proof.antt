@@ -10,7 +10,7 @@ use Rattle.dispatch.proofs.perform.Statement.{statement}
 use Rattle.dispatch.proofs.perform.Tie as tie
 
 abbrev read : tie.Start → Fixed
-read s = let a = s .args in fixed (now (a .controls)) (now (a .gux)) (now (a .guy)) (now (a .gox)) (now (a .goy)) (now (a .contours))
+read s = let a = s .args in fixed (a .rules) (now (a .controls)) (now (a .gux)) (now (a .guy)) (now (a .gox)) (now (a .goy)) (now (a .contours))
 
 abbrev entry : tie.Start → World
 entry s = let a = s .args in world (a .s) (now (a .gx)) (now (a .gy)) (now (a .gflags)) (now (a .tox)) (now (a .toy)) (now (a .tx)) (now (a .ty)) (now (a .tflags))
@@ -156,7 +156,7 @@ same-length-9 c = refl
 returns-2 : tie.Need-returns-2
 unfolding Named
 returns-2 c = let a = after-iup c in let e = to-iup (a .before) in let k = e .before .before in let s = start k in let w = entry s in
-    a .iup .ensures (now (s .args .controls)) (now (s .args .operands)) (w .tox) (w .toy) (w .tx) (w .ty) (w .tflags) ∙ named k (e .enum-told2 .given .1) (read s) (now (s .args .operands)) (entry s)
+    a .iup .ensures (s .args .rules) (now (s .args .controls)) (now (s .args .operands)) (w .tox) (w .toy) (w .tx) (w .ty) (w .tflags) ∙ named k (e .enum-told2 .given .1) (read s) (now (s .args .operands)) (entry s)
 
 same-length-10 : tie.Need-same-length-10
 same-length-10 c = search (after-shift c .perform-shift .kept)
@@ -183,7 +183,7 @@ same-length-17 : tie.Need-same-length-17
 same-length-17 c = search (after-shift c .perform-shift .kept)
 
 returns-3 : tie.Need-returns-3
-returns-3 c = let a = after-shift c in let s = start (to-shift (a .before) .before .before) .args in a .perform-shift .ensures (now (s .controls)) (now (s .gux)) (now (s .guy))
+returns-3 c = let a = after-shift c in let s = start (to-shift (a .before) .before .before) .args in a .perform-shift .ensures (s .rules) (now (s .controls)) (now (s .gux)) (now (s .guy))
 
 same-length-18 : tie.Need-same-length-18
 same-length-18 c = search (after-distance c .perform-distance .kept)
@@ -210,7 +210,7 @@ same-length-25 : tie.Need-same-length-25
 same-length-25 c = search (after-distance c .perform-distance .kept)
 
 returns-4 : tie.Need-returns-4
-returns-4 c = let a = after-distance c in let s = start (to-distance (a .before) .before .before) .args in a .perform-distance .ensures (now (s .gux)) (now (s .guy)) (now (s .gox)) (now (s .goy)) (now (s .contours))
+returns-4 c = let a = after-distance c in let s = start (to-distance (a .before) .before .before) .args in a .perform-distance .ensures (now (s .gux)) (now (s .guy)) (now (s .contours))
 
 same-length-26 : tie.Need-same-length-26
 same-length-26 c = search (after-measure c .perform-measure .kept)
@@ -237,7 +237,7 @@ same-length-33 : tie.Need-same-length-33
 same-length-33 c = search (after-measure c .perform-measure .kept)
 
 returns-5 : tie.Need-returns-5
-returns-5 c = let a = after-measure c in let s = start (to-measure (a .before) .before .before) .args in a .perform-measure .ensures (now (s .contours))
+returns-5 c = let a = after-measure c in let s = start (to-measure (a .before) .before .before) .args in a .perform-measure .ensures (s .rules) (now (s .contours))
 
 same-length-34 : tie.Need-same-length-34
 same-length-34 c = search (after-flippt c .flippt .kept)

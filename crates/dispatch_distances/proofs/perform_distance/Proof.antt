@@ -11,8 +11,8 @@ use Rattle.line.specs.World.{Fixed, World, fixed, world}
 use Rattle.dispatch_distances.proofs.perform_distance.Statement.{statement}
 use Rattle.dispatch_distances.proofs.perform_distance.Tie as tie
 
-abbrev read : tie.Start → List ℤ → List ℤ → List ℤ → List ℤ → List ℕ → Fixed
-read s = fixed (now (s .args .controls))
+abbrev read : tie.Start → List ℤ → List ℤ → List ℕ → Fixed
+read s gux guy = let a = s .args in fixed (a .rules) (now (a .controls)) gux guy (now (a .gox)) (now (a .goy))
 
 abbrev entry : tie.Start → World
 entry s = let a = s .args in world (a .s) (now (a .gx)) (now (a .gy)) (now (a .gflags)) (now (a .tox)) (now (a .toy)) (now (a .tx)) (now (a .ty)) (now (a .tflags))
@@ -91,8 +91,8 @@ same-length-6 c = search (after-alignrp c .alignrp .kept)
 
 returns : tie.Need-returns
 returns c = let k = after-alignrp c in let m = to-alignrp (k .before) in let s = start m in
-    λ gux guy gox goy contours. at-number (read s gux guy gox goy contours) (s .args .opcode) (now (s .args .operands)) (entry s) 0x3C (m .match .keys1)
-    (k .alignrp .ensures (read s gux guy gox goy contours) (s .args .opcode) (now (s .args .tox)) (now (s .args .toy)))
+    λ gux guy contours. at-number (read s gux guy contours) (s .args .opcode) (now (s .args .operands)) (entry s) 0x3C (m .match .keys1)
+    (k .alignrp .ensures (read s gux guy contours) (s .args .opcode) (now (s .args .tox)) (now (s .args .toy)))
 
 same-length-7 : tie.Need-same-length-7
 same-length-7 c = search (after-mdap c .mdap .kept)
@@ -114,7 +114,7 @@ same-length-12 c = search (after-mdap c .mdap .kept)
 
 returns-2 : tie.Need-returns-2
 returns-2 c = let k = after-mdap c in let i = to-mdap (k .before) in let s = start-rest (i .before .before) in
-    λ gux guy gox goy contours. at-range (read s gux guy gox goy contours) (s .args .opcode) (now (s .args .operands)) (entry s) 0x2E 0x2F (i .before .if1 .left) (i .if2 .taken) refl (k .mdap .ensures (read s gux guy gox goy contours) (now (s .args .tox)) (now (s .args .toy)))
+    λ gux guy contours. at-range (read s gux guy contours) (s .args .opcode) (now (s .args .operands)) (entry s) 0x2E 0x2F (i .before .if1 .left) (i .if2 .taken) refl (k .mdap .ensures (read s gux guy contours) (now (s .args .tox)) (now (s .args .toy)))
 
 same-length-13 : tie.Need-same-length-13
 same-length-13 c = search (after-msirp c .msirp .kept)
@@ -142,7 +142,7 @@ same-length-20 c = search (after-msirp c .msirp .kept)
 
 returns-3 : tie.Need-returns-3
 returns-3 c = let k = after-msirp c in let i = to-msirp (k .before) in let s = start-rest (i .before .before .before .before) in
-    λ gux guy gox goy contours. at-range (read s gux guy gox goy contours) (s .args .opcode) (now (s .args .operands)) (entry s) 0x3A 0x3B (i .before .if3 .left) (i .if4 .taken) refl (k .msirp .ensures (read s gux guy gox goy contours))
+    λ gux guy contours. at-range (read s gux guy contours) (s .args .opcode) (now (s .args .operands)) (entry s) 0x3A 0x3B (i .before .if3 .left) (i .if4 .taken) refl (k .msirp .ensures (now (s .args .controls)) gux guy contours)
 
 same-length-21 : tie.Need-same-length-21
 same-length-21 c = search (after-miap c .miap .kept)
@@ -171,7 +171,7 @@ same-length-28 c = search (after-miap c .miap .kept)
 returns-4 : tie.Need-returns-4
 returns-4 c = let k = after-miap c in let j = to-miap (k .before) in let m = j .before in let s = start-rest m in
     let is = is-miap (s .args .opcode) (s .pre .0) (m .match .rest .1) (⊎-elim (λ t. inl (t .taken)) (⊎-elim (λ t. inr (inl (t .1 .left, t .2 .taken))) (λ t. inr (inr (t .3 .left)))) (j .if1 .came)) in
-    λ gux guy gox goy contours. at-range (read s gux guy gox goy contours) (s .args .opcode) (now (s .args .operands)) (entry s) 0x3E 0x3F (is .0) (is .1) refl (k .miap .ensures gux guy gox goy contours)
+    λ gux guy contours. at-range (read s gux guy contours) (s .args .opcode) (now (s .args .operands)) (entry s) 0x3E 0x3F (is .0) (is .1) refl (k .miap .ensures (s .args .rules) gux guy (now (s .args .gox)) (now (s .args .goy)) contours)
 
 pub perform-distance-spec : {M : Type 1} → statement M
 perform-distance-spec =

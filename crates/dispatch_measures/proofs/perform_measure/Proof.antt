@@ -6,12 +6,13 @@ use Prim.Native.Nat.{ℕ, _≤_, _<_}
 use native.Mathlib.Omega.{arith}
 use denote.Ref.{now}
 use Rattle.opcodes.proofs.Rows.{at-range}
+use Rattle.rules.specs.declared.Rules.{Rules}
 use Rattle.line.specs.World.{Fixed, World, fixed, world}
 use Rattle.dispatch_measures.proofs.perform_measure.Statement.{statement}
 use Rattle.dispatch_measures.proofs.perform_measure.Tie as tie
 
-abbrev read : tie.Start → List ℕ → Fixed
-read s = let a = s .args in fixed (now (a .controls)) (now (a .gux)) (now (a .guy)) (now (a .gox)) (now (a .goy))
+abbrev read : tie.Start → Rules → List ℕ → Fixed
+read s rules = let a = s .args in fixed rules (now (a .controls)) (now (a .gux)) (now (a .guy)) (now (a .gox)) (now (a .goy))
 
 abbrev entry : tie.Start → World
 entry s = let a = s .args in world (a .s) (now (a .gx)) (now (a .gy)) (now (a .gflags)) (now (a .tox)) (now (a .toy)) (now (a .tx)) (now (a .ty)) (now (a .tflags))
@@ -89,7 +90,7 @@ same-length-6 c = refl
 
 returns : tie.Need-returns
 returns c = let i = to-gc (c .before) in let s = start (i .before) in let w = entry s in
-    λ contours. at-range (read s contours) (s .args .opcode) (now (s .args .operands)) w 0x46 0x47 (i .before .if1 .left) (i .if2 .taken) refl (c .gc .ensures (now (s .args .controls)) (now (s .args .gux)) (now (s .args .guy)) contours (w .gflags) (w .tflags))
+    λ rules contours. at-range (read s rules contours) (s .args .opcode) (now (s .args .operands)) w 0x46 0x47 (i .before .if1 .left) (i .if2 .taken) refl (c .gc .ensures rules (now (s .args .controls)) (now (s .args .gux)) (now (s .args .guy)) contours (w .gflags) (w .tflags))
 
 same-length-7 : tie.Need-same-length-7
 same-length-7 c = refl
@@ -111,7 +112,7 @@ same-length-12 c = refl
 
 returns-2 : tie.Need-returns-2
 returns-2 c = let i = to-md (c .before) in let s = start (i .before .before .before) in let w = entry s in
-    λ contours. at-range (read s contours) (s .args .opcode) (now (s .args .operands)) w 0x49 0x4A (i .before .if3 .left) (i .if4 .taken) refl (c .md .ensures (now (s .args .controls)) contours (w .gflags) (w .tflags))
+    λ rules contours. at-range (read s rules contours) (s .args .opcode) (now (s .args .operands)) w 0x49 0x4A (i .before .if3 .left) (i .if4 .taken) refl (c .md .ensures rules (now (s .args .controls)) contours (w .gflags) (w .tflags))
 
 same-length-13 : tie.Need-same-length-13
 same-length-13 c = search (after-mdrp c .mdrp .kept)
@@ -139,7 +140,7 @@ same-length-20 c = search (after-mdrp c .mdrp .kept)
 
 returns-3 : tie.Need-returns-3
 returns-3 c = let k = after-mdrp c in let i = to-mdrp (k .before) in let s = start (i .before .before .before .before .before) in
-    λ contours. at-range (read s contours) (s .args .opcode) (now (s .args .operands)) (entry s) 0xC0 0xDF (i .before .if5 .left) (i .if6 .taken) refl (k .mdrp .ensures (now (s .args .controls)) contours)
+    λ rules contours. at-range (read s rules contours) (s .args .opcode) (now (s .args .operands)) (entry s) 0xC0 0xDF (i .before .if5 .left) (i .if6 .taken) refl (k .mdrp .ensures rules (now (s .args .controls)) contours)
 
 same-length-21 : tie.Need-same-length-21
 same-length-21 c = search (after-mirp c .mirp .kept)
@@ -168,7 +169,7 @@ same-length-28 c = search (after-mirp c .mirp .kept)
 returns-4 : tie.Need-returns-4
 returns-4 c = let k = after-mirp c in let j = to-mirp (k .before) in let s = start2 j in
     let is = is-mirp (s .args .opcode) (s .pre .0) (⊎-elim (λ t. inl (t .taken)) (⊎-elim (λ t. inr (inl (t .1 .left, t .2 .taken))) (⊎-elim (λ t. inr (inr (inl (t .3 .left, t .4 .taken)))) (λ t. inr (inr (inr (t .5 .left)))))) (j .if1 .came)) in
-    λ contours. at-range (read s contours) (s .args .opcode) (now (s .args .operands)) (entry s) 0xE0 0xFF (is .0) (is .1) refl (k .mirp .ensures (now (s .args .gux)) (now (s .args .guy)) contours)
+    λ rules contours. at-range (read s rules contours) (s .args .opcode) (now (s .args .operands)) (entry s) 0xE0 0xFF (is .0) (is .1) refl (k .mirp .ensures rules (now (s .args .gux)) (now (s .args .guy)) contours)
 
 pub perform-measure-spec : {M : Type 1} → statement M
 perform-measure-spec =

@@ -7,12 +7,13 @@ use native.Mathlib.Omega.{arith}
 use denote.Ref.{now}
 use lib.IntN.{ℤ}
 use Rattle.opcodes.proofs.Rows.{at-number, at-range}
+use Rattle.rules.specs.declared.Rules.{Rules}
 use Rattle.line.specs.World.{Fixed, World, fixed, world}
 use Rattle.dispatch_shifts.proofs.perform_shift.Statement.{statement}
 use Rattle.dispatch_shifts.proofs.perform_shift.Tie as tie
 
-abbrev read : tie.Start → List ℤ → List ℤ → List ℤ → Fixed
-read s controls gux guy = let a = s .args in fixed controls gux guy (now (a .gox)) (now (a .goy)) (now (a .contours))
+abbrev read : tie.Start → Rules → List ℤ → List ℤ → List ℤ → Fixed
+read s rules controls gux guy = let a = s .args in fixed rules controls gux guy (now (a .gox)) (now (a .goy)) (now (a .contours))
 
 abbrev entry : tie.Start → World
 entry s = let a = s .args in world (a .s) (now (a .gx)) (now (a .gy)) (now (a .gflags)) (now (a .tox)) (now (a .toy)) (now (a .tx)) (now (a .ty)) (now (a .tflags))
@@ -85,7 +86,7 @@ same-length-6 c = search (after-shp c .shp .kept)
 
 returns : tie.Need-returns
 returns c = let k = after-shp c in let i = to-shp (k .before) in let s = start (i .before) in
-    λ controls gux guy. at-range (read s controls gux guy) (s .args .opcode) (now (s .args .operands)) (entry s) 0x32 0x33 (i .before .if1 .left) (i .if2 .taken) refl (k .shp .ensures controls gux guy (now (s .args .contours)))
+    λ rules controls gux guy. at-range (read s rules controls gux guy) (s .args .opcode) (now (s .args .operands)) (entry s) 0x32 0x33 (i .before .if1 .left) (i .if2 .taken) refl (k .shp .ensures rules controls gux guy (now (s .args .contours)))
 
 same-length-7 : tie.Need-same-length-7
 same-length-7 c = search (after-shc c .shc .kept)
@@ -107,7 +108,7 @@ same-length-12 c = search (after-shc c .shc .kept)
 
 returns-2 : tie.Need-returns-2
 returns-2 c = let k = after-shc c in let i = to-shc (k .before) in let s = start (i .before .before) in
-    λ controls gux guy. at-range (read s controls gux guy) (s .args .opcode) (now (s .args .operands)) (entry s) 0x34 0x35 (i .before .if2 .left) (i .if3 .taken) refl (k .shc .ensures controls gux guy)
+    λ rules controls gux guy. at-range (read s rules controls gux guy) (s .args .opcode) (now (s .args .operands)) (entry s) 0x34 0x35 (i .before .if2 .left) (i .if3 .taken) refl (k .shc .ensures rules controls gux guy)
 
 same-length-13 : tie.Need-same-length-13
 same-length-13 c = search (after-shz c .shz .kept)
@@ -129,7 +130,7 @@ same-length-18 c = search (after-shz c .shz .kept)
 
 returns-3 : tie.Need-returns-3
 returns-3 c = let k = after-shz c in let i = to-shz (k .before) in let s = start (i .before .before .before) in
-    λ controls gux guy. at-range (read s controls gux guy) (s .args .opcode) (now (s .args .operands)) (entry s) 0x36 0x37 (i .before .if3 .left) (i .if4 .taken) refl (k .shz .ensures controls gux guy)
+    λ rules controls gux guy. at-range (read s rules controls gux guy) (s .args .opcode) (now (s .args .operands)) (entry s) 0x36 0x37 (i .before .if3 .left) (i .if4 .taken) refl (k .shz .ensures rules controls gux guy)
 
 same-length-19 : tie.Need-same-length-19
 same-length-19 c = search (after-shpix c .shpix .kept)
@@ -151,9 +152,9 @@ same-length-24 c = search (after-shpix c .shpix .kept)
 
 returns-4 : tie.Need-returns-4
 returns-4 c = let k = after-shpix c in let j = to-shpix (k .before) in let s = start2 j in
-    λ controls gux guy. at-number (read s controls gux guy) (s .args .opcode) (now (s .args .operands)) (entry s) 0x38
+    λ rules controls gux guy. at-number (read s rules controls gux guy) (s .args .opcode) (now (s .args .operands)) (entry s) 0x38
     (is-shpix (s .args .opcode) (s .pre .0) (s .pre .1) (⊎-elim (λ t. inl (t .taken)) (λ t. inr (t .3 .left)) (j .if1 .came)))
-    (k .shpix .ensures (read s controls gux guy) (s .args .opcode) (now (s .args .tox)) (now (s .args .toy)))
+    (k .shpix .ensures (read s rules controls gux guy) (s .args .opcode) (now (s .args .tox)) (now (s .args .toy)))
 
 pub perform-shift-spec : {M : Type 1} → statement M
 perform-shift-spec =

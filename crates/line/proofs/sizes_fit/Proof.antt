@@ -18,7 +18,7 @@ words-fit-requires c κs = search needs
 
 returns : tie.Need-returns
 unfolding fits
-returns c = cc
+returns c = λ rules. cc
 
 pub sizes-fit-spec : {M : Type 1} → statement M
 sizes-fit-spec =

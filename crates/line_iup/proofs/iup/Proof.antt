@@ -5,14 +5,15 @@ use Prim.Native.Nat.{ℕ}
 use denote.Ref.{now}
 use lib.IntN.{ℤ}
 use Rattle.line_steps.specs.Steps.{into}
+use Rattle.rules.specs.declared.Rules.{Rules}
 use Rattle.line.specs.World.{Fixed, World, fixed, world}
 use Rattle.line_iup.proofs.Cases.{iup-past, iup-walked}
 use Rattle.line_iup.proofs.iup.Statement.{statement}
 use Rattle.line_iup.proofs.iup.Tie as tie
 
 -- ---- the lists lent, in a world
-abbrev lent : tie.Start → List ℤ → Fixed
-lent b controls = let a = b .args in fixed controls (now (a .gux)) (now (a .guy)) (now (a .gox)) (now (a .goy)) (now (a .contours))
+abbrev lent : tie.Start → Rules → List ℤ → Fixed
+lent b rules controls = let a = b .args in fixed rules controls (now (a .gux)) (now (a .guy)) (now (a .gox)) (now (a .goy)) (now (a .contours))
 
 abbrev entry : tie.Start → List ℤ → List ℤ → List ℤ → List ℤ → List ℕ → World
 entry b = let a = b .args in world (a .s) (now (a .gx)) (now (a .gy)) (now (a .gflags))
@@ -29,8 +30,8 @@ done-requires c κs = tt
 
 returns : tie.Need-returns
 returns c = let p = c .before .before in let b = started p in
-    λ controls operands tox toy tx ty tflags. let w = entry b tox toy tx ty tflags in
-    iup-past (lent b controls) (b .args .opcode) operands w (p .past-both-iups .ensures) (c .before .if1 .taken) (ap (into w) (c .done .ensures))
+    λ rules controls operands tox toy tx ty tflags. let w = entry b tox toy tx ty tflags in
+    iup-past (lent b rules controls) (b .args .opcode) operands w (p .past-both-iups .ensures) (c .before .if1 .taken) (ap (into w) (c .done .ensures))
 
 is-odd-requires : tie.Need-is-odd-requires
 is-odd-requires c κs = tt
@@ -52,9 +53,9 @@ same-length-2 c = search
 
 returns-2 : tie.Need-returns-2
 returns-2 c = let m = c .before in let k = m .before .before .before in let o = k .before .before .before in let p = o .before .before in let b = started p in
-    λ controls operands tox toy tx ty tflags.
-    iup-walked (lent b controls) (b .args .opcode) operands (entry b tox toy tx ty tflags) (p .past-both-iups .ensures) (o .before .if1 .left) (o .is-odd .ensures) (m .marked-for .ensures)
-    (k .walk-on .ensures (m .marked-for .result) controls tox toy tx ty tflags)
+    λ rules controls operands tox toy tx ty tflags.
+    iup-walked (lent b rules controls) (b .args .opcode) operands (entry b tox toy tx ty tflags) (p .past-both-iups .ensures) (o .before .if1 .left) (o .is-odd .ensures) (m .marked-for .ensures)
+    (k .walk-on .ensures (m .marked-for .result) rules controls tox toy tx ty tflags)
     (c .done2 .ensures)
 
 pub iup-spec : {M : Type 1} → statement M

@@ -8,6 +8,7 @@ use lib.IntN.{ℤ}
 use Rattle.int.proofs.Words.{back32}
 use Rattle.line_steps.specs.Steps.{into, withPoints}
 use Rattle.moves.specs.Apply.{bothMoved}
+use Rattle.rules.specs.declared.Rules.{Rules}
 use Rattle.line.specs.World.{Fixed, World, fixed, world}
 use Rattle.line_mdrp.proofs.Cases.{mdrp-missing, mdrp-moved, mdrp-outside}
 use Rattle.line_mdrp.proofs.mdrp.Statement.{statement}
@@ -18,8 +19,8 @@ abbrev entry : tie.Start → World
 entry s = let a = s .args in
     world (a .s) (now (a .gx)) (now (a .gy)) (now (a .gflags)) (now (a .tox)) (now (a .toy)) (now (a .tx)) (now (a .ty)) (now (a .tflags))
 
-abbrev held : tie.Start → List ℤ → List ℕ → Fixed
-held s controls contours = let a = s .args in fixed controls (now (a .gux)) (now (a .guy)) (now (a .gox)) (now (a .goy)) contours
+abbrev held : tie.Start → Rules → List ℤ → List ℕ → Fixed
+held s rules controls contours = let a = s .args in fixed rules controls (now (a .gux)) (now (a .guy)) (now (a .gox)) (now (a .goy)) contours
 
 abbrev beginning : tie.After-refused → tie.Start
 beginning c = search
@@ -74,7 +75,7 @@ refused-requires c κs = tt
 
 returns : tie.Need-returns
 returns c = let i = c .before in let s = beginning c in
-    λ controls contours. mdrp-missing (held s controls contours) (s .args .opcode) (now (s .args .operands)) (entry s) (i .if1 .taken) (ap (into (entry s)) (c .refused .ensures))
+    λ rules controls contours. mdrp-missing (held s rules controls contours) (s .args .opcode) (now (s .args .operands)) (entry s) (i .if1 .taken) (ap (into (entry s)) (c .refused .ensures))
 
 index-at-requires : tie.Need-index-at-requires
 index-at-requires c κs = tt
@@ -129,7 +130,7 @@ settle-relative-requires c κs = tt
 
 returns-2 : tie.Need-returns-2
 returns-2 c = let t = c .before .before in let k = t .before .before in let l = looking k in let z = sizing l in let n = setting z in let i = indexed n in let s = started i in
-    λ controls contours. mdrp-outside (held s controls contours) (s .args .opcode) (now (s .args .operands)) (entry s) (i .before .if1 .left)
+    λ rules controls contours. mdrp-outside (held s rules controls contours) (s .args .opcode) (now (s .args .operands)) (entry s) (i .before .if1 .left)
     (i .index-at .ensures)
     (n .sets-rp0 .ensures)
     (z .size-of .ensures)
@@ -159,7 +160,7 @@ same-length-6 c = search (applying c .apply-in .kept)
 returns-3 : tie.Need-returns-3
 returns-3 c = let a = applying c in let m = moving (a .before) in let t = stepped m in let y = projected t in let u = referred y in let p = placed u in let d = wanted p in let o = measured d in
     let e = o .before .before in let k = looked o in let l = looking k in let z = sizing l in let n = setting z in let i = indexed n in let s = started i in
-    λ controls contours. mdrp-moved (held s controls contours) (s .args .opcode) (now (s .args .operands)) (entry s) (i .before .if1 .left)
+    λ rules controls contours. mdrp-moved (held s rules controls contours) (s .args .opcode) (now (s .args .operands)) (entry s) (i .before .if1 .left)
     (i .index-at .ensures)
     (n .sets-rp0 .ensures)
     (z .size-of .ensures)

@@ -4,6 +4,7 @@ use mathlib.Core.List.{List}
 use mathlib.Core.Path.{ap}
 use denote.Ref.{now}
 use lib.IntN.{ℤ}
+use Rattle.rules.specs.declared.Rules.{Rules}
 use Rattle.line.specs.World.{Fixed, World, fixed, world}
 use Rattle.line_steps.specs.Steps.{into}
 use Rattle.line_measure.proofs.Cases.{gc-found, gc-missing}
@@ -15,8 +16,8 @@ abbrev entry : tie.Start → List ℕ → List ℕ → World
 entry s gflags tflags = let a = s .args in
     world (a .s) (now (a .gx)) (now (a .gy)) gflags (now (a .tox)) (now (a .toy)) (now (a .tx)) (now (a .ty)) tflags
 
-abbrev held : tie.Start → List ℤ → List ℤ → List ℤ → List ℕ → Fixed
-held s controls gux guy contours = let a = s .args in fixed controls gux guy (now (a .gox)) (now (a .goy)) contours
+abbrev held : tie.Start → Rules → List ℤ → List ℤ → List ℤ → List ℕ → Fixed
+held s rules controls gux guy contours = let a = s .args in fixed rules controls gux guy (now (a .gox)) (now (a .goy)) contours
 
 abbrev beginning : tie.After-refused → tie.Start
 beginning c = search
@@ -41,7 +42,7 @@ refused-requires c κs = tt
 
 returns : tie.Need-returns
 returns c = let s = beginning c in
-    λ controls gux guy contours gflags tflags. gc-missing (held s controls gux guy contours) (s .args .opcode) (now (s .args .operands)) (entry s gflags tflags) (c .before .if1 .taken)
+    λ rules controls gux guy contours gflags tflags. gc-missing (held s rules controls gux guy contours) (s .args .opcode) (now (s .args .operands)) (entry s gflags tflags) (c .before .if1 .taken)
     (ap (into (entry s gflags tflags)) (c .refused .ensures))
 
 index-at-requires : tie.Need-index-at-requires
@@ -61,7 +62,7 @@ settle-measured-requires c κs = tt
 
 returns-2 : tie.Need-returns-2
 returns-2 c = let d = measured c in let l = looked d in let o = asked l in let i = indexed o in let s = started i in
-    λ controls gux guy contours gflags tflags. gc-found (held s controls gux guy contours) (s .args .opcode) (now (s .args .operands)) (entry s gflags tflags) (i .before .if1 .left)
+    λ rules controls gux guy contours gflags tflags. gc-found (held s rules controls gux guy contours) (s .args .opcode) (now (s .args .operands)) (entry s gflags tflags) (i .before .if1 .left)
     (i .index-at .ensures)
     (o .is-odd .ensures)
     (l .look-up .ensures)

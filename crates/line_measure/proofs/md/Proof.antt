@@ -7,6 +7,7 @@ use denote.Ref.{now}
 use lib.IntN.{ℤ}
 use Rattle.int.proofs.Words.{back32}
 use Rattle.line.specs.Line.{doneWith}
+use Rattle.rules.specs.declared.Rules.{Rules}
 use Rattle.line.specs.World.{Fixed, World, fixed, world}
 use Rattle.line_steps.specs.Steps.{into}
 use Rattle.line_measure.proofs.Cases.{md-found, md-glyph, md-missing}
@@ -18,8 +19,8 @@ abbrev entry : tie.Start → List ℕ → List ℕ → World
 entry s gflags tflags = let a = s .args in
     world (a .s) (now (a .gx)) (now (a .gy)) gflags (now (a .tox)) (now (a .toy)) (now (a .tx)) (now (a .ty)) tflags
 
-abbrev held : tie.Start → List ℤ → List ℕ → Fixed
-held s controls contours = let a = s .args in fixed controls (now (a .gux)) (now (a .guy)) (now (a .gox)) (now (a .goy)) contours
+abbrev held : tie.Start → Rules → List ℤ → List ℕ → Fixed
+held s rules controls contours = let a = s .args in fixed rules controls (now (a .gux)) (now (a .guy)) (now (a .gox)) (now (a .goy)) contours
 
 abbrev beginning : tie.After-refused → tie.Start
 beginning c = search
@@ -59,7 +60,7 @@ refused-requires c κs = tt
 
 returns : tie.Need-returns
 returns c = let s = beginning c in
-    λ controls contours gflags tflags. md-missing (held s controls contours) (s .args .opcode) (now (s .args .operands)) (entry s gflags tflags) (c .before .if1 .taken)
+    λ rules controls contours gflags tflags. md-missing (held s rules controls contours) (s .args .opcode) (now (s .args .operands)) (entry s gflags tflags) (c .before .if1 .taken)
     (ap (into (entry s gflags tflags)) (c .refused .ensures))
 
 index-at-requires : tie.Need-index-at-requires
@@ -100,7 +101,7 @@ done-requires c κs = tt
 
 returns-2 : tie.Need-returns-2
 returns-2 c = let d = measured c in let m = both d in let l = one m in let u = twilit l in let t = seen u in let o = asked t in let j = indexed o in let i = first j in let s = started i in
-    λ controls contours gflags tflags. md-found (held s controls contours) (s .args .opcode) (now (s .args .operands)) (entry s gflags tflags) (i .before .if1 .left)
+    λ rules controls contours gflags tflags. md-found (held s rules controls contours) (s .args .opcode) (now (s .args .operands)) (entry s gflags tflags) (i .before .if1 .left)
     (i .index-at .ensures)
     (j .index-at2 .ensures)
     (o .is-odd .ensures)
@@ -114,7 +115,7 @@ returns-2 c = let d = measured c in let m = both d in let l = one m in let u = t
 
 returns-3 : tie.Need-returns-3
 returns-3 c = let h = c .before in let g = h .before in let u = scaled g in let t = seen u in let o = asked t in let j = indexed o in let i = first j in let s = started i in
-    λ controls contours gflags tflags. md-glyph (held s controls contours) (s .args .opcode) (now (s .args .operands)) (entry s gflags tflags) (i .before .if1 .left)
+    λ rules controls contours gflags tflags. md-glyph (held s rules controls contours) (s .args .opcode) (now (s .args .operands)) (entry s gflags tflags) (i .before .if1 .left)
     (i .index-at .ensures)
     (j .index-at2 .ensures)
     (o .is-odd .ensures)

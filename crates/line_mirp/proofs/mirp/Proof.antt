@@ -8,6 +8,7 @@ use lib.IntN.{ℤ}
 use Rattle.int.proofs.Words.{back32}
 use Rattle.line_steps.specs.Steps.{into, withPoints}
 use Rattle.moves.specs.Apply.{bothMoved}
+use Rattle.rules.specs.declared.Rules.{Rules}
 use Rattle.line.specs.World.{Fixed, World, fixed, world}
 use Rattle.line_mirp.proofs.Cases.{mirp-missing, mirp-moved, mirp-outside}
 use Rattle.line_mirp.proofs.mirp.Statement.{statement}
@@ -18,8 +19,8 @@ abbrev entry : tie.Start → World
 entry s = let a = s .args in
     world (a .s) (now (a .gx)) (now (a .gy)) (now (a .gflags)) (now (a .tox)) (now (a .toy)) (now (a .tx)) (now (a .ty)) (now (a .tflags))
 
-abbrev held : tie.Start → List ℤ → List ℤ → List ℕ → Fixed
-held s gux guy contours = let a = s .args in fixed (now (a .controls)) gux guy (now (a .gox)) (now (a .goy)) contours
+abbrev held : tie.Start → Rules → List ℤ → List ℤ → List ℕ → Fixed
+held s rules gux guy contours = let a = s .args in fixed rules (now (a .controls)) gux guy (now (a .gox)) (now (a .goy)) contours
 
 abbrev beginning : tie.After-refused → tie.Start
 beginning c = search
@@ -70,7 +71,7 @@ refused-requires c κs = tt
 
 returns : tie.Need-returns
 returns c = let i = c .before in let s = beginning c in
-    λ gux guy contours. mirp-missing (held s gux guy contours) (s .args .opcode) (now (s .args .operands)) (entry s) (i .if1 .taken) (ap (into (entry s)) (c .refused .ensures))
+    λ rules gux guy contours. mirp-missing (held s rules gux guy contours) (s .args .opcode) (now (s .args .operands)) (entry s) (i .if1 .taken) (ap (into (entry s)) (c .refused .ensures))
 
 next-at-requires : tie.Need-next-at-requires
 next-at-requires c κs = tt
@@ -124,7 +125,7 @@ settle-relative-requires c κs = tt
 
 returns-2 : tie.Need-returns-2
 returns-2 c = let t = c .before .before in let k = t .before .before in let n = k .before in let i = indexed n in let x = i .before in let s = started x in
-    λ gux guy contours. mirp-outside (held s gux guy contours) (s .args .opcode) (now (s .args .operands)) (entry s) (x .before .if1 .left)
+    λ rules gux guy contours. mirp-outside (held s rules gux guy contours) (s .args .opcode) (now (s .args .operands)) (entry s) (x .before .if1 .left)
     (x .next-at .ensures)
     (i .index-at .ensures)
     (n .sets-rp0 .ensures)
@@ -161,7 +162,7 @@ same-length-8 c = search (applying c .apply-in .kept)
 returns-3 : tie.Need-returns-3
 returns-3 c = let a = applying c in let m = moving (a .before) in let t = stepping m in let d = t .before in let z = d .before in let o = apart t in let u = measured o in let y = making u in
     let v = known y in let k = looked y in let n = k .before in let i = indexed n in let x = i .before in let s = started x in
-    λ gux guy contours. mirp-moved (held s gux guy contours) (s .args .opcode) (now (s .args .operands)) (entry s) (x .before .if1 .left)
+    λ rules gux guy contours. mirp-moved (held s rules gux guy contours) (s .args .opcode) (now (s .args .operands)) (entry s) (x .before .if1 .left)
     (x .next-at .ensures)
     (i .index-at .ensures)
     (n .sets-rp0 .ensures)

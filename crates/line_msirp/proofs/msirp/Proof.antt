@@ -1,15 +1,21 @@
 -- `line_msirp::msirp` meets its contract: by whether both operands are there, and then both points. Assumes nothing.
+use mathlib.Core.List.{List}
 use mathlib.Core.Path.{ap, sym, _∙_}
+use Prim.Native.Nat.{ℕ}
+use lib.IntN.{ℤ}
 use denote.Ref.{now}
 use Rattle.int.proofs.Words.{back32}
 use Rattle.line_steps.specs.Steps.{into, withPoints}
 use Rattle.moves.specs.Apply.{bothMoved}
-use Rattle.line.specs.World.{World, world}
+use Rattle.line.specs.World.{Fixed, World, fixed, world}
 use Rattle.line_msirp.proofs.Cases.{msirp-missing, msirp-moved, msirp-passed}
 use Rattle.line_msirp.proofs.msirp.Statement.{statement}
 use Rattle.line_msirp.proofs.msirp.Tie as tie
 
 -- ---- places of the walk, found by their types
+abbrev held : tie.Start → List ℤ → List ℤ → List ℤ → List ℕ → Fixed
+held s controls gux guy contours = let a = s .args in fixed (a .rules) controls gux guy (now (a .gox)) (now (a .goy)) contours
+
 abbrev entry : tie.Start → World
 entry s = let a = s .args in
     world (a .s) (now (a .gx)) (now (a .gy)) (now (a .gflags)) (now (a .tox)) (now (a .toy)) (now (a .tx)) (now (a .ty)) (now (a .tflags))
@@ -43,7 +49,7 @@ made c = making (placing (moving (applying c .before)))
 
 -- the world with the twilight point made
 abbrev madeWorld : tie.After-make-in → World
-madeWorld m = let l = m .make-in .last .1 .1 .1 .1 in let a = started (indexed (reached m)) .args in
+madeWorld m = let l = m .make-in .last .1 .1 .1 .1 .1 .1 .1 .1 .1 in let a = started (indexed (reached m)) .args in
     world (a .s) (now (a .gx)) (now (a .gy)) (now (a .gflags)) (l .0) (l .1 .0) (l .1 .1 .0) (l .1 .1 .1 .0) (now (a .tflags))
 
 refused-requires : tie.Need-refused-requires
@@ -51,7 +57,7 @@ refused-requires c κs = tt
 
 returns : tie.Need-returns
 returns c = let i = c .before in let s = i .before .before .before in
-    λ f. msirp-missing f (s .args .opcode) (now (s .args .operands)) (entry s) (i .if1 .taken) (ap (into (entry s)) (c .refused .ensures))
+    λ controls gux guy contours. msirp-missing (held s controls gux guy contours) (s .args .opcode) (now (s .args .operands)) (entry s) (i .if1 .taken) (ap (into (entry s)) (c .refused .ensures))
 
 coordinate-or-0-requires : tie.Need-coordinate-or-0-requires
 coordinate-or-0-requires c κs = tt
@@ -88,7 +94,7 @@ move-of-requires c κs = tt
 
 apply-in-requires : tie.Need-apply-in-requires
 apply-in-requires c κs = let m = making (placing (moving c)) in let p = started (indexed (reached m)) .pre in
-    let twilight = m .make-in .kept .1 .1 .1 .1 in let tx = twilight .1 .1 .0 in
+    let twilight = m .make-in .kept .1 .1 .1 .1 .1 .1 .1 .1 .1 in let tx = twilight .1 .1 .0 in
     (p .0, p .1, twilight .1 .1 .1 .0 ∙ p .2 ∙ sym tx, p .3 ∙ sym tx)
 
 is-odd-requires : tie.Need-is-odd-requires
@@ -99,7 +105,7 @@ settle-relative-requires c κs = tt
 
 returns-2 : tie.Need-returns-2
 returns-2 c = let t = c .before .before in let k = t .before .before in let i = indexed k in let d = i .before in let s = started i in
-    λ f. msirp-passed f (s .args .opcode) (now (s .args .operands)) (entry s) (d .before .if1 .left)
+    λ controls gux guy contours. msirp-passed (held s controls gux guy contours) (s .args .opcode) (now (s .args .operands)) (entry s) (d .before .if1 .left)
     (back32 (d .coordinate-or-0 .result) (d .coordinate-or-0 .ok) ∙ d .coordinate-or-0 .ensures)
     (i .index-at .ensures)
     (k .reach .ensures)
@@ -123,18 +129,18 @@ same-length-5 c = search (made c .make-in .kept)
 
 same-length-6 : tie.Need-same-length-6
 same-length-6 c = let twilight = applying c .apply-in .kept .1 .1 .1 .1 .1 in
-    let earlier = made c .make-in .kept .1 .1 .1 .1 in twilight .1 .0 ∙ earlier .1 .1 .0
+    let earlier = made c .make-in .kept .1 .1 .1 .1 .1 .1 .1 .1 .1 in twilight .1 .0 ∙ earlier .1 .1 .0
 
 same-length-7 : tie.Need-same-length-7
 same-length-7 c = let twilight = applying c .apply-in .kept .1 .1 .1 .1 .1 in
-    let earlier = made c .make-in .kept .1 .1 .1 .1 in twilight .1 .1 .0 ∙ earlier .1 .1 .1 .0
+    let earlier = made c .make-in .kept .1 .1 .1 .1 .1 .1 .1 .1 .1 in twilight .1 .1 .0 ∙ earlier .1 .1 .1 .0
 
 same-length-8 : tie.Need-same-length-8
 same-length-8 c = search (applying c .apply-in .kept)
 
 returns-3 : tie.Need-returns-3
 returns-3 c = let a = applying c in let n = moving (a .before) in let l = n .before in let o = l .before in let p = placing n in let m = making p in let e = m .before .before .before .before .before in let k = reached m in let i = indexed k in let d = i .before in let s = started i in
-    λ f. msirp-moved f (s .args .opcode) (now (s .args .operands)) (entry s) (d .before .if1 .left)
+    λ controls gux guy contours. msirp-moved (held s controls gux guy contours) (s .args .opcode) (now (s .args .operands)) (entry s) (d .before .if1 .left)
     (back32 (d .coordinate-or-0 .result) (d .coordinate-or-0 .ok) ∙ d .coordinate-or-0 .ensures)
     (i .index-at .ensures)
     (k .reach .ensures)

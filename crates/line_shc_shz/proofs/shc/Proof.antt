@@ -7,6 +7,7 @@ use denote.Ref.{now}
 use lib.IntN.{ℤ}
 use Rattle.line_span.proofs.Bridge.{span-is}
 use Rattle.line_steps.specs.Steps.{into}
+use Rattle.rules.specs.declared.Rules.{Rules}
 use Rattle.line.specs.World.{Fixed, World, fixed, world}
 use Rattle.line_shc_shz.proofs.Cases.{contour-shifted, no-such-contour, shc-missing}
 use borrow.Author.Needs.{needs}
@@ -14,8 +15,8 @@ use Rattle.line_shc_shz.proofs.shc.Statement.{statement}
 use Rattle.line_shc_shz.proofs.shc.Tie as tie
 
 -- ---- the lists lent, in a world
-abbrev lent : tie.Start → List ℤ → List ℤ → List ℤ → Fixed
-lent b controls gux guy = let a = b .args in fixed controls gux guy (now (a .gox)) (now (a .goy)) (now (a .contours))
+abbrev lent : tie.Start → Rules → List ℤ → List ℤ → List ℤ → Fixed
+lent b rules controls gux guy = let a = b .args in fixed rules controls gux guy (now (a .gox)) (now (a .goy)) (now (a .contours))
 
 abbrev entry : tie.Start → World
 entry b = let a = b .args in world (a .s) (now (a .gx)) (now (a .gy)) (now (a .gflags)) (now (a .tox)) (now (a .toy)) (now (a .tx)) (now (a .ty)) (now (a .tflags))
@@ -38,7 +39,7 @@ refused-requires c κs = tt
 
 returns : tie.Need-returns
 returns c = let b = c .before .before .before .before .before in
-    λ controls gux guy. shc-missing (lent b controls gux guy) (b .args .opcode) (now (b .args .operands)) (entry b) (c .before .if1 .taken) (ap (into (entry b)) (c .refused .ensures))
+    λ rules controls gux guy. shc-missing (lent b rules controls gux guy) (b .args .opcode) (now (b .args .operands)) (entry b) (c .before .if1 .taken) (ap (into (entry b)) (c .refused .ensures))
 
 index-at-requires : tie.Need-index-at-requires
 index-at-requires c κs = tt
@@ -51,7 +52,7 @@ no-contour-requires c κs = tt
 
 returns-2 : tie.Need-returns-2
 returns-2 c = let n = c .before .before in let i = n .before .before in let b = started i in
-    λ controls gux guy. no-such-contour (lent b controls gux guy) (b .args .opcode) (now (b .args .operands)) (entry b) (i .before .if1 .left) (i .index-at .ensures) (n .size-of .ensures) (c .before .if2 .taken) (c .no-contour .ensures (entry b))
+    λ rules controls gux guy. no-such-contour (lent b rules controls gux guy) (b .args .opcode) (now (b .args .operands)) (entry b) (i .before .if1 .left) (i .index-at .ensures) (n .size-of .ensures) (c .before .if2 .taken) (c .no-contour .ensures (entry b))
 
 point-after-requires : tie.Need-point-after-requires
 point-after-requires c κs = tt
@@ -91,8 +92,8 @@ same-length-6 c = search (shifted c .shift-span-of .kept)
 
 returns-3 : tie.Need-returns-3
 returns-3 c = let t = shifted c in let p = referring t in let e = p .before in let q = e .before in let a = q .before in let n = a .before .before in let i = indexed t in let b = started i in
-    λ controls gux guy. contour-shifted (lent b controls gux guy) (b .args .opcode) (now (b .args .operands)) (entry b) (i .before .if1 .left) (i .index-at .ensures) (n .size-of .ensures) (a .before .if2 .left) (a .point-after .ensures) (q .point-after2 .ensures) (e .size-of2 .ensures)
-    (span-is (lent b controls gux guy) (b .args .opcode) true (a .point-after .result) (e .size-of2 .result) (entry b) (p .reference-of .ensures) (t .shift-span-of .ensures))
+    λ rules controls gux guy. contour-shifted (lent b rules controls gux guy) (b .args .opcode) (now (b .args .operands)) (entry b) (i .before .if1 .left) (i .index-at .ensures) (n .size-of .ensures) (a .before .if2 .left) (a .point-after .ensures) (q .point-after2 .ensures) (e .size-of2 .ensures)
+    (span-is (lent b rules controls gux guy) (b .args .opcode) true (a .point-after .result) (e .size-of2 .result) (entry b) (p .reference-of .ensures) (t .shift-span-of .ensures))
 
 pub shc-spec : {M : Type 1} → statement M
 shc-spec =

@@ -7,14 +7,15 @@ use denote.Ref.{now}
 use lib.IntN.{ℤ}
 use Rattle.line_span.proofs.Bridge.{span-is}
 use Rattle.line_steps.specs.Steps.{into}
+use Rattle.rules.specs.declared.Rules.{Rules}
 use Rattle.line.specs.World.{Fixed, World, fixed, world}
 use Rattle.line_shc_shz.proofs.Cases.{no-such-zone, shz-missing, zone-shifted}
 use Rattle.line_shc_shz.proofs.shz.Statement.{statement}
 use Rattle.line_shc_shz.proofs.shz.Tie as tie
 
 -- ---- the lists lent, in a world
-abbrev lent : tie.Start → List ℤ → List ℤ → List ℤ → Fixed
-lent b controls gux guy = let a = b .args in fixed controls gux guy (now (a .gox)) (now (a .goy)) (now (a .contours))
+abbrev lent : tie.Start → Rules → List ℤ → List ℤ → List ℤ → Fixed
+lent b rules controls gux guy = let a = b .args in fixed rules controls gux guy (now (a .gox)) (now (a .goy)) (now (a .contours))
 
 abbrev entry : tie.Start → World
 entry b = let a = b .args in world (a .s) (now (a .gx)) (now (a .gy)) (now (a .gflags)) (now (a .tox)) (now (a .toy)) (now (a .tx)) (now (a .ty)) (now (a .tflags))
@@ -37,7 +38,7 @@ refused-requires c κs = tt
 
 returns : tie.Need-returns
 returns c = let b = c .before .before .before .before .before in
-    λ controls gux guy. shz-missing (lent b controls gux guy) (b .args .opcode) (now (b .args .operands)) (entry b) (c .before .if1 .taken) (ap (into (entry b)) (c .refused .ensures))
+    λ rules controls gux guy. shz-missing (lent b rules controls gux guy) (b .args .opcode) (now (b .args .operands)) (entry b) (c .before .if1 .taken) (ap (into (entry b)) (c .refused .ensures))
 
 index-at-requires : tie.Need-index-at-requires
 index-at-requires c κs = tt
@@ -47,7 +48,7 @@ refused-requires-2 c κs = tt
 
 returns-2 : tie.Need-returns-2
 returns-2 c = let i = c .before .before in let b = started i in
-    λ controls gux guy. no-such-zone (lent b controls gux guy) (b .args .opcode) (now (b .args .operands)) (entry b) (i .before .if1 .left) (i .index-at .ensures) (c .before .if2 .taken) (ap (into (entry b)) (c .refused2 .ensures))
+    λ rules controls gux guy. no-such-zone (lent b rules controls gux guy) (b .args .opcode) (now (b .args .operands)) (entry b) (i .before .if1 .left) (i .index-at .ensures) (c .before .if2 .taken) (ap (into (entry b)) (c .refused2 .ensures))
 
 point-after-requires : tie.Need-point-after-requires
 point-after-requires c κs = tt
@@ -81,8 +82,8 @@ same-length-6 c = search (shifted c .shift-span-of .kept)
 
 returns-3 : tie.Need-returns-3
 returns-3 c = let t = shifted c in let p = referring t in let e = p .before in let a = e .before in let i = indexed t in let b = started i in
-    λ controls gux guy. zone-shifted (lent b controls gux guy) (b .args .opcode) (now (b .args .operands)) (entry b) (i .before .if1 .left) (i .index-at .ensures) (a .before .before .if2 .left) (a .point-after .ensures) (e .size-of .ensures)
-    (span-is (lent b controls gux guy) (b .args .opcode) false 0 (e .size-of .result) (entry b) (p .reference-of .ensures) (t .shift-span-of .ensures))
+    λ rules controls gux guy. zone-shifted (lent b rules controls gux guy) (b .args .opcode) (now (b .args .operands)) (entry b) (i .before .if1 .left) (i .index-at .ensures) (a .before .before .if2 .left) (a .point-after .ensures) (e .size-of .ensures)
+    (span-is (lent b rules controls gux guy) (b .args .opcode) false 0 (e .size-of .result) (entry b) (p .reference-of .ensures) (t .shift-span-of .ensures))
 
 pub shz-spec : {M : Type 1} → statement M
 shz-spec =

@@ -8,6 +8,7 @@ use lib.IntN.{ℤ}
 use Rattle.graphics.specs.declared.GraphicsState.{GraphicsState}
 use Rattle.int.proofs.Words.{back32}
 use Rattle.line_steps.specs.Steps.{into}
+use Rattle.rules.specs.declared.Rules.{Rules}
 use Rattle.line.specs.World.{Fixed, World, fixed, world}
 use Rattle.line_shift.proofs.Cases.{shp-refused, shp-shifted}
 use Rattle.line_shift.proofs.shp.Statement.{statement}
@@ -18,8 +19,8 @@ abbrev entry : tie.Start → World
 entry s = let a = s .args in
     world (a .s) (now (a .gx)) (now (a .gy)) (now (a .gflags)) (now (a .tox)) (now (a .toy)) (now (a .tx)) (now (a .ty)) (now (a .tflags))
 
-abbrev held : tie.Start → List ℤ → List ℤ → List ℤ → List ℕ → Fixed
-held s controls gux guy contours = fixed controls gux guy (now (s .args .gox)) (now (s .args .goy)) contours
+abbrev held : tie.Start → Rules → List ℤ → List ℤ → List ℤ → List ℕ → Fixed
+held s rules controls gux guy contours = fixed rules controls gux guy (now (s .args .gox)) (now (s .args .goy)) contours
 
 -- ---- places of the walk, found by their types
 abbrev shifted : tie.After-reset-loop-counter → tie.After-shift-in
@@ -75,7 +76,7 @@ same-length-4 c = refl
 
 returns : tie.Need-returns
 returns c = let f = c .before .before in let x = f .before .before in let r = referred x in let s = started r in
-    λ controls gux guy contours. shp-refused (held s controls gux guy contours) (s .args .opcode) (now (s .args .operands)) (entry s) (r .reference-of .ensures) (x .displaced .ensures)
+    λ rules controls gux guy contours. shp-refused (held s rules controls gux guy contours) (s .args .opcode) (now (s .args .operands)) (entry s) (r .reference-of .ensures) (x .displaced .ensures)
     (f .by .given .1) (ap (into (entry s)) (c .refused .ensures))
 
 same-length-5 : tie.Need-same-length-5
@@ -98,7 +99,7 @@ same-length-10 c = search (shifted c .shift-in .kept)
 
 returns-2 : tie.Need-returns-2
 returns-2 c = let t = shifted c in let m = moving t in let f = m .before .before .before .before in let x = f .before .before in let r = referred x in let s = started r in
-    λ controls gux guy contours. shp-shifted (held s controls gux guy contours) (s .args .opcode) (now (s .args .operands)) (entry s) (r .reference-of .ensures) (x .displaced .ensures)
+    λ rules controls gux guy contours. shp-shifted (held s rules controls gux guy contours) (s .args .opcode) (now (s .args .operands)) (entry s) (r .reference-of .ensures) (x .displaced .ensures)
     (f .by2 .given .1)
     (m .zp2-move-of .ensures)
     (back32 _ (omega (arith, m .before .before .struct-told .given .1 .1 .0)))

@@ -13,7 +13,7 @@ use Rattle.record_print.proofs.print.Statement.{statement}
 use Rattle.record_print.proofs.print.Tie as tie
 
 -- ---- what the replay says
-said : (c : tie.After-replay-within) → shelved (c .replay-within .result) (c .replay-within .last .1 .1 .0) ≡ shelfWithin room (now (c .before .before .before .args .bytes)) blank
+said : (c : tie.After-replay-within) → shelved (c .replay-within .result) (c .replay-within .last .1 .1 .1 .0) ≡ shelfWithin (c .before .before .before .args .rules) room (now (c .before .before .before .args .bytes)) blank
 unfolding blank
 said c = c .replay-within .ensures
 
@@ -39,13 +39,13 @@ put-points-requires : tie.Need-put-points-requires
 put-points-requires c κs =
     let p = c .before .before in
     let r = p .before .before .before in
-    omega (arith, p .put-answer .ensures .behind, p .put-answer .kept .1 .0, short r, lines-few (now (r .before .before .before .args .bytes)) (said r))
+    omega (arith, p .put-answer .ensures .behind, p .put-answer .kept .1 .0, short r, lines-few (r .before .before .before .args .rules) (now (r .before .before .before .args .bytes)) (said r))
 
 returns : tie.Need-returns
 returns c =
     let p = c .before .before .before in
     let r = p .before .before .before in
-    printed (now (r .before .before .before .args .bytes)) (said r) (p .put-answer .ensures) (c .put-points .ensures) (short r) (omega arith)
+    printed (r .before .before .before .args .rules) (now (r .before .before .before .args .bytes)) (said r) (p .put-answer .ensures) (c .put-points .ensures) (short r) (omega arith)
 
 pub print-spec : {M : Type 1} → statement M
 print-spec = tie.close (tie.spec slice-aggregate-replay-within replay-within-requires put-answer-requires slice-aggregate-put-points put-points-requires returns)

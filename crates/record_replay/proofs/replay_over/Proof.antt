@@ -3,6 +3,7 @@ use mathlib.Core.Path.{_∙_, ap₂, refl, sym}
 use native.Mathlib.Omega.{arith}
 use denote.Ref.{now}
 use lib.Seq.{length-take-le}
+use Rattle.rules.specs.declared.Rules.the-variants.{FreeType}
 use Rattle.line.specs.World.{fixed}
 use Rattle.record_read.specs.Format.{held}
 use Rattle.record_run.specs.After.{shelvedFor}
@@ -221,7 +222,7 @@ returns c =
     let s = from-tflags (ran c .before .before) in
     let a = entry s .args in
     ran c .run-and-write .ensures .0
-    ∙ ap₂ (λ l w. shelvedFor (a .most) l (held (fixed (now (a .controls)) (now (a .gux)) (now (a .guy)) (now (a .gox)) (now (a .goy)) (now (a .contours))) (now (a .sheet)) w) (now (a .out)))
+    ∙ ap₂ (λ l w. shelvedFor (a .rules) (a .most) l (held (fixed FreeType (now (a .controls)) (now (a .gux)) (now (a .guy)) (now (a .gox)) (now (a .goy)) (now (a .contours))) (now (a .sheet)) w) (now (a .out)))
     (renewed (ran c) .renew .ensures)
     (same-world (s .load-state .ensures)
     (numbers-front (now (a .bytes)) (a .l) 4 _ _ (sizes s .before .wide .ensures) (got-gx s .numbers-in .ensures))

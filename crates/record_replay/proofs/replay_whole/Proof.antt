@@ -189,7 +189,7 @@ returns c =
     let s = from-contours (ran .before .before) in
     let a = entry s .args in
     ran .replay-over .ensures
-    ∙ whole-held (a .most) (a .l) (now (a .bytes)) (worldIn (now (a .bytes)) (a .l)) (now (a .out))
+    ∙ whole-held (a .rules) (a .most) (a .l) (now (a .bytes)) (worldIn (now (a .bytes)) (a .l)) (now (a .out))
     (same-fixed
     (numbers-front (now (a .bytes)) (a .l) 13 _ _ (sizes s .before .before .wide2 .ensures) (got-controls s .numbers-in2 .ensures))
     (numbers-front (now (a .bytes)) (a .l) 0 _ _ (sizes s .before .wide3 .ensures) (got-gux s .numbers-in3 .ensures))

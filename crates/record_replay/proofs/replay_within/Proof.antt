@@ -39,7 +39,7 @@ returns c =
     let args = verdict .before .before .before in
     let a = args .args in
     ap (λ r. shelved r (now (a .out))) (refuse .refuse .ensures ∙ ap refusedAs (number .number .ensures))
-    ∙ damaged (a .most) (now (a .bytes)) (now (a .out)) _ (sym (verdict .«open» .ensures) ∙ told .opened .given .1)
+    ∙ damaged (a .rules) (a .most) (now (a .bytes)) (now (a .out)) _ (sym (verdict .«open» .ensures) ∙ told .opened .given .1)
 
 same-length : tie.Need-same-length
 same-length c = search (c .before .before .replay-whole .kept)
@@ -51,7 +51,7 @@ returns-2 c =
     let verdict = opened2 .before .before in
     let args = verdict .before .before .before in
     let a = args .args in
-    replaywhole .replay-whole .ensures ∙ opened (a .most) (now (a .bytes)) (now (a .out)) _ (sym (verdict .«open» .ensures) ∙ opened2 .opened2 .given .1)
+    replaywhole .replay-whole .ensures ∙ opened (a .rules) (a .most) (now (a .bytes)) (now (a .out)) _ (sym (verdict .«open» .ensures) ∙ opened2 .opened2 .given .1)
 
 pub replay-within-spec : {M : Type 1} → statement M
 replay-within-spec = tie.close (tie.spec open-requires enum-known-opened number-requires refuse-requires enum-known-opened-2 replay-whole-requires returns same-length returns-2)

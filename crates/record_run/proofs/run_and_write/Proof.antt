@@ -1,5 +1,6 @@
 -- `record_run::run_and_write` meets its contract: the run's world is what is written. Assumes nothing.
 use denote.Ref.{now}
+use Rattle.rules.specs.declared.Rules.the-variants.{FreeType}
 use Rattle.line.specs.World.{fixed, world}
 use Rattle.record_run.proofs.Cases.{lists-left, ran-and-written}
 use Rattle.record_run.proofs.run_and_write.Statement.{statement}
@@ -64,15 +65,15 @@ returns : tie.Need-returns
 returns c =
     let write = written c in
     let run = ran c in
-    let glyph = run .run .last .1 .1 .1 .1 .1 .1 .1 .1 .1 in
+    let glyph = run .run .last .1 .1 .1 .1 .1 .1 .1 .1 .1 .1 in
     let twilight = glyph .1 .1 .1 .1 in
     let a = entry c .args in
-    let f = fixed (now (a .controls)) (now (a .gux)) (now (a .guy)) (now (a .gox)) (now (a .goy)) (now (a .contours)) in
+    let f = fixed FreeType (now (a .controls)) (now (a .gux)) (now (a .guy)) (now (a .gox)) (now (a .goy)) (now (a .contours)) in
     let w = world (a .s) (now (a .gx)) (now (a .gy)) (now (a .gflags)) (now (a .tox)) (now (a .toy)) (now (a .tx)) (now (a .ty)) (now (a .tflags)) in (
-      ran-and-written (a .most) (a .l) f (now (a .sheet)) w (now (a .out)) (run .run .result)
+      ran-and-written (a .rules) (a .most) (a .l) f (now (a .sheet)) w (now (a .out)) (run .run .result)
           (glyph .0) (glyph .1 .0) (glyph .1 .1 .0) (twilight .0) (twilight .1 .0) (twilight .1 .1 .0) (twilight .1 .1 .1 .0) (twilight .1 .1 .1 .1 .0)
           (run .run .ensures) (write .write .ensures) (c .say .ensures),
-      lists-left f (now (a .sheet)) w (run .run .result)
+      lists-left (a .rules) f (now (a .sheet)) w (run .run .result)
           (glyph .0) (glyph .1 .0) (glyph .1 .1 .0) (twilight .0) (twilight .1 .0) (twilight .1 .1 .0) (twilight .1 .1 .1 .0) (twilight .1 .1 .1 .1 .0)
           (run .run .ensures),
     )

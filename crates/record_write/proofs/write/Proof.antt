@@ -2,6 +2,7 @@
 use mathlib.Core.Path.{_∙_, sym}
 use borrow.Author.Tests.{not-false, not-true}
 use denote.Ref.{now}
+use Rattle.rules.specs.declared.Rules.the-variants.{FreeType}
 use Rattle.line.specs.World.{fixed, world}
 use Rattle.record_read.specs.Format.{held}
 use Rattle.record_write.proofs.Cases.{count-words, no-zones, too-long, too-short, written}
@@ -15,13 +16,13 @@ returns : tie.Need-returns
 returns c =
     let z = c .before in
     let a = z .before .before .before .before .before .args in
-    no-zones (a .most) (held (fixed (now (a .controls)) (now (a .gux)) (now (a .guy)) (now (a .gox)) (now (a .goy)) (now (a .contours))) (now (a .sheet)) (world (a .s) (now (a .gx)) (now (a .gy)) (now (a .gflags)) (now (a .tox)) (now (a .toy)) (now (a .tx)) (now (a .ty)) (now (a .tflags)))) (now (a .out)) (sym (z .sizes-fit .ensures) ∙ not-true _ (c .if1 .taken))
+    no-zones (a .most) (held (fixed FreeType (now (a .controls)) (now (a .gux)) (now (a .guy)) (now (a .gox)) (now (a .goy)) (now (a .contours))) (now (a .sheet)) (world (a .s) (now (a .gx)) (now (a .gy)) (now (a .gflags)) (now (a .tox)) (now (a .toy)) (now (a .tx)) (now (a .ty)) (now (a .tflags)))) (now (a .out)) (sym (z .sizes-fit .ensures FreeType) ∙ not-true _ (c .if1 .taken))
 
 layout-for-requires : tie.Need-layout-for-requires
 layout-for-requires c κs =
     let z = c .before in
     let a = z .before .before .before .before .before .args in
-    count-words (held (fixed (now (a .controls)) (now (a .gux)) (now (a .guy)) (now (a .gox)) (now (a .goy)) (now (a .contours))) (now (a .sheet)) (world (a .s) (now (a .gx)) (now (a .gy)) (now (a .gflags)) (now (a .tox)) (now (a .toy)) (now (a .tx)) (now (a .ty)) (now (a .tflags)))) (sym (z .sizes-fit .ensures) ∙ not-false _ (c .if1 .left))
+    count-words (held (fixed FreeType (now (a .controls)) (now (a .gux)) (now (a .guy)) (now (a .gox)) (now (a .goy)) (now (a .contours))) (now (a .sheet)) (world (a .s) (now (a .gx)) (now (a .gy)) (now (a .gflags)) (now (a .tox)) (now (a .toy)) (now (a .tx)) (now (a .ty)) (now (a .tflags)))) (sym (z .sizes-fit .ensures FreeType) ∙ not-false _ (c .if1 .left))
 
 record-size-requires : tie.Need-record-size-requires
 record-size-requires c κs = tt
@@ -33,7 +34,7 @@ returns-2 c =
     let i = l .before in
     let z = i .before in
     let a = z .before .before .before .before .before .args in
-    too-long (a .most) (held (fixed (now (a .controls)) (now (a .gux)) (now (a .guy)) (now (a .gox)) (now (a .goy)) (now (a .contours))) (now (a .sheet)) (world (a .s) (now (a .gx)) (now (a .gy)) (now (a .gflags)) (now (a .tox)) (now (a .toy)) (now (a .tx)) (now (a .ty)) (now (a .tflags)))) (now (a .out)) (sym (z .sizes-fit .ensures) ∙ not-false _ (i .if1 .left)) _ (l .layout-for .ensures) _ (r .record-size .ensures) (c .if2 .taken)
+    too-long (a .most) (held (fixed FreeType (now (a .controls)) (now (a .gux)) (now (a .guy)) (now (a .gox)) (now (a .goy)) (now (a .contours))) (now (a .sheet)) (world (a .s) (now (a .gx)) (now (a .gy)) (now (a .gflags)) (now (a .tox)) (now (a .toy)) (now (a .tx)) (now (a .ty)) (now (a .tflags)))) (now (a .out)) (sym (z .sizes-fit .ensures FreeType) ∙ not-false _ (i .if1 .left)) _ (l .layout-for .ensures) _ (r .record-size .ensures) (c .if2 .taken)
 
 returns-3 : tie.Need-returns-3
 returns-3 c =
@@ -42,7 +43,7 @@ returns-3 c =
     let i = l .before in
     let z = i .before in
     let a = z .before .before .before .before .before .args in
-    too-short (a .most) (held (fixed (now (a .controls)) (now (a .gux)) (now (a .guy)) (now (a .gox)) (now (a .goy)) (now (a .contours))) (now (a .sheet)) (world (a .s) (now (a .gx)) (now (a .gy)) (now (a .gflags)) (now (a .tox)) (now (a .toy)) (now (a .tx)) (now (a .ty)) (now (a .tflags)))) (now (a .out)) (sym (z .sizes-fit .ensures) ∙ not-false _ (i .if1 .left)) _ (l .layout-for .ensures) _ (r .record-size .ensures) (c .before .if2 .left) (c .if3 .taken)
+    too-short (a .most) (held (fixed FreeType (now (a .controls)) (now (a .gux)) (now (a .guy)) (now (a .gox)) (now (a .goy)) (now (a .contours))) (now (a .sheet)) (world (a .s) (now (a .gx)) (now (a .gy)) (now (a .gflags)) (now (a .tox)) (now (a .toy)) (now (a .tx)) (now (a .ty)) (now (a .tflags)))) (now (a .out)) (sym (z .sizes-fit .ensures FreeType) ∙ not-false _ (i .if1 .left)) _ (l .layout-for .ensures) _ (r .record-size .ensures) (c .before .if2 .left) (c .if3 .taken)
 
 store-requires : tie.Need-store-requires
 store-requires c κs = tt
@@ -59,7 +60,7 @@ returns-4 c =
     let i = l .before in
     let z = i .before in
     let a = z .before .before .before .before .before .args in
-    written (a .most) (held (fixed (now (a .controls)) (now (a .gux)) (now (a .guy)) (now (a .gox)) (now (a .goy)) (now (a .contours))) (now (a .sheet)) (world (a .s) (now (a .gx)) (now (a .gy)) (now (a .gflags)) (now (a .tox)) (now (a .toy)) (now (a .tx)) (now (a .ty)) (now (a .tflags)))) (now (a .out)) (sym (z .sizes-fit .ensures) ∙ not-false _ (i .if1 .left)) _ (l .layout-for .ensures) _ (r .record-size .ensures) (k .before .if2 .left) (k .if3 .left) (s .store .ensures)
+    written (a .most) (held (fixed FreeType (now (a .controls)) (now (a .gux)) (now (a .guy)) (now (a .gox)) (now (a .goy)) (now (a .contours))) (now (a .sheet)) (world (a .s) (now (a .gx)) (now (a .gy)) (now (a .gflags)) (now (a .tox)) (now (a .toy)) (now (a .tx)) (now (a .ty)) (now (a .tflags)))) (now (a .out)) (sym (z .sizes-fit .ensures FreeType) ∙ not-false _ (i .if1 .left)) _ (l .layout-for .ensures) _ (r .record-size .ensures) (k .before .if2 .left) (k .if3 .left) (s .store .ensures)
 
 pub write-spec : {M : Type 1} → statement M
 write-spec = tie.close (tie.spec sizes-fit-requires returns layout-for-requires record-size-requires returns-2 returns-3 store-requires same-length returns-4)

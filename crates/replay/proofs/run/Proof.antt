@@ -28,7 +28,7 @@ entry s =
     world (s .args .s) (now (s .args .gx)) (now (s .args .gy)) (now (s .args .gflags)) (now (s .args .tox)) (now (s .args .toy)) (now (s .args .tx)) (now (s .args .ty)) (now (s .args .tflags))
 
 abbrev held : tie.Start → Fixed
-held s = fixed (now (s .args .controls)) (now (s .args .gux)) (now (s .args .guy)) (now (s .args .gox)) (now (s .args .goy)) (now (s .args .contours))
+held s = fixed (s .args .rules) (now (s .args .controls)) (now (s .args .gux)) (now (s .args .guy)) (now (s .args .gox)) (now (s .args .goy)) (now (s .args .contours))
 
 abbrev usable-at : tie.After-enter → tie.After-is-usable
 usable-at k = search
@@ -42,7 +42,7 @@ sized k = search
 -- what the tests say of the world at the start
 tests : (k : tie.After-enter) → let s = started (sized k) in k .enter .result ≡ entered (held s) (now (s .args .sheet)) (s .args .start) (entry s)
 tests k = let s = started (sized k) in
-    entry-is (held s) (now (s .args .sheet)) (s .args .start) (entry s) (k .enter .ensures) (sized k .sizes-fit .ensures) (risen k .ends-rise .ensures) (usable-at k .is-usable .ensures)
+    entry-is (held s) (now (s .args .sheet)) (s .args .start) (entry s) (k .enter .ensures) (sized k .sizes-fit .ensures (s .args .rules)) (risen k .ends-rise .ensures) (usable-at k .is-usable .ensures)
 
 sizes-fit-requires : tie.Need-sizes-fit-requires
 sizes-fit-requires c κs = search needs

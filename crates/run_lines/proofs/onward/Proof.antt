@@ -20,11 +20,11 @@ pub record Inv (f : Fixed) (sheet : List ℤ) (budget start : ℕ) (w₀ : World
   pub sum : lines + left ≡ budget
 
 abbrev Inv-loop : tie.InvT-loop
-Inv-loop start budget sheet needs controls gux guy gox goy gx₀ gy₀ gflags₀ contours tox₀ toy₀ tx₀ ty₀ tflags₀ state₀ at₀ left₀ lines₀ gx gy gflags tox toy tx ty tflags state at left lines =
-    Inv (fixed controls gux guy gox goy contours) sheet budget start (world state₀ gx₀ gy₀ gflags₀ tox₀ toy₀ tx₀ ty₀ tflags₀) left lines at (world state gx gy gflags tox toy tx ty tflags)
+Inv-loop start budget rules sheet needs controls gux guy gox goy gx₀ gy₀ gflags₀ contours tox₀ toy₀ tx₀ ty₀ tflags₀ state₀ at₀ left₀ lines₀ gx gy gflags tox toy tx ty tflags state at left lines =
+    Inv (fixed rules controls gux guy gox goy contours) sheet budget start (world state₀ gx₀ gy₀ gflags₀ tox₀ toy₀ tx₀ ty₀ tflags₀) left lines at (world state gx gy gflags tox toy tx ty tflags)
 
 abbrev μ-loop : tie.MeasureT-loop
-μ-loop start budget sheet needs controls gux guy gox goy gx₀ gy₀ gflags₀ contours tox₀ toy₀ tx₀ ty₀ tflags₀ state₀ at₀ left₀ lines₀ gx gy gflags tox toy tx ty tflags state at left lines = left
+μ-loop start budget rules sheet needs controls gux guy gox goy gx₀ gy₀ gflags₀ contours tox₀ toy₀ tx₀ ty₀ tflags₀ state₀ at₀ left₀ lines₀ gx gy gflags tox toy tx ty tflags state at left lines = left
 
 -- ---- places of the walk, found by their types
 abbrev stepped : tie.After-enum-told Inv-loop μ-loop → tie.After-step Inv-loop μ-loop
@@ -46,7 +46,7 @@ abbrev started : tie.At-loop Inv-loop μ-loop → tie.Start Inv-loop μ-loop
 started l = search
 
 abbrev held : tie.Start Inv-loop μ-loop → Fixed
-held s = fixed (now (s .args .controls)) (now (s .args .gux)) (now (s .args .guy)) (now (s .args .gox)) (now (s .args .goy)) (now (s .args .contours))
+held s = fixed (s .args .rules) (now (s .args .controls)) (now (s .args .gux)) (now (s .args .guy)) (now (s .args .gox)) (now (s .args .goy)) (now (s .args .contours))
 
 abbrev entry : tie.Start Inv-loop μ-loop → World
 entry s =
@@ -100,7 +100,7 @@ same-length-10 : tie.Need-same-length-10 Inv-loop μ-loop
 same-length-10 c = _∙_ {b = length (turn (refused c) .loop .gy)} (search (refused c .step .kept)) (ap (λ (z : Sizes). z .gy) (turn (refused c) .loop .inv .same))
 
 same-length-11 : tie.Need-same-length-11 Inv-loop μ-loop
-same-length-11 c = _∙_ {b = length (turn (refused c) .loop .gflags)} (search (refused c .step .kept)) (ap (λ (z : Sizes). z .gflags) (turn (refused c) .loop .inv .same))
+same-length-11 c = _∙_ {b = length (turn (refused c) .loop .gflags)} (search) (ap (λ (z : Sizes). z .gflags) (turn (refused c) .loop .inv .same))
 
 same-length-12 : tie.Need-same-length-12 Inv-loop μ-loop
 same-length-12 c = _∙_ {b = length (turn (refused c) .loop .tox)} (search) (ap (λ (z : Sizes). z .tox) (turn (refused c) .loop .inv .same))
@@ -142,7 +142,7 @@ loop-again c =
           same-sizes {b0 = length (turn (stepped c) .loop .gx)} {b1 = length (turn (stepped c) .loop .gy)} {b2 = length (turn (stepped c) .loop .gflags)}
           {b3 = length (turn (stepped c) .loop .tox)} {b4 = length (turn (stepped c) .loop .toy)} {b5 = length (turn (stepped c) .loop .tx)}
           {b6 = length (turn (stepped c) .loop .ty)} {b7 = length (turn (stepped c) .loop .tflags)}
-          (search (stepped c .step .kept)) (search (stepped c .step .kept)) (search (stepped c .step .kept)) (search) (search) (search) (search) (search)
+          (search (stepped c .step .kept)) (search (stepped c .step .kept)) (search) (search) (search) (search) (search) (search)
           ∙ turn (stepped c) .loop .inv .same;
       sum = let i = going (stepped c) in omega (arith, i .if1 .left, looping i .loop .inv .sum);
     }

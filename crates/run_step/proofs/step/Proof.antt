@@ -26,7 +26,7 @@ entry s =
     world (s .args .s) (now (s .args .gx)) (now (s .args .gy)) (now (s .args .gflags)) (now (s .args .tox)) (now (s .args .toy)) (now (s .args .tx)) (now (s .args .ty)) (now (s .args .tflags))
 
 abbrev held : tie.Start → Fixed
-held s = fixed (now (s .args .controls)) (now (s .args .gux)) (now (s .args .guy)) (now (s .args .gox)) (now (s .args .goy)) (now (s .args .contours))
+held s = fixed (s .args .rules) (now (s .args .controls)) (now (s .args .gux)) (now (s .args .guy)) (now (s .args .gox)) (now (s .args .goy)) (now (s .args .contours))
 
 decode-requires : tie.Need-decode-requires
 decode-requires c κs = search needs
@@ -39,7 +39,7 @@ enum-known-line-2 c = search needs
 
 mul-perform : tie.Need-mul-perform
 mul-perform c = let l = c .before in let k = decoded l in let s = started k in let b = operands-inside (now (s .args .sheet)) (s .args .s .«loop_counter») (s .args .at) (sym (k .decode .ensures) ∙ l .line2 .given .1) in
-    omega (arith, b .0, b .1, s .good .1 .1 .0 .1)
+    omega (arith, b .0, b .1, s .good .1 .1 .1 .0 .1)
 
 sub-perform : tie.Need-sub-perform
 sub-perform c = let l = c .before in let k = decoded l in let s = started k in let b = operands-inside (now (s .args .sheet)) (s .args .s .«loop_counter») (s .args .at) (sym (k .decode .ensures) ∙ l .line2 .given .1) in
