@@ -95,7 +95,7 @@ module _ (at end : ℕ) (ends : List ℕ) (ps : List Point) (h : suc end - at �
 
 -- ---- outside
 -- the first end of ends that rise, and the others
-first-end : (at n end : ℕ) (ends : List ℕ) → risingFrom at n (end ∷ ends) ≡ true → (at < suc end) × (suc end ≤ n) × (risingFrom (suc end) n ends ≡ true)
+pub first-end : (at n end : ℕ) (ends : List ℕ) → risingFrom at n (end ∷ ends) ≡ true → (at < suc end) × (suc end ≤ n) × (risingFrom (suc end) n ends ≡ true)
 first-end at n end ends r =
     let (a, b, s) = in-order at n (end ∷ ends) 0 (omega arith) refl r in
     (omega (arith, a), omega (arith, b), ap (λ (i : ℕ). risingFrom i n ends) (sym (add-one end)) ∙ s)
