@@ -16,6 +16,9 @@ from .calls import NAME, ROOT, Bad, Stopped, encoded, say, tell, write_all
 RELEASE = ROOT / "release"
 TARGET = ROOT / "target"
 LOADER = "/lib64/ld-linux-x86-64.so.2"
+# the program that replays a record, and the one that replays many, each in a frame: its length in four bytes, the low one first, and the record
+ONE, MANY = "replay_record", "replay_records"
+FRAME_BYTES = 4
 
 
 # ---- what a replay says
@@ -23,8 +26,50 @@ LOADER = "/lib64/ld-linux-x86-64.so.2"
 
 def replay(data, rules):
     """The four numbers of a record's answer under the rules of a name, and all that is printed."""
-    printed = run("replay_record", data, rules)
+    printed = run(ONE, data, rules)
     return record.answer_in(data, printed), printed
+
+
+def replay_each(records, rules):
+    """For each record the number of its answer and all that is printed, or a Bad that says why there is none. They go through one process where the
+    program for many is there; what that leaves of a batch other than an answer to each frame, none of the batch is taken from."""
+    if not batch_program():
+        return [replayed_or_bad(data, lambda data=data: run(ONE, data, rules)) for data in records]
+    try:
+        answers = unframed(run(MANY, b"".join(framed(data) for data in records), rules), len(records))
+    except Bad as bad:
+        return [bad] * len(records)
+    return [replayed_or_bad(data, lambda answer=answer: answer) for data, answer in zip(records, answers)]
+
+
+def replayed_or_bad(data, printed):
+    try:
+        text = printed()
+        return record.answer_in(data, text)[0], text
+    except Bad as bad:
+        return bad
+
+
+def framed(data):
+    return len(data).to_bytes(FRAME_BYTES, "little") + data
+
+
+def unframed(stream, wanted):
+    """The answers in a stream, one for each frame that was sent."""
+    answers, at = [], 0
+    while at < len(stream):
+        start = at + FRAME_BYTES
+        at = start + int.from_bytes(stream[at:start], "little")
+        answers.append(stream[start:at])
+    if at != len(stream) or len(answers) != wanted:
+        raise Bad(f"{MANY} was sent {wanted} records, and what it wrote is not an answer to each: {len(answers)} answers in {len(stream)} bytes")
+    return answers
+
+
+def replayer():
+    """The program that replays many records, or that for one where there is none, and the sum of its file."""
+    name = MANY if batch_program() else ONE
+    return name, sum_of(program(name))
 
 
 def rewrite(data, rules):
@@ -87,6 +132,12 @@ def program(name):
     if not is_built(name):
         build([name], why)
     return TARGET / "bin" / name
+
+
+@functools.lru_cache(None)
+def batch_program():
+    """Whether there is a program for many records. It saves time and says nothing else, so it is not proved and built where it isn't there."""
+    return not unreleased(MANY) or is_built(MANY)
 
 
 def unreleased(name):

@@ -39,8 +39,7 @@ MEANINGS = {
     17: "the record is refused: it has more than 24 KiB",
 }
 
-ANSWER = re.compile(rb"(\d+) (\d+) (\d+) (\d+)")
-POINT = re.compile(rb"-?\d+ -?\d+ \d+")
+PRINT = re.compile(rb"(\d+) (\d+) (\d+) (\d+)\n((?:-?\d+ -?\d+ \d+\n)*)")
 
 
 class Refused(Exception):
@@ -147,19 +146,28 @@ def points_in(data):
     return int.from_bytes(data[-4 * TRAILER_WORDS :][:4], "little")
 
 
+def whole_print(printed):
+    """The four numbers of a print and how many points it has, once it is seen to be whole lines that a replay prints."""
+    found = PRINT.fullmatch(printed)
+    if not found:
+        raise Bad(f"the print is cut short or damaged: of its {len(printed)} bytes not every line is one that a replay prints")
+    answer, points = [int(word) for word in found.groups()[:4]], found.group(5).count(b"\n")
+    if answer[0] in REFUSED and (points or answer[1:] != [0, 0, 0]):
+        raise Bad("the print is damaged: a refused record has a number and three zeros alone")
+    return answer, points
+
+
+def number_in(printed):
+    """The answer's number in a whole print."""
+    return int(printed.split(b" ", 1)[0])
+
+
 def answer_in(data, printed):
     """The four numbers of a record's print, once it is seen to be the whole print: an answer, and a line for each glyph point if it isn't refused."""
-    lines = printed.split(b"\n")
-    first = ANSWER.fullmatch(lines[0])
-    if lines.pop() != b"" or not first:
-        raise Bad(f"the print is cut short: {len(printed)} bytes without a last or a first line")
-    answer = [int(word) for word in first.groups()]
-    refused = answer[0] in REFUSED
-    wanted = 0 if refused else points_in(data)
-    if len(lines) - 1 != wanted:
-        raise Bad(f"the print is cut short, or another record's: {len(lines) - 1} lines of points, and the record has {wanted}")
-    if refused and answer[1:] != [0, 0, 0] or not all(POINT.fullmatch(line) for line in lines[1:]):
-        raise Bad("the print is damaged: a line in it is none that a replay prints")
+    answer, points = whole_print(printed)
+    wanted = 0 if answer[0] in REFUSED else points_in(data)
+    if points != wanted:
+        raise Bad(f"the print is cut short, or another record's: {points} lines of points, and the record has {wanted}")
     return answer
 
 
