@@ -1,11 +1,12 @@
-/* Taleviqa for C: one call that replays a sheet of TrueType hinting over a glyph and a twilight zone.
+/* Taleviqa for C: a call that replays a sheet of TrueType hinting over a glyph and a twilight zone, and two that do so as the sheet arrives in pieces.
  *
  * Link with release/lib/libtaleviqa.a (x86-64 Linux), which is what the proved sources build to:
  *
  *     gcc -Iinclude examples/whole_run.c release/lib/libtaleviqa.a -o whole_run
  *
  * A list is two arguments, a pointer and how many elements it has, in the order below. A list without elements may have any pointer, NULL too.
- * What is not const is changed in place. The lists that are changed must not overlap any other list. Nothing is kept after the call.
+ * What is not const is changed in place. The lists that are changed must not overlap any other list. Nothing is kept after the call but
+ * in the lists.
  *
  * Every input has one answer, and the call always returns: see docs/PROMISES.md for what is proved. examples/whole_run.c shows a call.
  */
@@ -111,8 +112,9 @@ enum taleviqa_number {
     TALEVIQA_CONTOUR = 12,      /* SHC, pedantic: a contour that the zone hasn't; detail: its number */
     TALEVIQA_COMPATIBILITY = 13, /* SHPIX under backward compatibility */
     TALEVIQA_ENDS = 14,         /* contour ends that don't rise, or one at or above the number of points; nothing has changed */
-    TALEVIQA_BAD_WORD = 16      /* no rules have that number, the state is not TALEVIQA_STATE_WORDS words, each within its range, or the answer not
-                                 * TALEVIQA_ANSWER_WORDS */
+    TALEVIQA_BAD_WORD = 16,     /* no rules have that number, the state is not TALEVIQA_STATE_WORDS words, each within its range, or the answer not
+                                 * TALEVIQA_ANSWER_WORDS; for a feed: not TALEVIQA_FEED_WORDS, or a number that no call says */
+    TALEVIQA_LONG = 18          /* a feed alone: a count above 4,096 */
 };
 
 /* Replays the lines of the sheet from word `start` on, at most `budget` of them, under `rules`, one of taleviqa_rules.
@@ -152,6 +154,76 @@ uint32_t taleviqa_run(
     int32_t *twilight_y, size_t twilight_y_length,
     uint8_t *twilight_flags, size_t twilight_flags_length,
     uint64_t *answer, size_t answer_length);
+
+/* A feed: what is kept between its calls, beside the state and the carry. The first four are the answer of the call before.
+ * A feed begins with uint64_t feed[TALEVIQA_FEED_WORDS] = TALEVIQA_FRESH_FEED; */
+enum taleviqa_feed_word {
+    TALEVIQA_FEED_NUMBER = 0, /* 1 while the feed can go on */
+    TALEVIQA_FEED_PLACE = 1,  /* the word, counted from the feed's first, where the unfinished, the refused or the next line starts */
+    TALEVIQA_FEED_LINES = 2,  /* lines finished in the call */
+    TALEVIQA_FEED_DETAIL = 3, /* as in an answer */
+    TALEVIQA_FEED_HELD = 4,   /* how many words of the carry are of the unfinished line */
+    TALEVIQA_FEED_WORDS = 5
+};
+
+#define TALEVIQA_FRESH_FEED { 1, 0, 0, 0, 0 }
+
+/* The carry has room for the longest line that may wait: opcode word, count word and 4,096 operands. What it holds before the first call is of no account. */
+enum { TALEVIQA_CARRY_WORDS = 4098 };
+
+/* Replays what has arrived of a sheet. A piece has any number of words, also none, and a line may be split anywhere; the lines are done as they become
+ * whole, and the words of an unfinished one wait in the carry. 1 is returned while the feed can go on; only taleviqa_feed_end says 0.
+ *
+ * Each call tests sizes (2), contour ends (14) and the state (3) as a run does, also with an empty piece. The carry must have TALEVIQA_CARRY_WORDS words or
+ * more and be as the call before left it, and the words of all pieces be no more than a sheet may have: else the answer is 2, with nothing of the piece
+ * taken, and the feed has ended. A bad opcode is 4 when its word arrives, a negative count 4 and one above 4,096 18 when the count word does; surplus
+ * operands (5) are refused once all of them are there.
+ *
+ * After a refusal every call on that feed returns the same number and changes nothing. After 16 only the feed is written: 16, its place, 0, 0, 0; a feed that
+ * isn't TALEVIQA_FEED_WORDS long, or that begins with a number that no call says, is 16, and not even the feed is written.
+ *
+ * The words that are kept (state, feed, carry) and the lists go to each call of a feed as the one before left them. Any cutting of a sheet comes to the same
+ * as one run over the whole, where the sheet is within its limit and no count above 4,096 is read (docs/PROMISES.md). */
+uint32_t taleviqa_feed(
+    uint32_t rules,
+    uint32_t *state, size_t state_length,
+    const int32_t *piece, size_t piece_length,
+    int32_t *carry, size_t carry_length,
+    const int32_t *control_values, size_t control_values_length,
+    const int32_t *glyph_unscaled_x, size_t glyph_unscaled_x_length,
+    const int32_t *glyph_unscaled_y, size_t glyph_unscaled_y_length,
+    const int32_t *glyph_original_x, size_t glyph_original_x_length,
+    const int32_t *glyph_original_y, size_t glyph_original_y_length,
+    int32_t *glyph_x, size_t glyph_x_length,
+    int32_t *glyph_y, size_t glyph_y_length,
+    uint8_t *glyph_flags, size_t glyph_flags_length,
+    const uint16_t *contours, size_t contours_length,
+    int32_t *twilight_original_x, size_t twilight_original_x_length,
+    int32_t *twilight_original_y, size_t twilight_original_y_length,
+    int32_t *twilight_x, size_t twilight_x_length,
+    int32_t *twilight_y, size_t twilight_y_length,
+    uint8_t *twilight_flags, size_t twilight_flags_length,
+    uint64_t *feed, size_t feed_length);
+
+/* Says that no more words come: 0, or 4 at a line that is unfinished; the tests are those of each call. Nothing changes but the feed. */
+uint32_t taleviqa_feed_end(
+    const uint32_t *state, size_t state_length,
+    const int32_t *carry, size_t carry_length,
+    const int32_t *control_values, size_t control_values_length,
+    const int32_t *glyph_unscaled_x, size_t glyph_unscaled_x_length,
+    const int32_t *glyph_unscaled_y, size_t glyph_unscaled_y_length,
+    const int32_t *glyph_original_x, size_t glyph_original_x_length,
+    const int32_t *glyph_original_y, size_t glyph_original_y_length,
+    const int32_t *glyph_x, size_t glyph_x_length,
+    const int32_t *glyph_y, size_t glyph_y_length,
+    const uint8_t *glyph_flags, size_t glyph_flags_length,
+    const uint16_t *contours, size_t contours_length,
+    const int32_t *twilight_original_x, size_t twilight_original_x_length,
+    const int32_t *twilight_original_y, size_t twilight_original_y_length,
+    const int32_t *twilight_x, size_t twilight_x_length,
+    const int32_t *twilight_y, size_t twilight_y_length,
+    const uint8_t *twilight_flags, size_t twilight_flags_length,
+    uint64_t *feed, size_t feed_length);
 
 #ifdef __cplusplus
 }

@@ -50,7 +50,8 @@ def calls(crate):
 
 
 # What users call, beside the direct calls. The calls of PURE are users' too: they are lent no list to change, but for those that are faces for that.
-FACES = {"replay": "run", "exports": "taleviqa_run", "record_replay": "replay", "record_print": "print", "record_read": "open", "record_write": "write"}
+FACES = {"replay": ["run"], "feed": ["feed", "end"], "exports": ["taleviqa_run", "taleviqa_feed", "taleviqa_feed_end"],
+         "record_replay": ["replay"], "record_print": ["print"], "record_read": ["open"], "record_write": ["write"]}
 PURE = ("int", "math", "round", "super_round", "flags", "graphics", "projection", "state_words")
 
 
@@ -63,16 +64,20 @@ def faces():
     for crate in sorted(product()):
         for call in calls(crate):
             lent = any(kind.startswith("&mut") for _, kind in call.parameters)
-            if FACES.get(crate) == call.name or is_direct(call) or (crate in PURE and lent):
+            if call.name in FACES.get(crate, ()) or is_direct(call) or (crate in PURE and lent):
                 yield call
 
 
-OUTCOMES = "crates/laws_outcome/proofs/Outcome.antt"
 DIRECT = "crates/laws_direct/proofs/Said.antt"
 
 
+def outcomes(call):
+    """The file with the law that a face has one outcome."""
+    return f"crates/laws_outcome/proofs/{'Feeds' if call.crate.startswith('feed') else 'Outcome'}.antt"
+
+
 def law_of(call):
-    """The law in DIRECT on what a direct call says; with -has-one-outcome behind it, that in OUTCOMES."""
+    """The law in DIRECT on what a direct call says; with -has-one-outcome behind it, that in the face's file of outcomes."""
     return call.name.replace("_", "-")
 
 
@@ -114,4 +119,4 @@ def face_table():
     """The rows of docs/PROMISES.md's table of faces."""
     for call in faces():
         says = f"`{law_of(call)}` in `{DIRECT}`" if is_direct(call) else ""
-        yield f"| `{call.name}` in `{call.path}` | `{law_of(call)}-has-one-outcome` in `{OUTCOMES}` | {says} |".replace("|  |", "| |")
+        yield f"| `{call.name}` in `{call.path}` | `{law_of(call)}-has-one-outcome` in `{outcomes(call)}` | {says} |".replace("|  |", "| |")

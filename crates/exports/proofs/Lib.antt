@@ -1,1 +1,3 @@
 mod Cases
+mod FeedCalls
+mod Feeds

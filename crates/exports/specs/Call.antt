@@ -53,10 +53,14 @@ handedBack r =
     let w = r .world in
     left number (stateWords (w .state)) (number ∷ r .place ∷ r .lines ∷ detailOfAnswer (r .answer) ∷ []) (w .gx) (w .gy) (w .gflags) (w .tox) (w .toy) (w .tx) (w .ty) (w .tflags)
 
--- a number that names no rules, words that are no state, or an answer that is not four long, are refused, and only the answer changes
+-- a call that is refused: no list changes but the answer
+abbrev pub refusedCall : List ℕ → List ℕ → List ℤ → List ℤ → List ℕ → List ℤ → List ℤ → List ℤ → List ℤ → List ℕ → Left
+refusedCall words answer gx gy gflags tox toy tx ty tflags = left badWord words answer gx gy gflags tox toy tx ty tflags
+
+-- a number that names no rules, words that are no state, or an answer that is not four long, are refused
 unfoldable pub callOf : (Rules → Fixed) → List ℤ → ℕ → ℕ → List ℕ → List ℕ → List ℤ → List ℤ → List ℕ → List ℤ → List ℤ → List ℤ → List ℤ → List ℕ → Named → Left
-callOf f sheet budget start words answer gx gy gflags tox toy tx ty tflags Unknown = left badWord words (answered badWord start 0 0 answer) gx gy gflags tox toy tx ty tflags
+callOf f sheet budget start words answer gx gy gflags tox toy tx ty tflags Unknown = refusedCall words (answered badWord start 0 0 answer) gx gy gflags tox toy tx ty tflags
 callOf f sheet budget start words answer gx gy gflags tox toy tx ty tflags (Known rules) =
     cond (isCall words answer)
     (handedBack (runOf (f rules) sheet budget start (world (stateOf words) gx gy gflags tox toy tx ty tflags)))
-    (left badWord words (answered badWord start 0 0 answer) gx gy gflags tox toy tx ty tflags)
+    (refusedCall words (answered badWord start 0 0 answer) gx gy gflags tox toy tx ty tflags)

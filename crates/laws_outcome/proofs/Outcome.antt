@@ -35,6 +35,7 @@ use Rattle.run_lines.specs.Onward.{Ran, ran}
 use Rattle.run_lines.specs.declared.Outcome.{Outcome}
 use Rattle.replay.specs.Run.{runOf}
 use Rattle.exports.specs.Call.{Left, callOf, left}
+use Rattle.exports.specs.Feed.{Carried, Told, carried, feedCallOf, feedEndCallOf, told}
 use Rattle.rules.specs.Rules.{byNumber}
 use Rattle.rules.specs.declared.Rules.the-variants.{FreeType}
 use Rattle.rules.specs.declared.Rules.{Rules}
@@ -125,6 +126,51 @@ module _ (rules : Rules) (start budget : ℕ) (sheet controls gux guy gox goy gx
         one-part (λ (x : Left). x .ty) p q,
         one-part (λ (x : Left). x .tflags) p q,
       )
+
+  pub taleviqa-feed-has-one-outcome : (rules : ℕ) (piece carry : List ℤ) (state numbers : List ℕ)
+      (r₁ : ℕ) (carry₁ : List ℤ) (state₁ numbers₁ : List ℕ) (gx₁ gy₁ : List ℤ) (gflags₁ : List ℕ) (tox₁ toy₁ tx₁ ty₁ : List ℤ) (tflags₁ : List ℕ)
+      (r₂ : ℕ) (carry₂ : List ℤ) (state₂ numbers₂ : List ℕ) (gx₂ gy₂ : List ℤ) (gflags₂ : List ℕ) (tox₂ toy₂ tx₂ ty₂ : List ℤ) (tflags₂ : List ℕ)
+      → carried carry₁ (left r₁ state₁ numbers₁ gx₁ gy₁ gflags₁ tox₁ toy₁ tx₁ ty₁ tflags₁)
+      ≡ feedCallOf (λ (by : Rules). fixed by controls gux guy gox goy contours) piece state numbers carry gx gy gflags tox toy tx ty tflags (byNumber rules)
+      → carried carry₂ (left r₂ state₂ numbers₂ gx₂ gy₂ gflags₂ tox₂ toy₂ tx₂ ty₂ tflags₂)
+      ≡ feedCallOf (λ (by : Rules). fixed by controls gux guy gox goy contours) piece state numbers carry gx gy gflags tox toy tx ty tflags (byNumber rules)
+      → (r₁ ≡ r₂)
+      × (carry₁ ≡ carry₂)
+      × (state₁ ≡ state₂)
+      × (numbers₁ ≡ numbers₂)
+      × (gx₁ ≡ gx₂)
+      × (gy₁ ≡ gy₂)
+      × (gflags₁ ≡ gflags₂)
+      × (tox₁ ≡ tox₂)
+      × (toy₁ ≡ toy₂)
+      × (tx₁ ≡ tx₂)
+      × (ty₁ ≡ ty₂)
+      × (tflags₁ ≡ tflags₂)
+  taleviqa-feed-has-one-outcome
+      rules piece carry state numbers
+      r₁ carry₁ state₁ numbers₁ gx₁ gy₁ gflags₁ tox₁ toy₁ tx₁ ty₁ tflags₁
+      r₂ carry₂ state₂ numbers₂ gx₂ gy₂ gflags₂ tox₂ toy₂ tx₂ ty₂ tflags₂
+      p q = (
+        one-part (λ (x : Carried). x .call .number) p q,
+        one-part (λ (x : Carried). x .carry) p q,
+        one-part (λ (x : Carried). x .call .state) p q,
+        one-part (λ (x : Carried). x .call .answer) p q,
+        one-part (λ (x : Carried). x .call .gx) p q,
+        one-part (λ (x : Carried). x .call .gy) p q,
+        one-part (λ (x : Carried). x .call .gflags) p q,
+        one-part (λ (x : Carried). x .call .tox) p q,
+        one-part (λ (x : Carried). x .call .toy) p q,
+        one-part (λ (x : Carried). x .call .tx) p q,
+        one-part (λ (x : Carried). x .call .ty) p q,
+        one-part (λ (x : Carried). x .call .tflags) p q,
+      )
+
+  pub taleviqa-feed-end-has-one-outcome : (carry : List ℤ) (state numbers : List ℕ) (r₁ : ℕ) (numbers₁ : List ℕ) (r₂ : ℕ) (numbers₂ : List ℕ)
+      → ((by : Rules) → told r₁ numbers₁ ≡ feedEndCallOf (fixed by controls gux guy gox goy contours) state numbers carry (λ (s : GraphicsState). world s gx gy gflags tox toy tx ty tflags))
+      → ((by : Rules) → told r₂ numbers₂ ≡ feedEndCallOf (fixed by controls gux guy gox goy contours) state numbers carry (λ (s : GraphicsState). world s gx gy gflags tox toy tx ty tflags))
+      → (r₁ ≡ r₂) × (numbers₁ ≡ numbers₂)
+  taleviqa-feed-end-has-one-outcome carry state numbers r₁ numbers₁ r₂ numbers₂ p q =
+      (one-part (λ (x : Told). x .number) (p FreeType) (q FreeType), one-part (λ (x : Told). x .feed) (p FreeType) (q FreeType))
 
   pub write-has-one-outcome : (most : ℕ) (s : GraphicsState) (out : List ℕ) (r₁ : ℕ) (out₁ : List ℕ) (r₂ : ℕ) (out₂ : List ℕ)
       → wrote r₁ out₁ ≡ writeOf most (held (fixed FreeType controls gux guy gox goy contours) sheet (world s gx gy gflags tox toy tx ty tflags)) out

@@ -33,7 +33,7 @@ ghost use Rattle.run_lines.specs.Onward.{ran};
 ghost use Rattle.replay.specs.Run.{entryOf, entryRefused, runOf};
 
 // The tests before the first line, in their order.
-fn enter(sized: bool, rising: bool, usable: bool, starts: bool) -> Call
+pub fn enter(sized: bool, rising: bool, usable: bool, starts: bool) -> Call
     ensures { λ r. ⌜ r ≡ entryOf sized rising usable starts ⌝ }
 {
     if !sized {

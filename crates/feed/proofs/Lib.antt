@@ -1,0 +1,5 @@
+pub mod Calls
+pub mod Entries
+pub mod Lines
+pub mod Pieces
+pub mod Words

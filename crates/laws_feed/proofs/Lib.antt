@@ -1,0 +1,5 @@
+pub mod Calls
+pub mod Examples
+pub mod Kept
+pub mod Run
+pub mod Whole
