@@ -59,11 +59,13 @@ fn main() {
         [OWN_RULE, HOST_RULE],
     );
     append(&out.join("engine/mod.rs"), DOOR);
-    patch(
-        &out.join("round.rs"),
-        "the end of the rounding",
-        [ROUNDED, ROUNDED_AND_TOLD],
-    );
+    if env::var_os("CARGO_FEATURE_UNTOLD").is_none() {
+        patch(
+            &out.join("round.rs"),
+            "the end of the rounding",
+            [ROUNDED, ROUNDED_AND_TOLD],
+        );
+    }
     refuse_known_shims(&hint);
     for name in SHIMS {
         add_shim(name, &out.join(name));
