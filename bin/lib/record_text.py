@@ -16,6 +16,7 @@ NAMES = {
     "MSIRP[0]": 0x3A, "MSIRP[1]": 0x3B, "ALIGNRP": 0x3C, "RTDG": 0x3D, "MIAP[0]": 0x3E, "MIAP[1]": 0x3F,
     "SROUND": 0x76, "S45ROUND": 0x77, "ROFF": 0x7A, "RUTG": 0x7C, "RDTG": 0x7D, "FLIPPT": 0x80,
     "FLIPRGON": 0x81, "FLIPRGOFF": 0x82, "GC[0]": 0x46, "GC[1]": 0x47, "MD[0]": 0x49, "MD[1]": 0x4A,
+    "ALIGNPTS": 0x27, "UTP": 0x29, "IP": 0x39,
     # the five bits of the code, as OpenType's [abcde]
     **{f"{name}[{bits:05b}]": first + bits for name, first in (("MDRP", 0xC0), ("MIRP", 0xE0)) for bits in range(32)},
 }

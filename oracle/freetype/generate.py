@@ -8,11 +8,12 @@ SETTERS = [0, 1, 2, 3, 4, 5, 0x10, 0x11, 0x12, 0x13, 0x14, 0x15, 0x16, 0x17, 0x1
 MOVERS = [0x0F, 0x2E, 0x2F, 0x2F, 0x30, 0x31, 0x32, 0x33, 0x3A, 0x3B, 0x3C, 0x3E, 0x3F, 0x3F, 0x80]
 MSIRP = [0x3A, 0x3B]
 ZP1, NATIVE = streams.STATE_NAMES.index("zp1"), streams.STATE_NAMES.index("native")
+SINGLES = [0x27, 0x29, 0x39, 0x39]
 DISTANCES = [0x46, 0x47, 0x49, 0x4A] * 8 + list(range(0xC0, 0x100))
 # Corners of 32-bit numbers, for wild cases.
 CORNERS = [0, 1, -1, 31, 32, 63, 64, -64, ONE, -ONE, 2**30, -2**30, 2**31 - 1, -2**31, -2**31 + 1]
-# Sane coordinates stay below these; ISECT multiplies two differences.
-REACH, ISECT_REACH = 2**24, 2**14
+# Sane coordinates stay below these; ISECT multiplies two differences, and so does IP, which then moves by up to 16 times the product.
+REACH, ISECT_REACH, IP_REACH = 2**24, 2**14, 2**11
 
 
 class Maker:
@@ -123,7 +124,7 @@ class Maker:
     def operands(self, opcode, state, counts, reach):
         def point(pointer):
             return self.index(counts[1 - state[17 + pointer]])
-        looped = {0x32: 2, 0x33: 2, 0x3C: 1}
+        looped = {0x32: 2, 0x33: 2, 0x3C: 1, 0x39: 2}
         if opcode in looped:
             return [point(looped[opcode]) for _ in range(state[16])]
         if opcode == 0x80:
@@ -136,6 +137,7 @@ class Maker:
                 **{code: lambda: [point(self.random.randrange(3))] for code in range(0x10, 0x13)},
                 **{code: lambda: [self.random.choice([0, 1, 1, 0, 1, 2, -1])] for code in range(0x13, 0x17)},
                 **{code: lambda: [self.selector()] for code in (0x76, 0x77)},
+                0x27: lambda: [point(0), point(1)], 0x29: lambda: [point(0)],
                 **{code: lambda: [point(2)] for code in (0x46, 0x47)},
                 **{code: lambda: [point(1), point(0)] for code in (0x49, 0x4A)},
                 **{code: lambda: [point(1)] for code in range(0xC0, 0xE0)},
@@ -143,6 +145,10 @@ class Maker:
                 }.get(opcode, list)()
 
     def opcode(self):
+        return self.random.choice(SINGLES) if self.chance(8) else self.older_opcode()
+
+    def older_opcode(self):
+        """Of a line that is no IP, ALIGNPTS or UTP."""
         return self.random.choice(SETTERS if self.chance(3) else MOVERS if self.chance(2) else DISTANCES)
 
     def sheet(self, state, counts, reach):
@@ -194,11 +200,8 @@ class Maker:
         return streams.Case(state, lists, kind, arguments)
 
 
-class TwilightMaker(Maker):
-    """Sane sheets rich in MSIRP into twilight, and poor in what FreeType does otherwise besides."""
-
-    def opcode(self):
-        return self.random.choice(MSIRP) if self.chance(2) else super().opcode()
+class CalmMaker(Maker):
+    """Sane sheets poor in what FreeType does otherwise."""
 
     def index(self, count):
         """Mostly inside, else the first that isn't: a greater one may be told apart by its 16 bits alone."""
@@ -209,8 +212,30 @@ class TwilightMaker(Maker):
 
     def state(self, counts):
         state = super().state(counts)
-        state[ZP1], state[NATIVE] = int(self.chance(6)), 0
+        state[NATIVE] = 0
         return state
+
+
+class TwilightMaker(CalmMaker):
+    """Rich in MSIRP into twilight."""
+
+    def opcode(self):
+        return self.random.choice(MSIRP) if self.chance(2) else self.older_opcode()
+
+    def state(self, counts):
+        state = super().state(counts)
+        state[ZP1] = int(self.chance(6))
+        return state
+
+
+class SinglesMaker(CalmMaker):
+    """Rich in IP, ALIGNPTS and UTP, whose sums stay within 32 bits."""
+
+    def opcode(self):
+        return self.random.choice(SINGLES) if self.chance(2) else self.older_opcode()
+
+    def reach(self):
+        return self.random.choice([3, 20, 200, 1500])
 
 
 def far_out(reach, cases):
@@ -219,13 +244,17 @@ def far_out(reach, cases):
     return "its sums might leave 32 bits" if any(abs(streams.signed(word)) > reach for word in numbers) else None
 
 
+def reach_of(opcodes):
+    """How far coordinates may lie for lines of these opcodes."""
+    return IP_REACH if 0x39 in opcodes else ISECT_REACH if 0x0F in opcodes else REACH
+
+
 def line_obstacle(case):
     """None where no sum of the line or call can leave 32 bits."""
-    isect = case.kind == 0 and case.lists[14][case.start] == 0x0F
-    return far_out(ISECT_REACH if isect else REACH, [case])
+    opcodes = [case.lists[14][case.start]] if case.kind == 0 else []
+    return far_out(reach_of(opcodes), [case])
 
 
 def sheet_obstacle(case, outcomes):
     """The same of a whole sheet, by what it starts from and what it is said to end with."""
-    reach = ISECT_REACH if 0x0F in case.lists[14] else REACH
-    return far_out(reach, [case, *(case.line_after(outcome) for outcome in outcomes)])
+    return far_out(reach_of(case.lists[14]), [case, *(case.line_after(outcome) for outcome in outcomes)])

@@ -6,6 +6,7 @@ mod ends;
 mod rules;
 mod selectors;
 mod shifts;
+mod singles;
 mod wraps;
 
 use crate::{
@@ -43,6 +44,7 @@ pub fn check_all() -> bool {
     distances::check(&mut claims);
     ends::check(&mut claims);
     rules::check(&mut claims);
+    singles::check(&mut claims);
     budgets_add_up(&mut claims);
     println!("{} claims, {} fail", claims.count, claims.failed);
     claims.failed == 0

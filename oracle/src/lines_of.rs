@@ -70,13 +70,18 @@ pub fn accesses(case: &Case, line: &ReachedLine) -> Vec<Accessed> {
     };
     let one = |access: &Access| accessed(case, line, row, access);
     let mut accesses: Vec<Accessed> = row.accesses.iter().flat_map(one).collect();
-    let [zp0, zp1, _] = case.world.state.zones;
+    let state = &case.world.state;
+    let [zp0, zp1, _] = state.zones;
     // MSIRP and MIRP make a twilight point from rp0, and so look for that first.
     if matches!(line.opcode, 0x3A | 0x3B | 0xE0..=0xFF) && zp1 == 0 {
         accesses.reverse();
     }
     // An unscaled point that isn't there is (0, 0).
     if line.opcode == 0x4A && zp0 == 1 && zp1 == 1 {
+        accesses.clear();
+    }
+    // UTP that may move nothing has nothing to look for.
+    if line.opcode == 0x29 && state.vectors[4..] == [0, 0] {
         accesses.clear();
     }
     accesses
@@ -111,7 +116,7 @@ fn accessed(case: &Case, line: &ReachedLine, row: &Row, access: &Access) -> Vec<
             }
             found
         }
-        Access::Rp0 | Access::OfShift => {
+        Access::Rp0 | Access::Rp1 | Access::Rp2 | Access::OfShift => {
             let reference = access.reference(line.opcode).into_iter();
             let place = reference.map(|reference| place_of(case, reference));
             place.map(|place| called(name, place)).collect()

@@ -2,9 +2,9 @@
 //! and coverage read it, so that what they share of an instruction is said once.
 
 use std::ops::RangeInclusive;
-use Access::{Each, Named, OfShift, Rp0};
+use Access::{Each, Named, OfShift, Rp0, Rp1, Rp2};
 use Codes::{Axes, FiveBits, Flags, One};
-use Family::{Distances, Outline, Selector, Setter, Shift};
+use Family::{Distances, Outline, Selector, Setter, Shift, Single};
 use Operand::{
     Amount, Contour, ControlValue, ControlValueOrNone, Distance, High, LoopCount, Low, Point,
     PointNumber, SelectorByte, ZoneNumber,
@@ -57,6 +57,8 @@ pub enum Family {
     Selector,
     /// Document 02's GC, MD, MDRP and MIRP.
     Distances,
+    /// Document 02's IP, ALIGNPTS and UTP.
+    Single,
 }
 
 /// What an operand is, and so which wrong ones are worth making.
@@ -97,6 +99,9 @@ pub enum Access {
     /// The point that an operand names: what it is called, the operand's number.
     Named(&'static str, usize),
     Rp0,
+    /// IP's references: of zp0's zone, and of zp1's.
+    Rp1,
+    Rp2,
     /// The reference of SHP, SHC and SHZ.
     OfShift,
     /// Each point of the loop, and after it these.
@@ -111,7 +116,7 @@ pub struct Reference {
 }
 
 /// Every instruction. Chance and the sample go by the order within a family.
-pub static TABLE: [Row; 36] = [
+pub static TABLE: [Row; 39] = [
     row("SVTCA", Axes(0x00), Setter),
     row("SPVTCA", Axes(0x02), Setter),
     row("SFVTCA", Axes(0x04), Setter),
@@ -217,6 +222,18 @@ pub static TABLE: [Row; 36] = [
         .accesses(&[Named("point", 1), Rp0])
         .refuses(&[7, 8])
         .rounds_by(4),
+    row("IP", One(0x39), Single)
+        .takes_looped(Zp2)
+        .accesses(&[Rp1, Rp2, Each(&[])])
+        .refuses(&[7]),
+    row("ALIGNPTS", One(0x27), Single)
+        .takes(&[Point(Zp0), Point(Zp1)])
+        .accesses(&[Named("point of zp0", 0), Named("point of zp1", 1)])
+        .refuses(&[7]),
+    row("UTP", One(0x29), Single)
+        .takes(&[Point(Zp0)])
+        .accesses(&[Named("point", 0)])
+        .refuses(&[7]),
 ];
 
 /// A row that takes and looks for nothing.
@@ -287,10 +304,12 @@ impl Row {
         self.operands.len() as u64 + looped
     }
 
-    /// The reference point that a line of the code goes by.
-    pub fn reference(&self, code: u8) -> Option<Reference> {
-        let mut accesses = self.accesses.iter();
-        accesses.find_map(|access| access.reference(code))
+    /// The reference points that a line of the code goes by.
+    pub fn references(&self, code: u8) -> Vec<Reference> {
+        let accesses = self.accesses.iter();
+        accesses
+            .filter_map(|access| access.reference(code))
+            .collect()
     }
 
     /// What its accesses are called, given how many points a loop has.
@@ -363,6 +382,8 @@ impl Access {
         match self {
             Named(name, _) => name,
             Rp0 => "rp0",
+            Rp1 => "rp1",
+            Rp2 => "rp2",
             OfShift => "reference",
             Each(_) => "point",
         }
@@ -371,10 +392,9 @@ impl Access {
     /// The reference point that a line of the code looks for here.
     pub fn reference(&self, code: u8) -> Option<Reference> {
         match self {
-            Rp0 => Some(Reference {
-                number: 0,
-                zone: Zp0,
-            }),
+            Rp0 => Some(Reference::new(0, Zp0)),
+            Rp1 => Some(Reference::new(1, Zp0)),
+            Rp2 => Some(Reference::new(2, Zp1)),
             OfShift => Some(Reference::of_shift(code)),
             Each(after) => after.iter().find_map(|access| access.reference(code)),
             _ => None,
@@ -383,10 +403,17 @@ impl Access {
 }
 
 impl Reference {
+    fn new(number: usize, zone: Zone) -> Self {
+        Self { number, zone }
+    }
+
     /// The one that SHP, SHC and SHZ go by.
     pub fn of_shift(code: u8) -> Self {
-        let (number, zone) = if code & 1 == 1 { (1, Zp0) } else { (2, Zp1) };
-        Self { number, zone }
+        if code & 1 == 1 {
+            Self::new(1, Zp0)
+        } else {
+            Self::new(2, Zp1)
+        }
     }
 }
 

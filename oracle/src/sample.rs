@@ -1,4 +1,4 @@
-//! The committed sample: fifteen files, the same bytes every time.
+//! The committed sample: sixteen files, the same bytes every time.
 
 use crate::{
     answer,
@@ -7,16 +7,18 @@ use crate::{
     direct::Call,
     generate::{
         distance_case, distance_run_case, every_distance, every_end, every_length, every_limit,
-        every_opcode, every_rule, every_selector, every_setter, every_shift, every_wrap, far_calls,
-        far_distances, far_references, iup_case, largest_faces, length_case, limit_cases,
-        line_case, long_iup_case, long_iup_shift_case, mended, rounds_by_every_selector,
-        rules_run_case, run_case, runs_of_01, selector_counts, selector_run_case, set_words,
-        shift_case, shift_run_case, turns, under_both, wrap_case, zone_case,
+        every_opcode, every_rule, every_selector, every_setter, every_shift, every_single,
+        every_wrap, far_calls, far_distances, far_references, iup_case, largest_faces, length_case,
+        limit_cases, line_case, long_iup_case, long_iup_shift_case, mended,
+        rounds_by_every_selector, rules_run_case, run_case, runs_of_01, selector_counts,
+        selector_run_case, set_words, shift_case, shift_run_case, single_case, single_run_case,
+        turns, under_both, wrap_case, zone_case,
     },
     math_rows, notable,
     opcodes::{rows_of, Family},
     projection_rows,
     random::Random,
+    rules::ALL as ALL_RULES,
     words,
     world::MOST_POINTS,
     wraps,
@@ -34,6 +36,7 @@ const TURNS_SEED: u64 = 0x7475_726E;
 const WRAPS_SEED: u64 = 0x7772_6170;
 const DISTANCES_SEED: u64 = 0x6469_7374;
 const RULES_SEED: u64 = 0x7275_6C65;
+const SINGLES_SEED: u64 = 0x7369_6E67;
 const ZONE_CASES: usize = 5_000;
 const IUP_CASES: usize = 3_400;
 const LINES_EACH: usize = 480;
@@ -50,8 +53,11 @@ const DISTANCES_EACH: [usize; 4] = [320, 220, 260, 260];
 const DISTANCE_RUN_CASES: usize = 300;
 const DISTANCE_CALLS: usize = 60;
 const RULES_RUN_CASES: usize = 320;
+/// Random lines of IP, ALIGNPTS and UTP.
+const SINGLES_EACH: [usize; 3] = [280, 120, 80];
+const SINGLE_RUN_CASES: usize = 160;
 
-const NAMES: [&str; 15] = [
+const NAMES: [&str; 16] = [
     "math",
     "projection",
     "zone",
@@ -67,12 +73,13 @@ const NAMES: [&str; 15] = [
     "distances",
     "ends",
     "rules",
+    "singles",
 ];
 
 /// Those that hold no cases, and those from `ends` on.
-const UNLIKE_BEFORE: [&str; 4] = ["math", "projection", "ends", "rules"];
+const UNLIKE_BEFORE: [&str; 5] = ["math", "projection", "ends", "rules", "singles"];
 
-/// Writes the fifteen files into a folder and says how large each is.
+/// Writes the sixteen files into a folder and says how large each is.
 pub fn write(folder: &Path) -> Result<(), String> {
     std::fs::create_dir_all(folder).map_err(|error| error.to_string())?;
     for name in NAMES {
@@ -134,7 +141,7 @@ fn make(name: &str) -> (usize, Vec<u32>) {
     }
 }
 
-/// The cases of one of the thirteen files that hold cases.
+/// The cases of one of the fourteen files that hold cases.
 fn cases_of(name: &str) -> Vec<Case> {
     match name {
         "zone" => zone_cases(),
@@ -149,6 +156,7 @@ fn cases_of(name: &str) -> Vec<Case> {
         "distances" => distances(),
         "ends" => ends(),
         "rules" => rules(),
+        "singles" => singles(),
         _ => turns_and_far_indices(),
     }
 }
@@ -292,6 +300,23 @@ fn rules() -> Vec<Case> {
     let mut cases = every_rule();
     for _ in 0..RULES_RUN_CASES {
         cases.extend(under_both(mended(rules_run_case(&mut random))));
+    }
+    cases
+}
+
+/// IP, ALIGNPTS and UTP where they turn, then random ones alone, by either of the
+/// rules, then among other lines, by both.
+fn singles() -> Vec<Case> {
+    let mut random = Random::new(SINGLES_SEED);
+    let mut cases = every_single();
+    for (row, count) in rows_of(Family::Single).into_iter().zip(SINGLES_EACH) {
+        cases.extend((0..count).map(|_| {
+            let case = single_case(&mut random, row);
+            case.under(random.pick(&ALL_RULES))
+        }));
+    }
+    for _ in 0..SINGLE_RUN_CASES {
+        cases.extend(under_both(single_run_case(&mut random)));
     }
     cases
 }

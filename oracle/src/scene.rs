@@ -51,6 +51,11 @@ impl Scene {
         self.with_words(FLAGS, flags)
     }
 
+    /// Those of the twilight points, which must be there by then.
+    pub fn twilight_flags(self, flags: &[u32]) -> Self {
+        self.with_words(TWILIGHT_FLAGS, flags)
+    }
+
     pub fn contours(self, ends: &[u32]) -> Self {
         self.with_words(CONTOURS, ends)
     }

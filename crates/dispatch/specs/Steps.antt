@@ -11,7 +11,7 @@ use Rattle.line_iup.specs.Iup.{iupLineOf}
 use Rattle.line_set.specs.Setters.{setOf}
 use Rattle.line.specs.World.{Fixed, World}
 use Rattle.opcodes.specs.Table.{Line, lineOf}
-use Rattle.dispatch.specs.declared.Kind.the-variants.{Distance, Fliprg, Flippt, Isect, Iup, Measure, Set, Shift}
+use Rattle.dispatch.specs.declared.Kind.the-variants.{Distance, Fliprg, Flippt, Isect, Iup, Measure, Point, Set, Shift}
 use Rattle.dispatch.specs.declared.Kind.{Kind}
 
 abbrev pub Does : ℕ → Line → Type 0
@@ -23,6 +23,7 @@ Named opcode Iup = Does opcode iupLineOf
 Named opcode Shift = (0x32 ≤ opcode) × (opcode < 0x39)
 Named opcode Distance = ((0x2E ≤ opcode) × (opcode < 0x30)) ⊎ (((0x3A ≤ opcode) × (opcode < 0x3D)) ⊎ ((0x3E ≤ opcode) × (opcode < 0x40)))
 Named opcode Measure = ((0x46 ≤ opcode) × (opcode < 0x48)) ⊎ (((0x49 ≤ opcode) × (opcode < 0x4B)) ⊎ ((0xC0 ≤ opcode) × (opcode < 0x100)))
+Named opcode Point = (opcode ≡ 0x27) ⊎ ((opcode ≡ 0x29) ⊎ (opcode ≡ 0x39))
 Named opcode Flippt = Does opcode flipptOf
 Named opcode Fliprg = Does opcode fliprgOf
 Named opcode Set = Does opcode setOf

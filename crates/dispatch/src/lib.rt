@@ -5,6 +5,7 @@
 // aren't too many is tested by `opcodes::decode` before.
 use dispatch_distances::perform_distance;
 use dispatch_measures::perform_measure;
+use dispatch_points::perform_point;
 use dispatch_shifts::perform_shift;
 use graphics::GraphicsState;
 use line::Stepped;
@@ -27,6 +28,7 @@ pub enum Kind {
     Shift,
     Distance,
     Measure,
+    Point,
     Flippt,
     Fliprg,
     Set,
@@ -41,6 +43,7 @@ fn kind_of(opcode: usize) -> Kind
         0x32..=0x38 => Kind::Shift,
         0x2E | 0x2F | 0x3A..=0x3C | 0x3E | 0x3F => Kind::Distance,
         0x46 | 0x47 | 0x49 | 0x4A | 0xC0..=0xFF => Kind::Measure,
+        0x27 | 0x29 | 0x39 => Kind::Point,
         0x80 => Kind::Flippt,
         0x81 | 0x82 => Kind::Fliprg,
         _ => Kind::Set,
@@ -113,6 +116,23 @@ pub fn perform(
             opcode,
             operands,
             controls,
+            gux,
+            guy,
+            gox,
+            goy,
+            gx,
+            gy,
+            gflags,
+            tox,
+            toy,
+            tx,
+            ty,
+            tflags,
+        ),
+        Kind::Point => perform_point(
+            s,
+            opcode,
+            operands,
             gux,
             guy,
             gox,

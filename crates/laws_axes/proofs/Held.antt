@@ -4,7 +4,7 @@ use Prim.Native.Nat.{_+_, _-_, _≤_, ℕ}
 use native.Mathlib.Omega.{arith}
 use mathlib.Core.Bool.{Bool, _&&_, cond, false, true}
 use mathlib.Core.List.{List, [], _++_, _∷_, append-assoc, map, map-append}
-use mathlib.Core.Path.{_≡_, ap, ap₂, refl, sym, _∙_}
+use mathlib.Core.Path.{_≡_, ap, ap₂, refl, subst, sym, _∙_}
 use lib.Bits.{bitXor}
 use lib.Dec.{leb, ltb}
 use lib.IntN.{ℤ}
@@ -14,7 +14,7 @@ use borrow.Author.Tests.{leb-true}
 use Rattle.answer.specs.declared.Call.the-variants.{Done, Refused}
 use Rattle.answer.specs.declared.Refusal.the-variants.{Point, Range}
 use Rattle.laws_axes.proofs.Inert.{Inert, apply-still, inert-move, inert-zp2, on-curve-apart, stays, then}
-use Rattle.laws_axes.specs.Axes.{Still, Straight, across, markAcross, marksAcross}
+use Rattle.laws_axes.specs.Axes.{Still, Straight, across, markAcross, marksAcross, unitOf}
 use Rattle.flags.specs.declared.Axis.the-variants.{X, Y}
 use Rattle.flags.specs.declared.Axis.{Axis}
 use Rattle.graphics.proofs.Laws.{and-left}
@@ -25,7 +25,7 @@ use Rattle.graphics.specs.declared.Vectors.{Vectors}
 use Rattle.graphics.specs.declared.ZonePointer.the-variants.{Glyph, Twilight}
 use Rattle.graphics.specs.declared.ZonePointer.{ZonePointer}
 use Rattle.int.proofs.Tests.{either}
-use Rattle.laws_lines.proofs.Stays.{Stays, laid, made-state}
+use Rattle.laws_lines.proofs.Stays.{Stays, laid, made-state, untouched-state}
 use Rattle.line_iup.specs.Iup.{iupLineOf, markedFor, walkedIn}
 use Rattle.line_miap.specs.Numbers.{controlPlace}
 use Rattle.line_mirp.specs.Mirp.{mirpPlace}
@@ -33,12 +33,13 @@ use Rattle.line.specs.Places.{placeIn}
 use Rattle.line_msirp.specs.Msirp.{madeFrom, madePlace}
 use Rattle.line_relative.specs.Relative.{relatedBy}
 use Rattle.line_steps.specs.Steps.{flagsIn, inState, madeIn}
+use Rattle.line_utp.specs.Utp.{untouchIn, untouchedBy}
 use Rattle.moves.specs.Apply.{applyIn}
-use Rattle.moves.specs.Move.{moveOf, zp2MoveOf}
+use Rattle.moves.specs.Move.{isNot0, moveOf, zp2MoveOf}
 use Rattle.moves.specs.declared.Move.{Move}
 use Rattle.line.specs.Operands.{isOdd}
 use Rattle.flags.proofs.Bits.{and-keeps, or-keeps, xor-keeps}
-use Rattle.flags.specs.Flag.{bit}
+use Rattle.flags.specs.Flag.{bit, cleared}
 use Rattle.line.specs.World.{Fixed, World}
 use Rattle.zone.specs.Zone.{changeAt, flipOf, marked, markedAt, onCurve, overPart, placeOf, setOnCurveOf}
 
@@ -61,6 +62,7 @@ stays-straight a f u = let s = u .state in record {
   from-reference = λ control reference at zone w k h. ap (λ (t : GraphicsState). t .vectors) (made-state at (mirpPlace (s .vectors .freedom) control reference) w zone) ∙ k h;
   flipped = λ at w k. k;
   ranged = λ start end on w k. k;
+  untouched = λ zone at w k h. ap (λ (t : GraphicsState). t .vectors) (untouched-state at (isNot0 (s .vectors .freedom .x)) (isNot0 (s .vectors .freedom .y)) w zone) ∙ k h;
   both-set = λ at w r k. k;
   three-set = λ sets at w r k h. related-held (w .state) sets at ∙ k h;
   counted = λ w k. k;
@@ -139,14 +141,34 @@ set-still : (a : Axis) (flags : List ℕ) (start end : ℕ) (on : Bool) → mark
 unfolding setOnCurveOf
 set-still a flags start end on = set-by a flags start end on (leb start end && leb end (length flags)) refl
 
-flip-by : (a : Axis) (flags : List ℕ) (at : ℕ) (t : Bool) → marksAcross a (cond t (marked Done (changeAt (λ (flag : ℕ). bitXor flag 1) flags at)) (marked (Refused (Point at)) flags) .flags) ≡ marksAcross a flags
-flip-by a flags at true =
-    map-set-same (bit (markAcross a)) flags at (bitXor (getD flags at 0) 1) 0 (xor-keeps (markAcross a) (getD flags at 0) 1 (on-curve-apart a))
-flip-by a flags at false = refl
+-- one flag changed, but for its mark across
+changed-by : (a : Axis) (change : ℕ → ℕ) → ((flag : ℕ) → bit (markAcross a) (change flag) ≡ bit (markAcross a) flag) → (flags : List ℕ) (at : ℕ) (t : Bool)
+    → marksAcross a (cond t (marked Done (changeAt change flags at)) (marked (Refused (Point at)) flags) .flags) ≡ marksAcross a flags
+changed-by a change keeps flags at true = map-set-same (bit (markAcross a)) flags at (change (getD flags at 0)) 0 (keeps (getD flags at 0))
+changed-by a change keeps flags at false = refl
+
+changed-still : (a : Axis) (change : ℕ → ℕ) → ((flag : ℕ) → bit (markAcross a) (change flag) ≡ bit (markAcross a) flag) → (flags : List ℕ) (at : ℕ)
+    → marksAcross a (markedAt change flags at .flags) ≡ marksAcross a flags
+unfolding markedAt
+changed-still a change keeps flags at = changed-by a change keeps flags at (ltb at (length flags))
 
 flip-still : (a : Axis) (flags : List ℕ) (at : ℕ) → marksAcross a (flipOf flags at .flags) ≡ marksAcross a flags
-unfolding markedAt
-flip-still a flags at = flip-by a flags at (ltb at (length flags))
+flip-still a flags at = changed-still a (λ (flag : ℕ). bitXor flag 1) (λ flag. xor-keeps (markAcross a) flag 1 (on-curve-apart a)) flags at
+
+-- a freedom vector along the axis has no part in the mark across
+untouched-on : (a : Axis) (flags : List ℕ) (at : ℕ) → marksAcross a (untouchedBy flags at (isNot0 (unitOf a .x)) (isNot0 (unitOf a .y)) .flags) ≡ marksAcross a flags
+unfolding untouchedBy
+untouched-on X flags at = changed-still X (λ (flag : ℕ). cleared flag 2) (λ flag. and-keeps 2 flag 253 refl) flags at
+untouched-on Y flags at = changed-still Y (λ (flag : ℕ). cleared flag 4) (λ flag. and-keeps 1 flag 251 refl) flags at
+
+untouched-still : (a : Axis) (u : World) (s : GraphicsState) → Straight a s → (zone : ZonePointer) (at : ℕ) (w : World) → StillSince a u w
+    → StillSince a u (untouchIn at (isNot0 (s .vectors .freedom .x)) (isNot0 (s .vectors .freedom .y)) w zone .world)
+unfolding untouchIn
+untouched-still a u s e Glyph at w k =
+    marks-still a u w
+    (subst (λ (v : Vectors). marksAcross a (untouchedBy (w .gflags) at (isNot0 (v .freedom .x)) (isNot0 (v .freedom .y)) .flags) ≡ marksAcross a (w .gflags)) (sym e) (untouched-on a (w .gflags) at))
+    k
+untouched-still a u s e Twilight at w k = k
 
 pub stays-still : (a : Axis) (f : Fixed) (u : World) (s : GraphicsState) → Straight a s → Stays f s (λ _. Unit {0}) (StillSince a u)
 stays-still a f u s e = record {
@@ -157,6 +179,7 @@ stays-still a f u s e = record {
   from-reference = λ control reference at zone w k. made-still a u at (mirpPlace (s .vectors .freedom) control reference) zone w k;
   flipped = λ at w k. marks-still a u w (flip-still a (w .gflags) at) k;
   ranged = λ start end on w k. marks-still a u w (set-still a (w .gflags) start end on) k;
+  untouched = λ zone at w k. untouched-still a u s e zone at w k;
   both-set = λ at w r k. k;
   three-set = λ sets at w r k. k;
   counted = λ w k. k;

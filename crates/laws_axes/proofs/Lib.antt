@@ -12,5 +12,6 @@ pub mod Reaches
 pub mod RunSteps
 pub mod Apart
 pub mod Plain
+pub mod Points
 pub mod Still
 pub mod Examples

@@ -204,31 +204,40 @@ first-seen a e [] rest rest' h = refused-seen a e Missing
 first-seen a e (z ∷ more) rest rest' h = h z more
 
 -- ---- loops
+-- of two steps that come to the same along the axis
+module _ (a : Axis) (step step' : ℤ → World → Lined) (alike : (z : ℤ) (v w : World) → Alike a v w → Straight a (w .state) → Same a (step z v) (step' z w))
+    (still : (z : ℤ) (w : World) → step' z w .world .state ≡ w .state) where
+  -- the rest of two loops, after a step that said the same
+  rest-seen : (rest rest' : World → Lined) → ((v w : World) → Alike a v w → Straight a (w .state) → Same a (rest v) (rest' w))
+      → (call : Call) (v w : World) → Alike a v w → Straight a (w .state) → Same a (byCall v rest call) (byCall w rest' call)
+  rest-seen rest rest' h Done v w e straight = h v w e straight
+  rest-seen rest rest' h (Refused why) v w e straight = refused-seen a e why
+
+  next-seen : (rest rest' : World → Lined) → ((v w : World) → Alike a v w → Straight a (w .state) → Same a (rest v) (rest' w))
+      → (l k : Lined) → Same a l k → Straight a (k .world .state) → Same a (byCall (l .world) rest (l .call)) (byCall (k .world) rest' (k .call))
+  next-seen rest rest' h l k same straight =
+      rest-seen rest rest' h (l .call) (l .world) (k .world) (record { seen = ap (λ (x : Lined). x .world) same }) straight
+      ∙ ap (λ (call : Call). linedSeen a (byCall (k .world) rest' call)) (ap (λ (x : Lined). x .call) same)
+
+  pub each-alike : (n : ℕ) (operands : List ℤ) (v w : World) → Alike a v w → Straight a (w .state) → Same a (eachIn step n operands v) (eachIn step' n operands w)
+  unfolding eachIn
+  each-alike zero operands v w e straight = done-seen a v w e
+  each-alike (suc n) [] v w e straight = refused-seen a e Missing
+  each-alike (suc n) (z ∷ more) v w e straight =
+      next-seen (eachIn step n more) (eachIn step' n more) (each-alike n more) (step z v) (step' z w) (alike z v w e straight) (ap (λ (s : GraphicsState). s .vectors) (still z w) ∙ straight)
+
+-- a step that sees nothing across comes from worlds that look alike to what another comes to from the one, where it does so from the world seen
+pub step-alike : (a : Axis) (step step' : ℤ → World → Lined) → ((z : ℤ) (w : World) → Straight a (w .state) → Same a (step z (worldSeen a w)) (step z w))
+    → ((z : ℤ) (w : World) → Straight a (w .state) → Same a (step z (worldSeen a w)) (step' z w)) → (z : ℤ) (v w : World) → Alike a v w → Straight a (w .state) → Same a (step z v) (step' z w)
+step-alike a step step' level crossed z v w e straight =
+    let same : v .state ≡ w .state = ap (λ (u : World). u .state) (e .seen) in
+    sym (level z v (ap (λ (s : GraphicsState). s .vectors) same ∙ straight)) ∙ ap (λ (u : World). linedSeen a (step z u)) (e .seen) ∙ crossed z w straight
+
+-- of one step
 module _ (a : Axis) (step : ℤ → World → Lined) (level : (z : ℤ) (w : World) → Straight a (w .state) → Same a (step z (worldSeen a w)) (step z w))
     (still : (z : ℤ) (w : World) → step z w .world .state ≡ w .state) where
-  step-seen : (z : ℤ) (v w : World) → Alike a v w → Straight a (w .state) → Same a (step z v) (step z w)
-  step-seen z v w e straight =
-      let same : v .state ≡ w .state = ap (λ (u : World). u .state) (e .seen) in
-      sym (level z v (ap (λ (s : GraphicsState). s .vectors) same ∙ straight)) ∙ ap (λ (u : World). linedSeen a (step z u)) (e .seen) ∙ level z w straight
-
-  -- the rest of two loops, after a step that said the same
-  rest-seen : (rest : World → Lined) → ((v w : World) → Alike a v w → Straight a (w .state) → Same a (rest v) (rest w))
-      → (call : Call) (v w : World) → Alike a v w → Straight a (w .state) → Same a (byCall v rest call) (byCall w rest call)
-  rest-seen rest h Done v w e straight = h v w e straight
-  rest-seen rest h (Refused why) v w e straight = refused-seen a e why
-
-  next-seen : (rest : World → Lined) → ((v w : World) → Alike a v w → Straight a (w .state) → Same a (rest v) (rest w))
-      → (l k : Lined) → Same a l k → Straight a (k .world .state) → Same a (byCall (l .world) rest (l .call)) (byCall (k .world) rest (k .call))
-  next-seen rest h l k same straight =
-      rest-seen rest h (l .call) (l .world) (k .world) (record { seen = ap (λ (x : Lined). x .world) same }) straight
-      ∙ ap (λ (call : Call). linedSeen a (byCall (k .world) rest call)) (ap (λ (x : Lined). x .call) same)
-
   pub each-seen : (n : ℕ) (operands : List ℤ) (v w : World) → Alike a v w → Straight a (w .state) → Same a (eachIn step n operands v) (eachIn step n operands w)
-  unfolding eachIn
-  each-seen zero operands v w e straight = done-seen a v w e
-  each-seen (suc n) [] v w e straight = refused-seen a e Missing
-  each-seen (suc n) (z ∷ more) v w e straight =
-      next-seen (eachIn step n more) (each-seen n more) (step z v) (step z w) (step-seen z v w e straight) (ap (λ (s : GraphicsState). s .vectors) (still z w) ∙ straight)
+  each-seen = each-alike a step step (step-alike a step step level level) still
 
   -- the counter is 1 afterwards
   reset : Lined → Lined

@@ -32,6 +32,7 @@ use Rattle.laws_axes.proofs.Distances.{gc-seen, md-seen, mdrp-seen, mir
 use Rattle.laws_axes.proofs.Held.{StillSince, alongIs, iup-held, iup-still, stays-still, stays-straight}
 use Rattle.laws_axes.proofs.Inert.{stays}
 use Rattle.laws_axes.proofs.Lines.{alignrp-seen, flippt-seen, fliprg-seen, iup-seen, mdap-seen, miap-seen, msirp-seen, shc-seen, shp-seen, shpix-seen, shz-seen}
+use Rattle.laws_axes.proofs.Points.{alignpts-seen, ip-seen, utp-seen}
 use Rattle.laws_axes.proofs.Steps.{Same, world-again}
 
 -- ---- which lines mix the axes
@@ -64,12 +65,15 @@ rows-seen a =
     ▸ (λ op h m. absurd (no-intersection a op h m))
     ▸ (λ op h. set-seen a op)
     ▸ (λ op h. set-seen a op)
+    ▸ (λ op h m f operands w s. alignpts-seen a f op operands w s)
+    ▸ (λ op h m f operands w s. utp-seen a f op operands w s)
     ▸ (λ op h m f operands w s. mdap-seen a f op operands w s)
     ▸ (λ op h m f operands w s. iup-seen a f op operands w s)
     ▸ (λ op h m f operands w s. shp-seen a f op operands w s)
     ▸ (λ op h m f operands w s. shc-seen a f op operands w s)
     ▸ (λ op h m f operands w s. shz-seen a f op operands w s)
     ▸ (λ op h m f operands w s. shpix-seen a f op operands w s)
+    ▸ (λ op h m f operands w s. ip-seen a f op operands w s)
     ▸ (λ op h m f operands w s. msirp-seen a f op operands w s)
     ▸ (λ op h m f operands w s. alignrp-seen a f op operands w s)
     ▸ (λ op h. set-seen a op)

@@ -6,3 +6,4 @@ pub mod Rows
 pub mod Lines
 pub mod Colour
 pub mod Spans
+pub mod Order

@@ -29,7 +29,7 @@ use Rattle.laws_lines.proofs.Lengths.{Kept, in-state-kept, isect-kept, 
 use Rattle.laws_lines.proofs.Rows.{RowsHave, row-has, within}
 use Rattle.laws_lines.proofs.Rows.RowsHave.{_▸_, elsewhere}
 use Rattle.laws_lines.proofs.Usable.{isect-usable, iup-usable, set-usable, stays-usable}
-use Rattle.laws_lines.proofs.Stays.{Stays, alignrp-stays, flippt-stays, fliprg-stays, gc-stays, md-stays, mdap-stays, mdrp-stays, miap-stays, mirp-stays, msirp-stays, shc-stays, shp-stays, shpix-stays, shz-stays}
+use Rattle.laws_lines.proofs.Stays.{Stays, alignpts-stays, alignrp-stays, flippt-stays, fliprg-stays, gc-stays, ip-stays, md-stays, mdap-stays, mdrp-stays, miap-stays, mirp-stays, msirp-stays, shc-stays, shp-stays, shpix-stays, shz-stays, utp-stays}
 
 -- what holds of each word holds of each
 every-of : {P Q : ℤ → Type 0} → ((z : ℤ) → P z → Q z) → {zs : List ℤ} → Every P zs → Every Q zs
@@ -50,12 +50,15 @@ module _ (Word : ℤ → Type 0) (Refers : ℕ → Type 0) (refers : (z : ℤ) �
         ▸ isect
         ▸ (λ op h. set op)
         ▸ (λ op h. set op)
+        ▸ (λ op h f operands w g o. alignpts-stays f op operands w (stays op f w g) (start op f w g) (every-of refers o))
+        ▸ (λ op h f operands w g o. utp-stays f op operands w (stays op f w g) (start op f w g) (every-of refers o))
         ▸ (λ op h f operands w g o. mdap-stays f op operands w (stays op f w g) (start op f w g) (every-of refers o))
         ▸ iup
         ▸ (λ op h f operands w g o. shp-stays f op operands w (stays op f w g) (start op f w g))
         ▸ (λ op h f operands w g o. shc-stays f op operands w (stays op f w g) (start op f w g))
         ▸ (λ op h f operands w g o. shz-stays f op operands w (stays op f w g) (start op f w g))
         ▸ (λ op h f operands w g o. shpix-stays f op operands w (stays op f w g) (start op f w g))
+        ▸ (λ op h f operands w g o. ip-stays f op operands w (stays op f w g) (start op f w g))
         ▸ (λ op h f operands w g o. msirp-stays f op operands w (stays op f w g) (start op f w g) (every-of refers o))
         ▸ (λ op h f operands w g o. alignrp-stays f op operands w (stays op f w g) (start op f w g))
         ▸ (λ op h. set op)

@@ -3,7 +3,7 @@
 use Prim.Native.Nat.{ℕ, suc, zero, _-_}
 use mathlib.Core.Bool.{Bool, _&&_, _||_, cond, false, true}
 use mathlib.Core.List.{List, [], _∷_}
-use mathlib.Core.Path.{_≡_, ap, refl, subst, sym, _∙_}
+use mathlib.Core.Path.{_≡_, ap, ap₂, refl, subst, sym, _∙_}
 use lib.Dec.{eqb, leb, ltb}
 use lib.IntN.{ℤ, pos}
 use lib.ListN.{getD, length}
@@ -15,15 +15,20 @@ use Rattle.answer.specs.declared.Call.{Call}
 use Rattle.answer.specs.declared.Refusal.the-variants.{Contour, ControlValue}
 use Rattle.answer.specs.declared.Refusal.{Refusal}
 use Rattle.graphics.specs.State.{isTwilight, pastBothIups, withLoopCounter}
+use Rattle.graphics.specs.declared.Facts.{Facts}
 use Rattle.graphics.specs.declared.GraphicsState.{GraphicsState}
 use Rattle.graphics.specs.declared.Vector.{Vector}
+use Rattle.graphics.specs.declared.Vectors.{Vectors}
 use Rattle.graphics.specs.declared.ZonePointer.the-variants.{Glyph, Twilight}
 use Rattle.graphics.specs.declared.ZonePointer.{ZonePointer}
 use Rattle.int.proofs.Tests.{either}
 use Rattle.int.specs.Word.{indexOf, neg32}
+use Rattle.line_alignpts.specs.Alignpts.{alignptsOf, bothMovedBy}
 use Rattle.line_alignrp.specs.Alignrp.{alignPoint, alignrpOf}
 use Rattle.line_flip.specs.Flip.{flipPoint, flipptOf, fliprgOf, heldFast}
 use Rattle.crossing.specs.Crossing.{crossingOf}
+use Rattle.line_ip.specs.Ip.{distanceLeft, interpolate, ipOf}
+use Rattle.line_ip.specs.declared.Stretch.{Stretch}
 use Rattle.line_isect.specs.Isect.{isectOf, putTouched}
 use Rattle.line_mdap.specs.Mdap.{mdapOf, outsideMdap}
 use Rattle.line_miap.specs.Miap.{miapOf}
@@ -37,11 +42,12 @@ use Rattle.line_relative.specs.Relative.{bothThere, related, relatedOr}
 use Rattle.line_shc_shz.specs.Shc.{shcOf, shzOf}
 use Rattle.line_span.specs.Span.{pointsFrom, sameZone, shiftBut, spanIn}
 use Rattle.line_shift.specs.Shift.{shpOf, shpixOf}
+use Rattle.line_utp.specs.Utp.{untouchIn, utpOf}
 use Rattle.line_steps.specs.Numbers.{fromOrigin}
 use Rattle.line_steps.specs.Steps.{byCall, byDisplaced, byFetched, controlAt, referenceIn, referenceMoved, doneIn, eachIn, first, five, flagsIn, inState, laidIn, looped, madeIn, moveIn, onBoth, one, passedOver, pointOr, shiftPoint, two, withPoints, roundedIn, roundedMoveIn}
 use Rattle.math.specs.Fixed.{mulFix14}
 use Rattle.moves.specs.Apply.{applyIn}
-use Rattle.moves.specs.Move.{isIdle, moveOf, zp2MoveOf}
+use Rattle.moves.specs.Move.{isIdle, isNot0, moveOf, zp2MoveOf}
 use Rattle.moves.specs.declared.Displaced.the-variants.{By}
 use Rattle.moves.specs.declared.Displaced.the-variants.{Refused as RefusedDisplacement}
 use Rattle.moves.specs.declared.Displaced.{Displaced}
@@ -76,6 +82,7 @@ pub record Stays (f : Fixed) (s : GraphicsState) (Refers : ℕ → Type 0) (P : 
   -- flags
   pub flipped : (at : ℕ) (w : World) → P w → P (flagsIn w (flipOf (w .gflags) at) .world)
   pub ranged : (start end : ℕ) (on : Bool) (w : World) → P w → P (flagsIn w (setOnCurveOf (w .gflags) start end on) .world)
+  pub untouched : (zone : ZonePointer) (at : ℕ) (w : World) → P w → P (untouchIn at (isNot0 (s .vectors .freedom .x)) (isNot0 (s .vectors .freedom .y)) w zone .world)
   -- the state: references that become a point's number or another reference, and the counter
   pub both-set : (at : ℕ) (w : World) → Refers at → P w → P (onBoth at w)
   pub three-set : (sets : Bool) (at : ℕ) (w : World) → Refers at → P w → P (related sets at w)
@@ -170,6 +177,11 @@ unfolding putTouched
 put-state at place w Glyph = refl
 put-state at place w Twilight = refl
 
+pub untouched-state : (at : ℕ) (x y : Bool) (w : World) (zone : ZonePointer) → untouchIn at x y w zone .world .state ≡ w .state
+unfolding untouchIn
+untouched-state at x y w Glyph = refl
+untouched-state at x y w Twilight = refl
+
 pub align-point-state : (z : ℤ) (w : World) → alignPoint z w .world .state ≡ w .state
 unfolding moveIn
 align-point-state z w =
@@ -178,6 +190,14 @@ align-point-state z w =
     point-stays Same (s .pointers .zp1) (indexOf z) w _ _ (λ why. refl) λ place.
     point-stays Same (s .pointers .zp0) (s .references .rp0) w _ _ (λ why. refl) λ reference.
     laid-stays Same (s .pointers .zp1) (moveOf (s .vectors) (s .facts) (neg32 (projectOf (s .vectors) place reference))) (indexOf z) w doneIn refl refl
+
+pub interpolate-state : (outline : ℕ → Vector) (t : Stretch) (z : ℤ) (w : World) → interpolate outline t z w .world .state ≡ w .state
+unfolding interpolate moveIn
+interpolate-state outline t z w =
+    let Same : World → Type 0 = λ v. v .state ≡ w .state in
+    let s = w .state in
+    point-stays Same (s .pointers .zp2) (indexOf z) w _ _ (λ why. passed-stays Same w why refl) λ place.
+    laid-stays Same (s .pointers .zp2) (moveOf (s .vectors) (s .facts) (distanceLeft (s .vectors) t (outline (indexOf z)) place)) (indexOf z) w doneIn refl refl
 
 pub flip-point-state : (z : ℤ) (w : World) → flipPoint z w .world .state ≡ w .state
 unfolding flipPoint
@@ -297,6 +317,19 @@ module _ {Refers : ℕ → Type 0} {P : World → Type 0} (f : Fixed) (op : ℕ)
         rounded-stays zone _ at (madeIn at place w zone) _ (made-state at place w zone, m) λ v q. stays .three-set (setsRp0 op) at v refers q)
         zone
 
+    pub alignpts-stays : Left P (alignptsOf f op operands w)
+    unfolding alignptsOf bothMovedBy
+    alignpts-stays =
+        two-stays P Operand operands w _ o p λ first second refers.
+        point-stays P (s .pointers .zp0) (indexOf first) w _ _ (λ why. p) λ there.
+        point-stays P (s .pointers .zp1) (indexOf second) w _ _ (λ why. p) λ here.
+        moved-stays (s .pointers .zp1) _ (indexOf second) w _ (refl, p) λ v q.
+        moved-stays (s .pointers .zp0) _ (indexOf first) v doneIn q λ u k. k .1
+
+    pub utp-stays : Left P (utpOf f op operands w)
+    unfolding utpOf
+    utp-stays = one-stays P Operand operands w _ o p λ point refers. stays .untouched (s .pointers .zp0) (indexOf point) w p
+
     -- ---- what is pushed is a word
     pushes-stays : (value : ℤ) → SFits w32 value → Left P (pushes value w)
     pushes-stays value fits = stays .pushed value w fits p
@@ -335,21 +368,48 @@ module _ {Refers : ℕ → Type 0} {P : World → Type 0} (f : Fixed) (op : ℕ)
         (md-original-stays (indexOf to) (indexOf from))
 
   -- ---- the loops
-  align-point-stays : (z : ℤ) (v : World) → Q v → Left Q (alignPoint z v)
+  -- a point moved, in a world with these vectors and facts
+  point-moved-stays : (t : GraphicsState) → t .vectors ≡ s .vectors → t .facts ≡ s .facts → (zone : ZonePointer) (d : ℤ) (at : ℕ) (v : World) → (v .state ≡ t) × P v
+      → Left (λ (u : World). (u .state ≡ t) × P u) (moveIn zone d at v doneIn)
   unfolding moveIn
+  point-moved-stays t vectors facts zone d at v q =
+      let R : World → Type 0 = λ u. (u .state ≡ t) × P u in
+      let same : moveOf (v .state .vectors) (v .state .facts) d ≡ moveOf (s .vectors) (s .facts) d = ap (λ (g : GraphicsState). moveOf (g .vectors) (g .facts) d) (q .0) ∙ ap₂ (λ (u : Vectors) (h : Facts). moveOf u h d) vectors facts in
+      let k : R (laid zone (moveOf (s .vectors) (s .facts) d) at v) = (q .0, stays .by-distance zone d at v (q .1)) in
+      subst (λ (m : Move). Left R (laidIn zone m at v doneIn)) (sym same) (laid-stays R zone (moveOf (s .vectors) (s .facts) d) at v doneIn k k)
+
+  align-point-stays : (z : ℤ) (v : World) → Q v → Left Q (alignPoint z v)
   align-point-stays z v q =
-      let at = indexOf z in
       let zone = v .state .pointers .zp1 in
-      point-stays Q zone at v _ _ (λ why. q) λ place.
+      point-stays Q zone (indexOf z) v _ _ (λ why. q) λ place.
       point-stays Q (v .state .pointers .zp0) (v .state .references .rp0) v _ _ (λ why. q) λ reference.
-      let d = neg32 (projectOf (v .state .vectors) place reference) in
-      let same : moveOf (v .state .vectors) (v .state .facts) d ≡ moveOf (s .vectors) (s .facts) d = ap (λ (t : GraphicsState). moveOf (t .vectors) (t .facts) d) (q .0) in
-      let k : Q (laid zone (moveOf (s .vectors) (s .facts) d) at v) = (q .0, stays .by-distance zone d at v (q .1)) in
-      subst (λ (m : Move). Left Q (laidIn zone m at v doneIn)) (sym same) (laid-stays Q zone (moveOf (s .vectors) (s .facts) d) at v doneIn k k)
+      point-moved-stays s refl refl zone _ (indexOf z) v q
 
   pub alignrp-stays : Left P (alignrpOf f op operands w)
   unfolding alignrpOf
   alignrp-stays = looped-stays alignPoint align-point-stays operands
+
+  -- IP's counter is 1 before its first point
+  abbrev once : GraphicsState
+  once = withLoopCounter s 1
+
+  interpolate-stays : (outline : ℕ → Vector) (t : Stretch) (z : ℤ) (v : World) → (v .state ≡ once) × P v → Left (λ (u : World). (u .state ≡ once) × P u) (interpolate outline t z v)
+  unfolding interpolate
+  interpolate-stays outline t z v q =
+      let R : World → Type 0 = λ u. (u .state ≡ once) × P u in
+      let zone = v .state .pointers .zp2 in
+      point-stays R zone (indexOf z) v _ _ (λ why. passed-stays R v why q) λ place.
+      point-moved-stays once refl refl zone _ (indexOf z) v q
+
+  pub ip-stays : Left P (ipOf f op operands w)
+  unfolding ipOf
+  ip-stays =
+      let R : World → Type 0 = λ u. (u .state ≡ once) × P u in
+      let v = inState w once in
+      let k = stays .counted w p in
+      point-stays P (s .pointers .zp0) (s .references .rp1) v _ _ (λ why. passed-stays P v why k) λ current.
+      point-stays P (s .pointers .zp1) (s .references .rp2) v _ _ (λ why. passed-stays P v why k) λ farCurrent.
+      each-stays R _ (interpolate-stays _ _) (s .«loop_counter») operands v (refl, k) .1
 
   flip-point-stays : (z : ℤ) (v : World) → Q v → Left Q (flipPoint z v)
   unfolding flipPoint

@@ -27,13 +27,14 @@ use Rattle.line_msirp.specs.Msirp.{madeFrom, madePlace}
 use Rattle.line_relative.specs.Relative.{relatedBy}
 use Rattle.line_set.specs.Setters.{axisBy, loopBy, modeBy, onOperand, operandBy, pointerBy, referenceBy, setBy, takesOperand, vectorsBy, zoneBy}
 use Rattle.line.specs.Operands.{isOdd}
+use Rattle.moves.specs.Move.{isNot0}
 use Rattle.round.specs.Round.{usableBy}
 use Rattle.round.specs.declared.RoundMode.{RoundMode}
 use Rattle.super_round.proofs.Facts.{super-usable}
 use Rattle.super_round.specs.Selector.{superOf}
 use Rattle.line.specs.World.{Fixed, World}
 use Rattle.zone.specs.Zone.{placeOf}
-use Rattle.laws_lines.proofs.Stays.{Stays, isect-stays, made-state, put-state}
+use Rattle.laws_lines.proofs.Stays.{Stays, isect-stays, made-state, put-state, untouched-state}
 
 -- an outcome whose state is usable where this one is
 abbrev pub Usable : GraphicsState → Stepped → Type 0
@@ -119,6 +120,7 @@ stays-usable f u = let s = u .state in record {
   from-reference = λ control reference at zone w k h. ap usableState (made-state at (mirpPlace (s .vectors .freedom) control reference) w zone) ∙ k h;
   flipped = λ at w k. k;
   ranged = λ start end on w k. k;
+  untouched = λ zone at w k h. ap usableState (untouched-state at (isNot0 (s .vectors .freedom .x)) (isNot0 (s .vectors .freedom .y)) w zone) ∙ k h;
   both-set = λ at w r k h. usable-references (w .state) _ ∙ k h;
   three-set = λ sets at w r k h. related-usable sets at (w .state) ∙ k h;
   counted = λ w k h. usable-loop (w .state) 1 ∙ k h;

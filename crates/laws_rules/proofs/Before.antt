@@ -20,8 +20,10 @@ use Rattle.laws_rules.specs.Before.{lineBefore, msirpBefore, onDecodedBy
 use Rattle.line.specs.Operands.{isOdd}
 use Rattle.line.specs.Sizes.{fits}
 use Rattle.line.specs.World.{Fixed, Lined, World, under}
+use Rattle.line_alignpts.specs.Alignpts.{alignptsOf}
 use Rattle.line_alignrp.specs.Alignrp.{alignrpOf}
 use Rattle.line_flip.specs.Flip.{flipptOf, fliprgOf}
+use Rattle.line_ip.specs.Ip.{ipOf}
 use Rattle.line_isect.specs.Isect.{isectOf}
 use Rattle.line_iup.specs.Iup.{iupLineOf, markedFor, walkedIn}
 use Rattle.line_mdap.specs.Mdap.{mdapOf}
@@ -33,6 +35,7 @@ use Rattle.line_msirp.specs.Msirp.{msirpOf}
 use Rattle.line_set.specs.Setters.{setOf}
 use Rattle.line_shc_shz.specs.Shc.{shcOf, shzOf}
 use Rattle.line_shift.specs.Shift.{shpOf, shpixOf}
+use Rattle.line_utp.specs.Utp.{utpOf}
 use Rattle.line_span.specs.Span.{spanIn}
 use Rattle.line_steps.specs.Steps.{controlAt, doneIn, inState, referenceIn}
 use Rattle.opcodes.specs.Decode.{decodeOf}
@@ -58,6 +61,14 @@ set-unruled rules f opcode operands w = refl
 isect-unruled : Unruled isectOf
 unfolding isectOf
 isect-unruled rules f opcode operands w = refl
+
+alignpts-unruled : Unruled alignptsOf
+unfolding alignptsOf
+alignpts-unruled rules f opcode operands w = refl
+
+utp-unruled : Unruled utpOf
+unfolding utpOf
+utp-unruled rules f opcode operands w = refl
 
 mdap-unruled : Unruled mdapOf
 unfolding mdapOf
@@ -87,6 +98,10 @@ shz-unruled rules f opcode operands w = refl
 shpix-unruled : Unruled shpixOf
 unfolding shpixOf
 shpix-unruled rules f opcode operands w = refl
+
+ip-unruled : Unruled ipOf
+unfolding ipOf
+ip-unruled rules f opcode operands w = refl
 
 alignrp-unruled : Unruled alignrpOf
 unfolding alignrpOf
@@ -150,7 +165,7 @@ module _ (f : Fixed) where
 
   all-as-before : RowsAsBefore rows
   all-as-before =
-      (set-unruled Skrifa f, (isect-unruled Skrifa f, (set-unruled Skrifa f, (set-unruled Skrifa f, (mdap-unruled Skrifa f, (iup-unruled Skrifa f, (shp-unruled Skrifa f, (shc-unruled Skrifa f, (shz-unruled Skrifa f, (shpix-unruled Skrifa f, (msirp-as-before f, (alignrp-unruled Skrifa f, (set-unruled Skrifa f, (miap-unruled Skrifa f, (gc-unruled Skrifa f, (md-unruled Skrifa f, (set-unruled Skrifa f, (set-unruled Skrifa f, (set-unruled Skrifa f, (flippt-unruled Skrifa f, (fliprg-unruled Skrifa f, (mdrp-unruled Skrifa f, (mirp-unruled Skrifa f, tt)))))))))))))))))))))))
+      (set-unruled Skrifa f, (isect-unruled Skrifa f, (set-unruled Skrifa f, (set-unruled Skrifa f, (alignpts-unruled Skrifa f, (utp-unruled Skrifa f, (mdap-unruled Skrifa f, (iup-unruled Skrifa f, (shp-unruled Skrifa f, (shc-unruled Skrifa f, (shz-unruled Skrifa f, (shpix-unruled Skrifa f, (ip-unruled Skrifa f, (msirp-as-before f, (alignrp-unruled Skrifa f, (set-unruled Skrifa f, (miap-unruled Skrifa f, (gc-unruled Skrifa f, (md-unruled Skrifa f, (set-unruled Skrifa f, (set-unruled Skrifa f, (set-unruled Skrifa f, (flippt-unruled Skrifa f, (fliprg-unruled Skrifa f, (mdrp-unruled Skrifa f, (mirp-unruled Skrifa f, tt))))))))))))))))))))))))))
 
 -- every line under the rules `skrifa` is the line before, whatever rules are named beside it
 pub lines-as-before : (f : Fixed) (opcode : ℕ) (operands : List ℤ) (w : World) → lineOf (under Skrifa f) opcode operands w ≡ lineBefore f opcode operands w
@@ -175,12 +190,15 @@ module _ (rules : Rules) where
       ▸ (λ op h. free _ isect-unruled op)
       ▸ (λ op h. free _ set-unruled op)
       ▸ (λ op h. free _ set-unruled op)
+      ▸ (λ op h. free _ alignpts-unruled op)
+      ▸ (λ op h. free _ utp-unruled op)
       ▸ (λ op h. free _ mdap-unruled op)
       ▸ (λ op h. free _ iup-unruled op)
       ▸ (λ op h. free _ shp-unruled op)
       ▸ (λ op h. free _ shc-unruled op)
       ▸ (λ op h. free _ shz-unruled op)
       ▸ (λ op h. free _ shpix-unruled op)
+      ▸ (λ op h. free _ ip-unruled op)
       ▸ left-out
       ▸ (λ op h. free _ alignrp-unruled op)
       ▸ (λ op h. free _ set-unruled op)

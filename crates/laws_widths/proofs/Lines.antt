@@ -29,9 +29,10 @@ use Rattle.line_msirp.specs.Msirp.{madeFrom, madePlace}
 use Rattle.line_relative.specs.Relative.{relatedBy}
 use Rattle.line_steps.specs.Loop.{points}
 use Rattle.line_steps.specs.Steps.{flagsIn, inState, madeIn}
+use Rattle.line_utp.specs.Utp.{untouchIn, untouchedBy}
 use Rattle.math.specs.Fixed.{mulFix14}
 use Rattle.moves.specs.Apply.{applyIn}
-use Rattle.moves.specs.Move.{moveOf, originalMoveOf, zp2MoveOf}
+use Rattle.moves.specs.Move.{isNot0, moveOf, originalMoveOf, zp2MoveOf}
 use Rattle.moves.specs.declared.Move.{Move}
 use Rattle.line.specs.Operands.{isOdd}
 use Rattle.flags.specs.Flag.{touchBits}
@@ -44,7 +45,7 @@ use Rattle.line.specs.World.{Fixed, World}
 use Rattle.zone.specs.Zone.{Marked, flipOf, placeOf, setOnCurveOf}
 use Rattle.laws_widths.proofs.Contours.{iup-fits}
 use Rattle.laws_widths.proofs.Setters.{references-fit, reset-fits, rp0-fits, rp1-fits, rp2-fits, with-facts-fits, with-push-fits, with-references-fits, with-rounding-fits}
-use Rattle.laws_widths.proofs.Steps.{PointsFit, apply-fits, flip-fits, move-small, on-curve-fits, or-fits, place-fits, zp2-small}
+use Rattle.laws_widths.proofs.Steps.{PointsFit, apply-fits, flip-fits, move-small, on-curve-fits, or-fits, place-fits, untouched-fits, zp2-small}
 
 -- ---- moves
 laid-fits : (zone : ZonePointer) (m : Move) → m .touch < 256 → (at : ℕ) (w : World) → InWidth w → InWidth (laid zone m at w)
@@ -114,6 +115,12 @@ related-fits s f sets at h =
 flags-fit : (w : World) (m : Marked) → Below 256 (m .flags) → InWidth w → InWidth (flagsIn w m .world)
 flags-fit w m f k = record { state = k .state; gx = k .gx; gy = k .gy; gflags = f; tox = k .tox; toy = k .toy; tx = k .tx; ty = k .ty; tflags = k .tflags }
 
+untouched-in-width : (x y : Bool) (at : ℕ) (zone : ZonePointer) (w : World) → InWidth w → InWidth (untouchIn at x y w zone .world)
+unfolding untouchIn
+untouched-in-width x y at Glyph w k = flags-fit w (untouchedBy (w .gflags) at x y) (untouched-fits (k .gflags) at x y) k
+untouched-in-width x y at Twilight w k =
+    record { state = k .state; gx = k .gx; gy = k .gy; gflags = k .gflags; tox = k .tox; toy = k .toy; tx = k .tx; ty = k .ty; tflags = untouched-fits (k .tflags) at x y }
+
 -- a point's number that becomes a reference has 64 bits
 pub stays-in-width : (f : Fixed) → FixedInWidth f → (s : GraphicsState) → Stays f s (λ (at : ℕ). at < 2 ^ 64) InWidth
 stays-in-width f o s = record {
@@ -124,6 +131,7 @@ stays-in-width f o s = record {
   from-reference = λ control reference at zone w k. made-fits at (mirpPlace (s .vectors .freedom) control reference) (mirp-place-fits (s .vectors .freedom) control reference) zone w k;
   flipped = λ at w k. flags-fit w (flipOf (w .gflags) at) (flip-fits (k .gflags) at) k;
   ranged = λ start end on w k. flags-fit w (setOnCurveOf (w .gflags) start end on) (on-curve-fits (k .gflags) start end on) k;
+  untouched = λ zone at w k. untouched-in-width (isNot0 (s .vectors .freedom .x)) (isNot0 (s .vectors .freedom .y)) at zone w k;
   both-set = λ at w h k. in-state-fits w _ (with-references-fits (k .state) _ (rp1-fits (rp0-fits (references-fit (k .state)) at h) at h)) k;
   three-set = λ sets at w h k. in-state-fits w (relatedBy sets at (w .state)) (related-fits (w .state) (k .state) sets at h) k;
   counted = λ w k. in-state-fits w (withLoopCounter (w .state) 1) (reset-fits (k .state)) k;

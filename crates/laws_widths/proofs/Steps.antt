@@ -19,10 +19,12 @@ use Rattle.graphics.specs.declared.ZonePointer.{ZonePointer}
 use Rattle.int.proofs.Tests.{either}
 use Rattle.int.proofs.Wraps.{add32-fits}
 use Rattle.line_steps.specs.Loop.{Points, points}
+use Rattle.line_utp.specs.Utp.{untouchedBy}
 use Rattle.moves.specs.Apply.{Moved, applyIn, applyOf}
 use Rattle.moves.specs.Move.{bitsFor, isNot0, moveOf, movedAt, stepBy, zp2MoveOf}
 use Rattle.moves.specs.declared.Move.{Move}
 use Rattle.line.specs.Places.{Pair, putAt}
+use Rattle.flags.specs.Flag.{cleared, touchBits}
 use Rattle.flags.specs.declared.CoordAxis.{CoordAxis}
 use Rattle.flags.specs.declared.CoordAxis.the-variants.{Both, X, Y}
 use Rattle.projection.specs.Projection.{fdotpOf, freedomAxisOf}
@@ -62,6 +64,16 @@ module _ {flags : List ℕ} (fits : Below 256 flags) where
 
   pub flip-fits : (at : ℕ) → Below 256 (markedAt (λ (flag : ℕ). bitXor flag 1) flags at .flags)
   flip-fits at = marked-fits (λ (flag : ℕ). bitXor flag 1) (λ flag k. xor-lt 8 flag 1 k (omega arith)) at
+
+  cleared-fits : (mask : ℕ) → 255 - mask < 256 → (at : ℕ) → Below 256 (markedAt (λ (flag : ℕ). cleared flag mask) flags at .flags)
+  cleared-fits mask h at = marked-fits (λ (flag : ℕ). cleared flag mask) (λ flag k. and-lt 8 flag (255 - mask) k h) at
+
+  pub untouched-fits : (at : ℕ) (x y : Bool) → Below 256 (untouchedBy flags at x y .flags)
+  unfolding untouchedBy
+  untouched-fits at true true = cleared-fits (touchBits Both) (omega arith) at
+  untouched-fits at true false = cleared-fits (touchBits X) (omega arith) at
+  untouched-fits at false true = cleared-fits (touchBits Y) (omega arith) at
+  untouched-fits at false false = fits
 
   pub on-curve-fits : (start end : ℕ) (on : Bool) → Below 256 (setOnCurveOf flags start end on .flags)
   unfolding setOnCurveOf

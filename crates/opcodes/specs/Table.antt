@@ -1,12 +1,14 @@
 -- The table of opcodes: what each opcode's line takes, and what it does. Document 01, "A sheet and its lines", and document 02, K1 (0x34 to 0x38, 0x81,
--- 0x82), K2 (0x76, 0x77) and K7 (0x46, 0x47, 0x49, 0x4A, from 0xC0 on). Assumes nothing.
+-- 0x82), K2 (0x76, 0x77), K7 (0x46, 0x47, 0x49, 0x4A, from 0xC0 on) and K14 (0x27, 0x29, 0x39). Assumes nothing.
 use Prim.Native.Nat.{ℕ, suc, zero}
 use mathlib.Core.Bool.{Bool, _&&_, cond}
 use mathlib.Core.List.{List, [], _∷_}
 use lib.Dec.{leb}
 use lib.IntN.{ℤ}
+use Rattle.line_alignpts.specs.Alignpts.{alignptsOf}
 use Rattle.line_alignrp.specs.Alignrp.{alignrpOf}
 use Rattle.line_flip.specs.Flip.{flipptOf, fliprgOf}
+use Rattle.line_ip.specs.Ip.{ipOf}
 use Rattle.line_isect.specs.Isect.{isectOf}
 use Rattle.line_iup.specs.Iup.{iupLineOf}
 use Rattle.line_mdap.specs.Mdap.{mdapOf}
@@ -18,6 +20,7 @@ use Rattle.line_msirp.specs.Msirp.{msirpOf}
 use Rattle.line_set.specs.Setters.{setOf}
 use Rattle.line_shc_shz.specs.Shc.{shcOf, shzOf}
 use Rattle.line_shift.specs.Shift.{shpOf, shpixOf}
+use Rattle.line_utp.specs.Utp.{utpOf}
 use Rattle.line.specs.World.{Fixed, Lined, World}
 
 -- ---- how many operands
@@ -64,12 +67,15 @@ rows =
     ∷ row 0x0F 0x0F (Exactly 5) isectOf  -- ISECT
     ∷ row 0x10 0x17 (Exactly 1) setOf  -- SRP0, SRP1, SRP2, SZP0, SZP1, SZP2, SZPS, SLOOP
     ∷ row 0x18 0x19 (Exactly 0) setOf  -- RTG, RTHG
+    ∷ row 0x27 0x27 (Exactly 2) alignptsOf  -- ALIGNPTS
+    ∷ row 0x29 0x29 (Exactly 1) utpOf  -- UTP
     ∷ row 0x2E 0x2F (Exactly 1) mdapOf  -- MDAP
     ∷ row 0x30 0x31 (Exactly 0) iupLineOf  -- IUP
     ∷ row 0x32 0x33 AsLooped shpOf  -- SHP
     ∷ row 0x34 0x35 (Exactly 1) shcOf  -- SHC
     ∷ row 0x36 0x37 (Exactly 1) shzOf  -- SHZ
     ∷ row 0x38 0x38 OneAndLooped shpixOf  -- SHPIX
+    ∷ row 0x39 0x39 AsLooped ipOf  -- IP
     ∷ row 0x3A 0x3B (Exactly 2) msirpOf  -- MSIRP
     ∷ row 0x3C 0x3C AsLooped alignrpOf  -- ALIGNRP
     ∷ row 0x3D 0x3D (Exactly 0) setOf  -- RTDG

@@ -238,9 +238,9 @@ impl<'a> Machine<'a> {
             .map_err(|error| error.kind)
     }
 
-    /// What a line that was done left on the value stack. It has taken all of
-    /// its operands, so that these are what it pushed, in order.
-    pub fn pushed(&self) -> &[i32] {
+    /// What a line that was done left on the value stack, the last on top: what
+    /// it pushed, where it has taken all of its operands.
+    pub fn left_on_the_stack(&self) -> &[i32] {
         self.engine.value_stack.values()
     }
 

@@ -43,16 +43,8 @@ pub fn keys(case: &Case, outcome: &Outcome) -> Vec<String> {
 
 pub fn required() -> Vec<String> {
     let mut keys: Vec<String> = WALKS.iter().map(|walk| walk_key(walk)).collect();
-    for name in ["move_point", "move_zp2_point"] {
-        for lock in ["none", "x", "x and y"] {
-            for axis in 1..=2 {
-                keys.push(moved_key(name, axis, lock, axis == 1));
-            }
-            for horizontal in [false, true] {
-                keys.push(moved_key(name, 0, lock, horizontal));
-            }
-        }
-    }
+    keys.extend(required_moves("move_point"));
+    keys.extend(required_moves("move_zp2_point"));
     for way in ["crossing", "grazing", "discriminant 0"] {
         keys.push(format!("ISECT: {way}"));
     }
@@ -63,6 +55,20 @@ pub fn required() -> Vec<String> {
     }
     for name in ["MDAP", "MSIRP"] {
         keys.push(lenient_key(name));
+    }
+    keys
+}
+
+/// Each freedom axis under each lock, by whatever moves points.
+pub fn required_moves(name: &str) -> Vec<String> {
+    let mut keys = Vec::new();
+    for lock in ["none", "x", "x and y"] {
+        for axis in 1..=2 {
+            keys.push(moved_key(name, axis, lock, axis == 1));
+        }
+        for horizontal in [false, true] {
+            keys.push(moved_key(name, 0, lock, horizontal));
+        }
     }
     keys
 }
@@ -99,7 +105,7 @@ fn move_key(case: &Case, name: &str) -> String {
     moved_key(name, axis, lock, state.vectors[1] == 0)
 }
 
-fn moved_key(name: &str, freedom_axis: u32, locked: &str, horizontal: bool) -> String {
+pub fn moved_key(name: &str, freedom_axis: u32, locked: &str, horizontal: bool) -> String {
     format!(
         "{name}: freedom axis {freedom_axis}, locked {locked}, horizontal projection {horizontal}"
     )

@@ -262,7 +262,10 @@ fn change_keys(case: &Case, line: &ReachedLine, row: &Row) -> Vec<String> {
 }
 
 /// What a run leaves, but for what was changed before it.
-fn left_by(case: &Case, change: impl Fn(&mut World)) -> (Returned, Vec<Vec<u32>>, [u64; 3], u32) {
+pub fn left_by(
+    case: &Case,
+    change: impl Fn(&mut World),
+) -> (Returned, Vec<Vec<u32>>, [u64; 3], u32) {
     let mut world = case.world.clone();
     change(&mut world);
     let returned = case.call.perform(&mut world);
@@ -293,7 +296,7 @@ fn changes_of(code: u8) -> impl Iterator<Item = Change> {
     })
 }
 
-fn copy_pairs(world: &mut World, from: usize, to: usize) {
+pub fn copy_pairs(world: &mut World, from: usize, to: usize) {
     for axis in 0..2 {
         world.lists[to + axis] = world.lists[from + axis].clone();
     }

@@ -8,7 +8,7 @@ use crate::{
     direct::Call,
     generate::every_call,
     lines_of::place_of,
-    opcodes::{name_of, row_of},
+    opcodes::{name_of, row_of, Reference},
     random::Random,
     world::*,
 };
@@ -16,7 +16,7 @@ use crate::{
 pub fn keys(case: &Case, outcome: &Outcome) -> Vec<String> {
     let number = outcome.returned.answer.number;
     match case.call {
-        Call::Run { start: 0, .. } => far_reference(case).into_iter().collect(),
+        Call::Run { start: 0, .. } => far_references(case),
         Call::Run { .. } => Vec::new(),
         call if number == answer::SIZES => {
             let per_zone = |zone| misfits(&call, zone, &case.world);
@@ -36,9 +36,8 @@ pub fn required() -> Vec<String> {
             keys.push(far_key(name(&call)));
         }
     }
-    let goes_by_one = |code: &u8| row_of(*code).is_some_and(|row| row.reference(*code).is_some());
-    let by_reference = (0..=255).filter(goes_by_one);
-    keys.extend(by_reference.map(|code| far_key(&name_of(code))));
+    let by_reference = (0..=255).flat_map(references_of);
+    keys.extend(by_reference.map(|(name, _)| far_key(&name)));
     keys.sort();
     keys.dedup();
     keys
@@ -123,12 +122,32 @@ fn far_index(call: &Call, world: &World) -> Option<String> {
     far.then(|| far_key(name(call)))
 }
 
-/// A run whose first line goes by a reference that is far.
-fn far_reference(case: &Case) -> Option<String> {
-    let opcode = u8::try_from(*case.world.lists[SHEET].first()?).ok()?;
-    let (zone, index) = place_of(case, row_of(opcode)?.reference(opcode)?);
-    let far = is_far(index, case.world.points_of(zone));
-    far.then(|| far_key(&name_of(opcode)))
+/// A run whose first line goes by references that are far.
+fn far_references(case: &Case) -> Vec<String> {
+    let first = case.world.lists[SHEET].first().copied();
+    let opcode = first.and_then(|word| u8::try_from(word).ok());
+    let references = opcode.map(references_of).unwrap_or_default().into_iter();
+    let far = references.filter(|(_, reference)| {
+        let (zone, index) = place_of(case, *reference);
+        is_far(index, case.world.points_of(zone))
+    });
+    far.map(|(name, _)| far_key(&name)).collect()
+}
+
+/// The references that a line of the code goes by, each with the name that it is
+/// counted under: the code's, and where there are several its own as well.
+fn references_of(code: u8) -> Vec<(String, Reference)> {
+    let references = row_of(code).map(|row| row.references(code));
+    let references = references.unwrap_or_default();
+    let several = references.len() > 1;
+    let named = |reference: Reference| match several {
+        true => (
+            format!("{}, rp{}", name_of(code), reference.number),
+            reference,
+        ),
+        false => (name_of(code), reference),
+    };
+    references.into_iter().map(named).collect()
 }
 
 fn is_far(index: u64, points: usize) -> bool {

@@ -11,6 +11,7 @@ mod rows;
 mod rules;
 mod selectors;
 mod shifts;
+mod singles;
 mod wraps;
 
 use crate::{
@@ -116,6 +117,9 @@ impl Coverage {
             self.add(key);
         }
         for key in rules::keys(case, outcome) {
+            self.add(key);
+        }
+        for key in singles::keys(case, outcome) {
             self.add(key);
         }
     }
@@ -290,7 +294,8 @@ impl Coverage {
     /// Names what must come up more often than it did; true if there is none.
     fn often_enough(&self) -> bool {
         let mut enough = true;
-        for (key, fewest) in distances::fewest().into_iter().chain(rules::fewest()) {
+        let fewest = [distances::fewest(), rules::fewest(), singles::fewest()];
+        for (key, fewest) in fewest.into_iter().flatten() {
             let count = self.counts.get(&key).copied().unwrap_or_default();
             if count < fewest {
                 println!(" TOO FEW  {key}: {count}, at least {fewest}");

@@ -1,7 +1,8 @@
 //! What must come up in a run of the generator and in the sample.
 
 use super::{
-    branches, distances, ends, keys::*, largest, lengths, rows, rules, selectors, shifts, wraps,
+    branches, distances, ends, keys::*, largest, lengths, rows, rules, selectors, shifts, singles,
+    wraps,
 };
 use crate::{
     answer,
@@ -33,6 +34,7 @@ pub fn required() -> Vec<String> {
     keys.extend(distances::required());
     keys.extend(ends::required());
     keys.extend(rules::required());
+    keys.extend(singles::required());
     keys
 }
 

@@ -12,7 +12,7 @@ use crate::{
 };
 
 /// What a reading of 32 bits takes for 0.
-const FAR: [u64; 6] = [
+pub const FAR: [u64; 6] = [
     1 << 32,
     1 << 33,
     3 << 32,
@@ -70,7 +70,7 @@ fn far_ranges(far: u64, near: u64) -> Vec<Call> {
 }
 
 /// Each line that goes by a reference, in zones of every kind, pedantic or not;
-/// the distances, which have many codes, have their own.
+/// the distances, which have many codes, and IP, which has two, have their own.
 pub fn far_references() -> Vec<Case> {
     let mut cases = Vec::new();
     for line in lines_by_reference(older_rows()) {
@@ -109,7 +109,8 @@ fn far_reference(line: &[i32], zones: [u32; 3], place: usize) -> Case {
 
 /// Those of document 01 from the table's last to its first, then the others.
 fn older_rows() -> Vec<&'static Row> {
-    let older = TABLE.iter().filter(|row| row.family != Family::Distances);
+    let is_older = |row: &&Row| !matches!(row.family, Family::Distances | Family::Single);
+    let older = TABLE.iter().filter(is_older);
     let (mut rows, later): (Vec<&Row>, Vec<&Row>) = older.partition(|row| row.family.is_of_01());
     rows.reverse();
     rows.extend(later);
@@ -121,7 +122,7 @@ fn lines_by_reference(rows: Vec<&Row>) -> Vec<Vec<i32>> {
     let codes = rows
         .iter()
         .flat_map(|row| row.codes().map(|code| (*row, code)));
-    let by_reference = codes.filter(|(row, code)| row.reference(*code).is_some());
+    let by_reference = codes.filter(|(row, code)| !row.references(*code).is_empty());
     by_reference
         .map(|(row, code)| right_line(row, code))
         .collect()

@@ -15,6 +15,8 @@ mod runs;
 mod selectors;
 mod shift_grid;
 mod shifts;
+mod single_grid;
+mod singles;
 mod spoil;
 mod states;
 mod turns;
@@ -38,6 +40,8 @@ pub use runs::{
 pub use selectors::{every_selector, rounds_by_every_selector, selector_counts};
 pub use shift_grid::every_shift;
 pub use shifts::shift_case;
+pub use single_grid::every_single;
+pub use singles::{single_case, single_run_case};
 pub use turns::turns;
 pub use wraps::{every_wrap, wrap_case};
 
@@ -50,17 +54,20 @@ use crate::{
     wraps::count,
 };
 use distances::any_distance;
+use singles::any_single;
 
 /// The ends of the others are mended.
 const SLOPPY_ONCE_IN: usize = 8;
 /// Of any cases, those that are made of what tells the rules apart.
 const RULES_ONCE_IN: usize = 20;
+/// And those that are made of IP, ALIGNPTS and UTP.
+const SINGLES_ONCE_IN: usize = 5;
 
 /// What no chance is left to: document 01's runs, the scenes of note, each
 /// opcode, each setter, each shift, each selector and lines that round by it, the
 /// limits, lists that don't fit, far indices, what one rule alone decides, each
-/// kind of wrapped rounding, the largest faces, the distances, contour ends, and
-/// what tells the rules apart.
+/// kind of wrapped rounding, the largest faces, the distances, contour ends, what
+/// tells the rules apart, and IP, ALIGNPTS and UTP where they turn.
 pub fn fixed_cases(random: &mut Random) -> Vec<Case> {
     let mut cases = runs_of_01().to_vec();
     cases.extend(notable::lines());
@@ -83,13 +90,15 @@ pub fn fixed_cases(random: &mut Random) -> Vec<Case> {
     cases.extend(far_distances());
     cases.extend(every_end());
     cases.extend(every_rule());
+    cases.extend(every_single());
     cases
 }
 
 /// Any case at all, for comparisons, coverage and searches. Its contour ends may
 /// be sloppy, but seldom: such a case is refused before anything is done. Half of
-/// the runs go by FreeType's rules, and now and then one is rich in what tells them
-/// apart. That is drawn aside, so that the others ask what they asked before.
+/// the runs go by FreeType's rules, now and then one is rich in what tells them
+/// apart, and one of five is of IP, ALIGNPTS and UTP. That is drawn aside, so that
+/// the others ask what they asked before.
 pub fn any_case(random: &mut Random) -> Case {
     let case = case_of_any_ends(random);
     let case = match random.once_in(SLOPPY_ONCE_IN) {
@@ -98,8 +107,11 @@ pub fn any_case(random: &mut Random) -> Case {
     };
     let mut aside = random.aside();
     let chosen = aside.pick(&ALL_RULES);
-    match aside.once_in(RULES_ONCE_IN) {
-        true => mended(rules_run_case(&mut aside)).under(chosen),
+    if aside.once_in(RULES_ONCE_IN) {
+        return mended(rules_run_case(&mut aside)).under(chosen);
+    }
+    match aside.once_in(SINGLES_ONCE_IN) {
+        true => any_single(&mut aside),
         false => case.under(chosen),
     }
 }

@@ -1,6 +1,6 @@
 -- `dispatch::kind_of` meets its contract: the table computes at a number or two, and an opcode between the numbers matched sets the state. Assumes nothing.
 use mathlib.Core.List.{List, [], _∷_}
-use mathlib.Core.Logic.{inl, inr}
+use mathlib.Core.Logic.{_⊎_, inl, inr}
 use mathlib.Core.Path.{_≡_, refl}
 use Prim.Native.Nat.{ℕ, _≤_}
 use native.Mathlib.Omega.{arith}
@@ -13,25 +13,38 @@ use Rattle.dispatch.proofs.kind_of.Tie as tie
 
 -- ---- the numbers matched, the last first, and the ranges
 abbrev numbers : List ℕ
-numbers = 0x80 ∷ 0x0F ∷ []
+numbers = 0x80 ∷ 0x39 ∷ 0x29 ∷ 0x27 ∷ 0x0F ∷ []
 
 abbrev ranges : List (ℕ × ℕ)
-ranges = (0x2E, 0x38) ∷ (0x3A, 0x3C) ∷ (0x3E, 0x3F) ∷ (0x46, 0x47) ∷ (0x49, 0x4A) ∷ (0x80, 0x82) ∷ (0xC0, 0xFF) ∷ []
+ranges = (0x2E, 0x3C) ∷ (0x3E, 0x3F) ∷ (0x46, 0x47) ∷ (0x49, 0x4A) ∷ (0x80, 0x82) ∷ (0xC0, 0xFF) ∷ []
 
 -- row by row: it sets the state, or it is matched
 covered : Covered numbers ranges rows
 covered =
-    (inl refl, (inr refl, (inl refl, (inl refl, (inr refl, (inr refl, (inr refl, (inr refl, (inr refl, (inr refl, (inr refl, (inr refl, (inl refl, (inr refl, (inr refl, (inr refl, (inl refl, (inl refl, (inl refl, (inr refl, (inr refl, (inr refl, (inr refl, tt)))))))))))))))))))))))
+    (inl refl, (inr refl, (inl refl, (inl refl, (inr refl, (inr refl, (inr refl, (inr refl, (inr refl, (inr refl, (inr refl, (inr refl, (inr refl, (inr refl, (inr refl, (inl refl, (inr refl, (inr refl, (inr refl, (inl refl, (inl refl, (inl refl, (inr refl, (inr refl, (inr refl, (inr refl, tt))))))))))))))))))))))))))
 
-sets : (opcode : ℕ) → NoneOf numbers opcode → Above 0 ranges opcode → Does opcode setOf
-sets opcode none gap f operands w = at-none f opcode operands w numbers ranges covered refl none gap refl
+-- the opcodes of single points, as the `match` has them
+abbrev Single : ℕ → Type 0
+Single opcode = (opcode ≡ 0x27) ⊎ ((opcode ≡ 0x29) ⊎ (opcode ≡ 0x39))
+
+abbrev Rest : ℕ → Type 0
+Rest opcode = ((Unit {0} × (opcode ≡ 0x0F → ⊥)) × (Single opcode → ⊥)) × (opcode ≡ 0x80 → ⊥)
+
+sets : (opcode : ℕ) → Rest opcode → Above 0 ranges opcode → Does opcode setOf
+sets opcode rest gap f operands w =
+    let single = rest .0 .1 in
+    let none : NoneOf numbers opcode = ((((rest .0 .0, λ e. single (inl e)), λ e. single (inr (inl e))), λ e. single (inr (inr e))), rest .1) in
+    at-none f opcode operands w numbers ranges covered refl none gap refl
 
 from-0 : (opcode : ℕ) → 0 ≤ opcode
 from-0 opcode = omega arith
 
--- FLIPPT's number is matched before the range that it stands in
+-- FLIPPT's number is matched before the range that it stands in, and IP's before MSIRP's
 is-fliprg : (opcode : ℕ) → 0x80 ≤ opcode → (opcode ≡ 0x80 → ⊥) → 0x81 ≤ opcode
 is-fliprg opcode h d = omega arith
+
+past-ip : (opcode : ℕ) → 0x39 ≤ opcode → (opcode ≡ 0x39 → ⊥) → 0x3A ≤ opcode
+past-ip opcode h d = omega arith
 
 returns : tie.Need-returns
 unfolding Named
@@ -39,76 +52,76 @@ returns c = λ f operands w. at-number f _ operands w 0x0F (c .match .keys1) ref
 
 returns-2 : tie.Need-returns-2
 unfolding Named
-returns-2 c = λ f operands w. at-number f _ operands w 0x80 (c .match .keys2) refl
+returns-2 c = c .match .keys2
 
 returns-3 : tie.Need-returns-3
 unfolding Named
-returns-3 c = λ f operands w. at-range f _ operands w 0x30 0x31 (c .before .if3 .left) (c .if4 .taken) refl refl
+returns-3 c = λ f operands w. at-number f _ operands w 0x80 (c .match .keys3) refl
 
 returns-4 : tie.Need-returns-4
 unfolding Named
-returns-4 c = (c .before .if4 .left, c .if5 .taken)
+returns-4 c = λ f operands w. at-range f _ operands w 0x30 0x31 (c .before .if3 .left) (c .if4 .taken) refl refl
 
 returns-5 : tie.Need-returns-5
 unfolding Named
-returns-5 c = let m = c .before .before .before .before .before .before in
-    λ f operands w. at-range f _ operands w 0x81 0x82 (is-fliprg (m .before .args .opcode) (c .before .if13 .left) (m .match .rest .1)) (c .if14 .taken) refl refl
+returns-5 c = (c .before .if4 .left, c .if5 .taken)
 
 returns-6 : tie.Need-returns-6
 unfolding Named
-returns-6 c = inl (c .before .if1 .left, c .if10 .taken)
+returns-6 c = let m = c .before .before .before .before .before .before in
+    λ f operands w. at-range f _ operands w 0x81 0x82 (is-fliprg (m .before .args .opcode) (c .before .if12 .left) (m .match .rest .1)) (c .if13 .taken) refl refl
 
 returns-7 : tie.Need-returns-7
 unfolding Named
-returns-7 c = inr (inl (c .before .if11 .left, c .if12 .taken))
+returns-7 c = inl (c .before .if1 .left, c .if9 .taken)
 
 returns-8 : tie.Need-returns-8
 unfolding Named
-returns-8 c = inr (inr (c .before .if15 .left, c .if16 .taken))
+returns-8 c = inr (inl (c .before .if10 .left, c .if11 .taken))
 
 returns-9 : tie.Need-returns-9
 unfolding Named
-returns-9 c = inl (c .before .if2 .left, c .if3 .taken)
+returns-9 c = inr (inr (c .before .if14 .left, c .if15 .taken))
 
 returns-10 : tie.Need-returns-10
 unfolding Named
-returns-10 c = inr (inl (c .before .if6 .left, c .if7 .taken))
+returns-10 c = inl (c .before .if2 .left, c .if3 .taken)
 
 returns-11 : tie.Need-returns-11
 unfolding Named
-returns-11 c = inr (inr (c .before .if8 .left, c .if9 .taken))
+returns-11 c = let m = c .before .before .before .before .before .before in inr (inl (past-ip (m .before .args .opcode) (c .before .if5 .left) (λ e. m .match .rest .0 .1 (inr (inr e))), c .if6 .taken))
 
 returns-12 : tie.Need-returns-12
 unfolding Named
-returns-12 c = let m = c .before .before in sets (m .before .args .opcode) (m .match .rest) (inl (from-0 _, c .if2 .taken))
+returns-12 c = inr (inr (c .before .if7 .left, c .if8 .taken))
 
 returns-13 : tie.Need-returns-13
 unfolding Named
-returns-13 c = let m = c .before .before .before .before .before .before in sets (m .before .args .opcode) (m .match .rest) (inr (inl (c .before .if5 .left, c .if6 .taken)))
+returns-13 c = let m = c .before .before in sets (m .before .args .opcode) (m .match .rest) (inl (from-0 _, c .if2 .taken))
 
 returns-14 : tie.Need-returns-14
 unfolding Named
-returns-14 c = let m = c .before .before .before .before .before .before .before .before in sets (m .before .args .opcode) (m .match .rest) (inr (inr (inl (c .before .if7 .left, c .if8 .taken))))
+returns-14 c = let m = c .before .before .before .before .before .before .before in sets (m .before .args .opcode) (m .match .rest) (inr (inl (c .before .if6 .left, c .if7 .taken)))
 
 returns-15 : tie.Need-returns-15
 unfolding Named
-returns-15 c = let m = c .before .before .before .before .before .before .before .before .before in sets (m .before .args .opcode) (m .match .rest) (inr (inr (inr (inl (c .if9 .left, c .before .before .before .before .before .before .before .before .if1 .taken)))))
+returns-15 c = let m = c .before .before .before .before .before .before .before .before in sets (m .before .args .opcode) (m .match .rest) (inr (inr (inl (c .if8 .left, c .before .before .before .before .before .before .before .if1 .taken))))
 
 returns-16 : tie.Need-returns-16
 unfolding Named
-returns-16 c = let m = c .before .before .before in sets (m .before .args .opcode) (m .match .rest) (inr (inr (inr (inr (inl (c .before .if10 .left, c .if11 .taken))))))
+returns-16 c = let m = c .before .before .before in sets (m .before .args .opcode) (m .match .rest) (inr (inr (inr (inl (c .before .if9 .left, c .if10 .taken)))))
 
 returns-17 : tie.Need-returns-17
 unfolding Named
-returns-17 c = let m = c .before .before .before .before .before in sets (m .before .args .opcode) (m .match .rest) (inr (inr (inr (inr (inr (inl (c .before .if12 .left, c .if13 .taken)))))))
+returns-17 c = let m = c .before .before .before .before .before in sets (m .before .args .opcode) (m .match .rest) (inr (inr (inr (inr (inl (c .before .if11 .left, c .if12 .taken))))))
 
 returns-18 : tie.Need-returns-18
 unfolding Named
-returns-18 c = let m = c .before .before .before .before .before .before .before in sets (m .before .args .opcode) (m .match .rest) (inr (inr (inr (inr (inr (inr (inl (c .before .if14 .left, c .if15 .taken))))))))
+returns-18 c = let m = c .before .before .before .before .before .before .before in sets (m .before .args .opcode) (m .match .rest) (inr (inr (inr (inr (inr (inl (c .before .if13 .left, c .if14 .taken)))))))
 
 returns-19 : tie.Need-returns-19
 unfolding Named
-returns-19 c = let m = c .before .before .before .before .before .before .before .before in sets (m .before .args .opcode) (m .match .rest) (inr (inr (inr (inr (inr (inr (inr (c .if16 .left))))))))
+returns-19 c = let m = c .before .before .before .before .before .before .before .before in sets (m .before .args .opcode) (m .match .rest) (inr (inr (inr (inr (inr (inr (c .if15 .left)))))))
 
 pub kind-of-spec : {M : Type 1} → statement M
 kind-of-spec =

@@ -53,16 +53,22 @@ after-measure c = search
 abbrev to-measure : tie.After-perform-measure-arg8 → tie.After-enum-told5
 to-measure c = search
 
-abbrev after-flippt : tie.After-slice-known11 → tie.After-flippt
+abbrev after-point : tie.After-slice-known12 → tie.After-perform-point
+after-point c = search
+
+abbrev to-point : tie.After-perform-point-arg8 → tie.After-enum-told6
+to-point c = search
+
+abbrev after-flippt : tie.After-slice-known13 → tie.After-flippt
 after-flippt c = search
 
-abbrev to-flippt : tie.After-flippt-arg → tie.After-enum-told6
+abbrev to-flippt : tie.After-flippt-arg → tie.After-enum-told7
 to-flippt c = c .before
 
-abbrev after-fliprg : tie.After-slice-known12 → tie.After-fliprg
+abbrev after-fliprg : tie.After-slice-known14 → tie.After-fliprg
 after-fliprg c = search
 
-abbrev to-fliprg : tie.After-fliprg-arg → tie.After-enum-told7
+abbrev to-fliprg : tie.After-fliprg-arg → tie.After-enum-told8
 to-fliprg c = c .before
 
 kind-of-requires : tie.Need-kind-of-requires
@@ -106,17 +112,24 @@ perform-measure-requires c κs = let e = to-measure c in let k = e .before .befo
 enum-told-6 : tie.Need-enum-told-6
 enum-told-6 c = c .match .keys6
 
-flippt-requires : tie.Need-flippt-requires
-flippt-requires c κs = tt
+perform-point-requires : tie.Need-perform-point-requires
+unfolding Named
+perform-point-requires c κs = let e = to-point c in let k = e .before .before in let p = start k .pre .0 in (named k (e .enum-told6 .given .1), p .4, p .5, p .7, p .8)
 
 enum-told-7 : tie.Need-enum-told-7
 enum-told-7 c = c .match .keys7
 
-fliprg-requires : tie.Need-fliprg-requires
-fliprg-requires c κs = tt
+flippt-requires : tie.Need-flippt-requires
+flippt-requires c κs = tt
 
 enum-told-8 : tie.Need-enum-told-8
 enum-told-8 c = c .match .keys8
+
+fliprg-requires : tie.Need-fliprg-requires
+fliprg-requires c κs = tt
+
+enum-told-9 : tie.Need-enum-told-9
+enum-told-9 c = c .match .keys9
 
 set-state-requires : tie.Need-set-state-requires
 set-state-requires c κs = tt
@@ -240,25 +253,52 @@ returns-5 : tie.Need-returns-5
 returns-5 c = let a = after-measure c in let s = start (to-measure (a .before) .before .before) .args in a .perform-measure .ensures (s .rules) (now (s .contours))
 
 same-length-34 : tie.Need-same-length-34
-same-length-34 c = search (after-flippt c .flippt .kept)
-
-returns-6 : tie.Need-returns-6
-unfolding Named
-returns-6 c = let a = after-flippt c in let e = to-flippt (a .before) in let k = e .before .before in let s = start k in let w = entry s in
-    a .flippt .ensures (read s) (s .args .opcode) (w .gx) (w .gy) (w .tox) (w .toy) (w .tx) (w .ty) (w .tflags) ∙ named k (e .enum-told6 .given .1) (read s) (now (s .args .operands)) (entry s)
+same-length-34 c = search (after-point c .perform-point .kept)
 
 same-length-35 : tie.Need-same-length-35
-same-length-35 c = search (after-fliprg c .fliprg .kept)
+same-length-35 c = search (after-point c .perform-point .kept)
+
+same-length-36 : tie.Need-same-length-36
+same-length-36 c = search (after-point c .perform-point .kept)
+
+same-length-37 : tie.Need-same-length-37
+same-length-37 c = refl
+
+same-length-38 : tie.Need-same-length-38
+same-length-38 c = refl
+
+same-length-39 : tie.Need-same-length-39
+same-length-39 c = search (after-point c .perform-point .kept)
+
+same-length-40 : tie.Need-same-length-40
+same-length-40 c = search (after-point c .perform-point .kept)
+
+same-length-41 : tie.Need-same-length-41
+same-length-41 c = search (after-point c .perform-point .kept)
+
+returns-6 : tie.Need-returns-6
+returns-6 c = let a = after-point c in let s = start (to-point (a .before) .before .before) .args in a .perform-point .ensures (s .rules) (now (s .controls)) (now (s .contours))
+
+same-length-42 : tie.Need-same-length-42
+same-length-42 c = search (after-flippt c .flippt .kept)
 
 returns-7 : tie.Need-returns-7
 unfolding Named
-returns-7 c = let a = after-fliprg c in let e = to-fliprg (a .before) in let k = e .before .before in let s = start k in let w = entry s in
-    a .fliprg .ensures (read s) (w .gx) (w .gy) (w .tox) (w .toy) (w .tx) (w .ty) (w .tflags) ∙ named k (e .enum-told7 .given .1) (read s) (now (s .args .operands)) (entry s)
+returns-7 c = let a = after-flippt c in let e = to-flippt (a .before) in let k = e .before .before in let s = start k in let w = entry s in
+    a .flippt .ensures (read s) (s .args .opcode) (w .gx) (w .gy) (w .tox) (w .toy) (w .tx) (w .ty) (w .tflags) ∙ named k (e .enum-told7 .given .1) (read s) (now (s .args .operands)) (entry s)
+
+same-length-43 : tie.Need-same-length-43
+same-length-43 c = search (after-fliprg c .fliprg .kept)
 
 returns-8 : tie.Need-returns-8
+unfolding Named
+returns-8 c = let a = after-fliprg c in let e = to-fliprg (a .before) in let k = e .before .before in let s = start k in let w = entry s in
+    a .fliprg .ensures (read s) (w .gx) (w .gy) (w .tox) (w .toy) (w .tx) (w .ty) (w .tflags) ∙ named k (e .enum-told8 .given .1) (read s) (now (s .args .operands)) (entry s)
+
+returns-9 : tie.Need-returns-9
 unfolding Named setOf
-returns-8 c = let e = c .before in let k = e .before .before in let s = start k in
-    ap (into (entry s)) (c .set-state .ensures) ∙ named k (e .enum-told8 .given .1) (read s) (now (s .args .operands)) (entry s)
+returns-9 c = let e = c .before in let k = e .before .before in let s = start k in
+    ap (into (entry s)) (c .set-state .ensures) ∙ named k (e .enum-told9 .given .1) (read s) (now (s .args .operands)) (entry s)
 
 pub perform-spec : {M : Type 1} → statement M
 perform-spec =
@@ -276,10 +316,12 @@ perform-spec =
     enum-told-5
     perform-measure-requires
     enum-told-6
-    flippt-requires
+    perform-point-requires
     enum-told-7
-    fliprg-requires
+    flippt-requires
     enum-told-8
+    fliprg-requires
+    enum-told-9
     set-state-requires
     same-length
     same-length-2
@@ -320,7 +362,16 @@ perform-spec =
     same-length-33
     returns-5
     same-length-34
-    returns-6
     same-length-35
+    same-length-36
+    same-length-37
+    same-length-38
+    same-length-39
+    same-length-40
+    same-length-41
+    returns-6
+    same-length-42
     returns-7
-    returns-8)
+    same-length-43
+    returns-8
+    returns-9)

@@ -1,0 +1,2 @@
+pub mod Alignpts
+pub mod Steps

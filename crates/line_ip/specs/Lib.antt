@@ -1,0 +1,2 @@
+pub mod Ip
+pub mod Loop
