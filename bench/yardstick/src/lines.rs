@@ -70,12 +70,15 @@ impl Replayer<'_> {
             0x7A => self.state.round.mode = RoundMode::Off,
             0x76 => self.sround(RoundMode::Super, 0x4000, operands)?,
             0x77 => self.sround(RoundMode::Super45, 0x2D41, operands)?,
+            0x27 => self.alignpts(operands)?,
+            0x29 => self.utp(operands)?,
             0x2E | 0x2F => self.mdap(opcode, operands)?,
             0x30 | 0x31 => self.iup(opcode),
             0x32 | 0x33 => self.shp(opcode, operands)?,
             0x34 | 0x35 => self.shc(opcode, operands)?,
             0x36 | 0x37 => self.shz(opcode, operands)?,
             0x38 => self.shpix(operands)?,
+            0x39 => self.ip(operands)?,
             0x3A | 0x3B => self.msirp(opcode, operands)?,
             0x3C => self.alignrp(operands)?,
             0x3E | 0x3F => self.miap(opcode, operands)?,
@@ -525,6 +528,74 @@ impl Replayer<'_> {
         };
         self.state.push(value);
         Ok(())
+    }
+
+    // ---- single points
+    fn alignpts(&mut self, operands: &[i32]) -> Done {
+        let [second, first] = indices(operands)?;
+        let (zone, other_zone) = (self.state.zp0, self.state.zp1);
+        let point = self.point(zone, second)?;
+        let half = self.state.project(point, self.point(other_zone, first)?) / 2;
+        self.move_point(other_zone, first, half)?;
+        self.move_point(zone, second, half.wrapping_neg())
+    }
+
+    fn utp(&mut self, operands: &[i32]) -> Done {
+        let [index] = indices(operands)?;
+        let freedom = self.state.freedom;
+        let mut marks = 0;
+        if freedom.x != 0 {
+            marks |= TOUCHED_X;
+        }
+        if freedom.y != 0 {
+            marks |= TOUCHED_Y;
+        }
+        if marks != 0 {
+            let (_, _, flags) = self.lists(self.state.zp0);
+            *flags.get_mut(index).ok_or(Refusal::Point(index))? &= !marks;
+        }
+        Ok(())
+    }
+
+    /// Where a point lay in the original outline, unscaled where no zone pointer is at twilight.
+    fn outline_place(&self, zone: ZonePointer, index: usize) -> Result<Point, Refusal> {
+        let pointers = [self.state.zp0, self.state.zp1, self.state.zp2];
+        if pointers.contains(&ZonePointer::Twilight) {
+            self.original(zone, index)
+        } else {
+            Ok(self.unscaled(zone, index))
+        }
+    }
+
+    fn ip(&mut self, operands: &[i32]) -> Done {
+        let count = self.take_loop_counter();
+        let (zp0, zp1, zone) = (self.state.zp0, self.state.zp1, self.state.zp2);
+        let (rp1, rp2) = (self.state.rp1, self.state.rp2);
+        let pedantic = self.state.pedantic;
+        if !pedantic && !(self.has_point(zp0, rp1) && self.has_point(zp1, rp2)) {
+            return Ok(());
+        }
+        let outline_base = self.outline_place(zp0, rp1)?;
+        let base = self.point(zp0, rp1)?;
+        let outline_range = self
+            .state
+            .dual_project(self.outline_place(zp1, rp2)?, outline_base);
+        let range = self.state.project(self.point(zp1, rp2)?, base);
+        each(operands, count, |index| {
+            if !pedantic && !self.has_point(zone, index) {
+                return Ok(());
+            }
+            let lay = self
+                .state
+                .dual_project(self.outline_place(zone, index)?, outline_base);
+            let lies = self.state.project(self.point(zone, index)?, base);
+            let goes = match (lay, outline_range) {
+                (0, _) => 0,
+                (lay, 0) => lay,
+                (lay, outline_range) => mul_div(lay, range, outline_range),
+            };
+            self.move_point(zone, index, goes.wrapping_sub(lies))
+        })
     }
 
     // ---- points
