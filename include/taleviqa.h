@@ -113,8 +113,10 @@ enum taleviqa_number {
     TALEVIQA_COMPATIBILITY = 13, /* SHPIX under backward compatibility */
     TALEVIQA_ENDS = 14,         /* contour ends that don't rise, or one at or above the number of points; nothing has changed */
     TALEVIQA_BAD_WORD = 16,     /* no rules have that number, the state is not TALEVIQA_STATE_WORDS words, each within its range, or the answer not
-                                 * TALEVIQA_ANSWER_WORDS; for a feed: not TALEVIQA_FEED_WORDS, or a number that no call says */
-    TALEVIQA_LONG = 18          /* a feed alone: a count above 4,096 */
+                                 * TALEVIQA_ANSWER_WORDS; for a feed: not TALEVIQA_FEED_WORDS, or a number that no call says;
+                                 * of an outline: slots that are not as many as they must be, or words that are no pen */
+    TALEVIQA_LONG = 18,         /* a feed alone: a count above 4,096 */
+    TALEVIQA_FAR = 19           /* an outline alone: a current coordinate of the glyph beyond 4,194,304 or -4,194,304 */
 };
 
 /* Replays the lines of the sheet from word `start` on, at most `budget` of them, under `rules`, one of taleviqa_rules.
@@ -224,6 +226,52 @@ uint32_t taleviqa_feed_end(
     const int32_t *twilight_y, size_t twilight_y_length,
     const uint8_t *twilight_flags, size_t twilight_flags_length,
     uint64_t *feed, size_t feed_length);
+
+/* The steps of an outline. */
+enum taleviqa_step {
+    TALEVIQA_STEP_NO_MORE = 0,
+    TALEVIQA_STEP_MOVE = 1,  /* x, y: a contour starts */
+    TALEVIQA_STEP_LINE = 2,  /* x, y */
+    TALEVIQA_STEP_CURVE = 3, /* control x, control y, x, y: a quadratic curve */
+    TALEVIQA_STEP_CLOSE = 4  /* the contour ends, back at its start */
+};
+
+/* How many slots an outline's calls take. The pen's words are the library's own but one: whether there is a box. */
+enum {
+    TALEVIQA_PEN_BOXED = 8, /* 1 where a point was handed out, else 0: then the box's slots say nothing */
+    TALEVIQA_PEN_WORDS = 9,
+    TALEVIQA_STEP_WORDS = 1,
+    TALEVIQA_NUMBERS = 4,
+    TALEVIQA_EDGES = 4 /* left, bottom, right, top: y goes up */
+};
+
+/* Begins the outline of a glyph as it stands: its current x and y, its flags and its contours, as after a run. Returns 0 and writes the pen; or 2, 14 or 19,
+ * in this order, for a glyph that isn't drawn, or 16 where the pen is not TALEVIQA_PEN_WORDS words. Then nothing is changed. Every point is looked at for
+ * 19, drawn or not. */
+uint32_t taleviqa_outline_begin(
+    const int32_t *glyph_x, size_t glyph_x_length,
+    const int32_t *glyph_y, size_t glyph_y_length,
+    const uint8_t *glyph_flags, size_t glyph_flags_length,
+    const uint16_t *contours, size_t contours_length,
+    uint64_t *pen, size_t pen_length);
+
+/* Hands out the next step. Returns 0, writes the step's number (taleviqa_step) and its four numbers, and moves the pen and the box on; the numbers are
+ * pixels, exact to 128ths, those that a step hasn't are 0, and none is -0. After the last step it says TALEVIQA_STEP_NO_MORE for ever, and changes nothing
+ * else. The box is around all points handed out so far, a curve's control among them. Returns 16 where the slots are not as many as above or the words are
+ * no pen, and 19 where the lists were changed after the begin so that a number would not be exact; then nothing is changed.
+ *
+ * A contour starts at its first point if that is on curve, else at its last if that is, else at their midpoint; two off-curve points in a row have their
+ * midpoint between them; a single point gives a move and a close. Points after the last contour are not drawn. No line back to the start is handed out
+ * before a close. */
+uint32_t taleviqa_outline_next(
+    const int32_t *glyph_x, size_t glyph_x_length,
+    const int32_t *glyph_y, size_t glyph_y_length,
+    const uint8_t *glyph_flags, size_t glyph_flags_length,
+    const uint16_t *contours, size_t contours_length,
+    uint64_t *pen, size_t pen_length,
+    float *edges, size_t edges_length,
+    uint32_t *step, size_t step_length,
+    float *numbers, size_t numbers_length);
 
 #ifdef __cplusplus
 }

@@ -135,9 +135,9 @@ def close_output():
         raise Bad(f"standard output: {bad.strerror}; what was written may not be whole") from None
 
 
-def refuse_terminal(how):
+def refuse_terminal(how, what="a record"):
     if os.isatty(1):
-        raise Bad(f"a record is no text for a terminal: redirect it to a file, {how}")
+        raise Bad(f"{what} is no text for a terminal: redirect it to a file, {how}")
 
 
 def say(text):

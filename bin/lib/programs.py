@@ -10,7 +10,7 @@ import signal
 import subprocess
 import time
 
-from . import record
+from . import outline, record
 from .calls import NAME, ROOT, Bad, Stopped, encoded, say, tell, write_all
 
 RELEASE = ROOT / "release"
@@ -78,6 +78,11 @@ def rewrite(data, rules):
     if written:
         record.hold_rewritten(data, written)
     return written
+
+
+def outlined(data, rules):
+    """The outline of a record's glyph after its replay under the rules of a name, or why there is none."""
+    return outline.whole(data, run("outline_record", data, rules))
 
 
 def run(name, data, rules):

@@ -138,6 +138,15 @@ def bad_end(data):
     return ""
 
 
+def explained(answer, data):
+    """What the answer of a record means and where it was given, in words."""
+    number, place, lines, _ = answer
+    if number in REFUSED:
+        return meaning(number)
+    where = bad_end(data) if number == ENDS else f"at word {place} of the sheet, after {lines} lines"
+    return f"{meaning(number)} ({where})"
+
+
 # ---- what a program wrote, held to the record: a program has no exit status, and a write of its may be cut short
 
 
@@ -155,6 +164,11 @@ def whole_print(printed):
     if answer[0] in REFUSED and (points or answer[1:] != [0, 0, 0]):
         raise Bad("the print is damaged: a refused record has a number and three zeros alone")
     return answer, points
+
+
+def glyph_in(printed):
+    """The points of a whole print: x, y and flag of each."""
+    return [tuple(int(word) for word in line.split()) for line in printed.splitlines()[1:]]
 
 
 def number_in(printed):

@@ -8,7 +8,7 @@ import subprocess
 import sys
 
 ROOT = pathlib.Path(__file__).resolve().parent.parent.parent
-PROGRAMS = ("replay_record", "write_record")
+PROGRAMS = ("outline_record", "replay_record", "write_record")
 MANY = "replay_records"
 
 wrong = []
@@ -30,7 +30,7 @@ class Repository:
             shutil.copytree(ROOT / name, self.root / name)
         (self.root / "crates/low/src").mkdir(parents=True)
         (self.root / "crates/low/src/lib.rt").write_text("// a source\n")
-        (self.root / "crates.txt").write_text("# what stands on what\nreplay_record: low high\nwrite_record: high\nhigh: low\nlow:\n")
+        (self.root / "crates.txt").write_text("# what stands on what\noutline_record: high\nreplay_record: low high\nwrite_record: high\nhigh: low\nlow:\n")
         self.tools.mkdir()
         self.shelf.mkdir()
         for name in ("dirname", "readlink"):

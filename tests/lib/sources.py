@@ -50,7 +50,8 @@ def calls(crate):
 
 
 # What users call, beside the direct calls. The calls of PURE are users' too: they are lent no list to change, but for those that are faces for that.
-FACES = {"replay": ["run"], "feed": ["feed", "end"], "exports": ["taleviqa_run", "taleviqa_feed", "taleviqa_feed_end"],
+FACES = {"replay": ["run"], "feed": ["feed", "end"], "exports": ["taleviqa_run", "taleviqa_feed", "taleviqa_feed_end", "taleviqa_outline_begin", "taleviqa_outline_next"],
+         "outline_steps": ["begin", "next"], "outline_print": ["print_outline"],
          "record_replay": ["replay"], "record_print": ["print"], "record_read": ["open"], "record_write": ["write"]}
 PURE = ("int", "math", "round", "super_round", "flags", "graphics", "projection", "state_words")
 

@@ -1,8 +1,8 @@
--- The number and the detail of each refusal, and what a direct call says: document 01, "What the replayer says back"; 12, 13 and
--- 14 are document 02's, K1 and K8. Assumes nothing.
+-- The number and the detail of each refusal, and what a direct call says: document 01, "What the replayer says back"; 12, 13, 14
+-- and 19 are document 02's, K1, K8 and K13. Assumes nothing.
 use Prim.Native.Nat.{ℕ}
 use Rattle.answer.specs.declared.Refusal.{Refusal}
-use Rattle.answer.specs.declared.Refusal.the-variants.{Sizes, State, Line, Surplus, Missing, Point, ControlValue, ZonePointer, LoopCount, Range, Contour, Compatibility, Ends}
+use Rattle.answer.specs.declared.Refusal.the-variants.{Sizes, State, Line, Surplus, Missing, Point, ControlValue, ZonePointer, LoopCount, Range, Contour, Compatibility, Ends, Far}
 use Rattle.answer.specs.declared.Call.{Call}
 use Rattle.answer.specs.declared.Call.the-variants.{Done, Refused}
 
@@ -20,6 +20,7 @@ numberOf (Range start) = 11
 numberOf (Contour at) = 12
 numberOf Compatibility = 13
 numberOf Ends = 14
+numberOf Far = 19
 
 -- an index or an operand, widened with its sign to 64 bits; 0 where the paper names none
 abbrev pub detailOf : Refusal → ℕ
@@ -36,6 +37,7 @@ detailOf (Range start) = start
 detailOf (Contour at) = at
 detailOf Compatibility = 0
 detailOf Ends = 0
+detailOf Far = 0
 
 -- ---- what a direct call says
 pub record Said : Type 0 where

@@ -1,4 +1,4 @@
-// What the replayer says back: why a call was refused, with the number and detail of document 01 (and 02's K1) for each reason.
+// What the replayer says back: why a call was refused, with the number and detail of document 01 (and 02's K1, K8 and K13) for each reason.
 //
 // Each reason is a case of `Refusal`; specs/Answer.antt gives its number and its detail, and every promise on refusals goes
 // through these two definitions. What a direct call says is `Said` there: number, place, lines and detail. What a refusal leaves in
@@ -33,6 +33,8 @@ pub enum Refusal {
     Compatibility,
     // Contour ends that don't rise strictly, or one at or above the number of points.
     Ends,
+    // A current coordinate of the glyph that is beyond 4,194,304 or -4,194,304, of which no outline is drawn.
+    Far,
 }
 
 impl Refusal {
@@ -53,6 +55,7 @@ impl Refusal {
             Refusal::Contour(_) => 12,
             Refusal::Compatibility => 13,
             Refusal::Ends => 14,
+            Refusal::Far => 19,
         }
     }
 
@@ -73,6 +76,7 @@ impl Refusal {
             Refusal::Contour(at) => at,
             Refusal::Compatibility => 0,
             Refusal::Ends => 0,
+            Refusal::Far => 0,
         }
     }
 }

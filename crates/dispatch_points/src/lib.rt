@@ -1,8 +1,8 @@
-// The lines that bring single points into line, interpolate them or untouch them: ALIGNPTS (0x27), UTP (0x29) and IP (0x39), each with the lists that it is lent. The other
-// lines are in the crate dispatch, which calls this one.
+// The lines that bring single points into line, interpolate them or untouch them: ALIGNPTS (0x27), UTP (0x29) and IP (0x39), each with the lists that
+// it is lent. The other lines are in the crate dispatch, which calls this one.
 //
-// `perform_point` is one equation with `lineOf` of the crate opcodes, for every content of the control values and the contours' ends, which none of these is lent. It asks that
-// the opcode is one of these, and that the lists of each zone share one length.
+// `perform_point` is one equation with `lineOf` of the crate opcodes, for every content of the control values and the contours' ends, which none of
+// these is lent. It asks that the opcode is one of these, and that the lists of each zone share one length.
 use graphics::GraphicsState;
 use line::Stepped;
 use line_alignpts::alignpts;

@@ -1,12 +1,15 @@
-// What programs in C call: one run of a sheet, and a feed of it in pieces, by slices and numbers alone (include/taleviqa.h).
+// What programs in C call: one run of a sheet, a feed of it in pieces, and an outline step by step, by slices and numbers alone (include/taleviqa.h).
 //
 // `taleviqa_run` answers for every input, and what it returns and leaves in each list is one equation with `callOf` of specs/Call.antt. The state
 // goes in and comes back as the words of the crate state_words; words that are no state are refused with 16, and so is a number that names no rules
 // (crate rules); then nothing changes but the answer. `taleviqa_feed` and `taleviqa_feed_end` are the same over a feed (crate feed), of which five numbers
 // are kept between the calls, beside the state and the carry: specs/Feed.antt.
+// The calls for an outline are those of the crate outline_calls under their names for C, with its definitions.
 use feed_carry::Fed;
 use feed_carry::Said;
 use graphics::GraphicsState;
+use outline_calls::begin_call;
+use outline_calls::next_call;
 use replay::run;
 use rules::Named;
 use rules::by_number;
@@ -18,6 +21,8 @@ ghost use mathlib.Core.Path.{_≡_};
 ghost use Rattle.feed_carry.specs.Carry.{detailOfSaid, numberOfSaid};
 ghost use Rattle.graphics.specs.declared.GraphicsState.{GraphicsState};
 ghost use Rattle.line.specs.World.{fixed, world};
+ghost use Rattle.outline_calls.specs.Slots.{beginCallOf, left as drawnLeft, nextCallOf, started};
+ghost use Rattle.outline_steps.specs.Outline.{glyph};
 ghost use Rattle.rules.specs.Rules.{byNumber};
 ghost use Rattle.rules.specs.declared.Rules.{Rules};
 ghost use Rattle.run_lines.specs.Onward.{numberOfAnswer, detailOfAnswer};
@@ -336,4 +341,36 @@ pub extern "C" fn taleviqa_feed_end(
         tflags,
     );
     say_fed(fed, numbers)
+}
+
+// ---- outlines
+// A pen for the outline of a glyph that can be drawn. The number is 0 then, and the pen is written.
+#[no_mangle]
+pub extern "C" fn taleviqa_outline_begin(
+    gx: &[i32],
+    gy: &[i32],
+    gflags: &[u8],
+    contours: &[u16],
+    pen: &mut [u64],
+) -> u32
+    ensures { λ r. ⌜ started r (now (pen .exit)) ≡ beginCallOf (glyph (now (gx .entry)) (now (gy .entry)) (now (gflags .entry)) (now (contours .entry))) (now (pen .entry)) ⌝ }
+{
+    begin_call(gx, gy, gflags, contours, pen)
+}
+
+// The next step of an outline, and the pen and the box behind it.
+#[no_mangle]
+pub extern "C" fn taleviqa_outline_next(
+    gx: &[i32],
+    gy: &[i32],
+    gflags: &[u8],
+    contours: &[u16],
+    pen: &mut [u64],
+    edges: &mut [f32],
+    step: &mut [u32],
+    numbers: &mut [f32],
+) -> u32
+    ensures { λ r. ⌜ drawnLeft r (now (pen .exit)) (now (edges .exit)) (now (step .exit)) (now (numbers .exit)) ≡ nextCallOf (glyph (now (gx .entry)) (now (gy .entry)) (now (gflags .entry)) (now (contours .entry))) (now (pen .entry)) (now (edges .entry)) (now (step .entry)) (now (numbers .entry)) ⌝ }
+{
+    next_call(gx, gy, gflags, contours, pen, edges, step, numbers)
 }

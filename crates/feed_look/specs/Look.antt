@@ -6,7 +6,7 @@ use mathlib.Core.Bool.{cond}
 use mathlib.Core.List.{List}
 use lib.Dec.{eqb, ltb}
 use lib.IntN.{pos, ℤ}
-use lib.ListN.{drop, getD, length}
+use lib.ListN.{getD, length}
 use Rattle.int.specs.Word.{indexOf}
 use Rattle.opcodes.specs.Table.{needOf, unknown}
 use Rattle.feed_look.specs.declared.Seen.{Seen}

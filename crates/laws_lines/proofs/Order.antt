@@ -1,5 +1,5 @@
--- The order in which IP, ALIGNPTS and UTP refuse, an input for each place of it: a glyph of two points, no twilight, and numbers that are outside. What a line says, the loop counter after
--- it, and the flags, in which a point that was moved is touched. Assumes nothing.
+-- The order in which IP, ALIGNPTS and UTP refuse, an input for each place of it: a glyph of two points, no twilight, and numbers that are outside.
+-- What a line says, the loop counter after it, and the flags, in which a point that was moved is touched. Assumes nothing.
 use Prim.Native.Nat.{ℕ}
 use mathlib.Core.Bool.{Bool, false, true}
 use mathlib.Core.List.{List, [], _∷_}

@@ -7,6 +7,7 @@ use Prim.Native.Nat.{ℕ}
 use mathlib.Core.Bool.{Bool}
 use mathlib.Core.List.{List, _++_}
 use mathlib.Core.Path.{_∙_, _≡_, ap, sym}
+use lib.Ieee.{Float}
 use lib.IntN.{ℤ}
 use lib.ListN.{drop, length}
 use Rattle.answer.specs.declared.Call.{Call}
@@ -36,6 +37,13 @@ use Rattle.run_lines.specs.declared.Outcome.{Outcome}
 use Rattle.replay.specs.Run.{runOf}
 use Rattle.exports.specs.Call.{Left, callOf, left}
 use Rattle.exports.specs.Feed.{Carried, Told, carried, feedCallOf, feedEndCallOf, told}
+use Rattle.outline_calls.specs.Slots.{Left as DrawnLeft, Started, beginCallOf, left as drawnLeft, nextCallOf, started}
+use Rattle.outline_print.specs.Print.{outlineOf}
+use Rattle.outline_steps.specs.Outline.{glyph}
+use Rattle.outline_steps.specs.Pen.{beginOf, nextOf}
+use Rattle.outline_steps.specs.declared.Asked.{Asked}
+use Rattle.outline_steps.specs.declared.Begun.{Begun}
+use Rattle.outline_steps.specs.declared.Pen.{Pen}
 use Rattle.rules.specs.Rules.{byNumber}
 use Rattle.rules.specs.declared.Rules.the-variants.{FreeType}
 use Rattle.rules.specs.declared.Rules.{Rules}
@@ -303,3 +311,39 @@ module _ (s : GraphicsState) (gx gy : List ℤ) (gflags : List ℕ) (tx ty : Lis
         → bothMoved r₂ gx₂ gy₂ gflags₂ tx₂ ty₂ tflags₂ ≡ tryMoveZp2Of gx gy gflags tx ty tflags s at dx dy touches
         → (r₁ ≡ r₂) × (gx₁ ≡ gx₂) × (gy₁ ≡ gy₂) × (gflags₁ ≡ gflags₂) × (tx₁ ≡ tx₂) × (ty₁ ≡ ty₂) × (tflags₁ ≡ tflags₂)
     try-move-zp2-point-has-one-outcome at dx dy touches p q = both-moved p q
+
+-- ---- outlines, step by step
+module _ (xs ys : List ℤ) (flags contours : List ℕ) where
+  pub begin-has-one-outcome : (r₁ r₂ : Begun) → r₁ ≡ beginOf (glyph xs ys flags contours) → r₂ ≡ beginOf (glyph xs ys flags contours) → r₁ ≡ r₂
+  begin-has-one-outcome r₁ r₂ p q = one-outcome p q
+
+  pub next-has-one-outcome : (pen : Pen) (r₁ r₂ : Asked) → r₁ ≡ nextOf (glyph xs ys flags contours) pen → r₂ ≡ nextOf (glyph xs ys flags contours) pen → r₁ ≡ r₂
+  next-has-one-outcome pen r₁ r₂ p q = one-outcome p q
+
+module _ (gx gy : List ℤ) (gflags contours : List ℕ) (pen : List ℕ) where
+  pub taleviqa-outline-begin-has-one-outcome : (r₁ : ℕ) (pen₁ : List ℕ) (r₂ : ℕ) (pen₂ : List ℕ)
+      → started r₁ pen₁ ≡ beginCallOf (glyph gx gy gflags contours) pen
+      → started r₂ pen₂ ≡ beginCallOf (glyph gx gy gflags contours) pen
+      → (r₁ ≡ r₂) × (pen₁ ≡ pen₂)
+  taleviqa-outline-begin-has-one-outcome r₁ pen₁ r₂ pen₂ p q = (one-part (λ (x : Started). x .number) p q, one-part (λ (x : Started). x .words) p q)
+
+  pub taleviqa-outline-next-has-one-outcome : (edges : List Float) (step : List ℕ) (numbers : List Float)
+      (r₁ : ℕ) (pen₁ : List ℕ) (edges₁ : List Float) (step₁ : List ℕ) (numbers₁ : List Float)
+      (r₂ : ℕ) (pen₂ : List ℕ) (edges₂ : List Float) (step₂ : List ℕ) (numbers₂ : List Float)
+      → drawnLeft r₁ pen₁ edges₁ step₁ numbers₁ ≡ nextCallOf (glyph gx gy gflags contours) pen edges step numbers
+      → drawnLeft r₂ pen₂ edges₂ step₂ numbers₂ ≡ nextCallOf (glyph gx gy gflags contours) pen edges step numbers
+      → (r₁ ≡ r₂) × (pen₁ ≡ pen₂) × (edges₁ ≡ edges₂) × (step₁ ≡ step₂) × (numbers₁ ≡ numbers₂)
+  taleviqa-outline-next-has-one-outcome edges step numbers r₁ pen₁ edges₁ step₁ numbers₁ r₂ pen₂ edges₂ step₂ numbers₂ p q = (
+    one-part (λ (x : DrawnLeft). x .number) p q,
+    one-part (λ (x : DrawnLeft). x .words) p q,
+    one-part (λ (x : DrawnLeft). x .edges) p q,
+    one-part (λ (x : DrawnLeft). x .step) p q,
+    one-part (λ (x : DrawnLeft). x .numbers) p q,
+  )
+
+pub print-outline-has-one-outcome : (rules : Rules) (bytes text : List ℕ) (r₁ : ℕ) (text₁ : List ℕ) (r₂ : ℕ) (text₂ : List ℕ)
+    → r₁ ≡ length (outlineOf rules bytes) → Front r₁ text₁ → text₁ ≡ outlineOf rules bytes ++ drop r₁ text
+    → r₂ ≡ length (outlineOf rules bytes) → Front r₂ text₂ → text₂ ≡ outlineOf rules bytes ++ drop r₂ text
+    → (r₁ ≡ r₂) × (text₁ ≡ text₂)
+print-outline-has-one-outcome rules bytes text r₁ text₁ r₂ text₂ n₁ front₁ p n₂ front₂ q =
+    let same : r₁ ≡ r₂ = one-outcome n₁ n₂ in (same, p ∙ ap (λ (n : ℕ). outlineOf rules bytes ++ drop n text) same ∙ sym q)

@@ -1,6 +1,6 @@
--- ALIGNPTS[] (0x27): brings a point of zp0 and one of zp1 into line, half way each. Pops zp0's point, then zp1's. OpenType's ALIGNPTS, and FreeType 2.13.3, ttinterp.c
--- (Ins_ALIGNPTS), on words that wrap. Refusals: a missing operand; then zp0's point, then zp1's, in the Rust's order and pedantic or not, where FreeType skips the line unless
--- it is pedantic. Assumes nothing.
+-- ALIGNPTS[] (0x27): brings a point of zp0 and one of zp1 into line, half way each. Pops zp0's point, then zp1's. OpenType's ALIGNPTS, and FreeType
+-- 2.13.3, ttinterp.c (Ins_ALIGNPTS), on words that wrap. Refusals: a missing operand; then zp0's point, then zp1's, in the Rust's order and pedantic
+-- or not, where FreeType skips the line unless it is pedantic. Assumes nothing.
 use Prim.Native.Nat.{ℕ}
 use mathlib.Core.List.{List}
 use lib.IntN.{ℤ, pos}

@@ -1,8 +1,10 @@
-// ALIGNPTS[] (0x27): brings a point of zp0 and one of zp1 into line, half way each. OpenType's ALIGNPTS, FreeType's Ins_ALIGNPTS, and engine/outline.rs.
+// ALIGNPTS[] (0x27): brings a point of zp0 and one of zp1 into line, half way each. OpenType's ALIGNPTS, FreeType's Ins_ALIGNPTS, and
+// engine/outline.rs.
 //
-// Pops a point of zp0, then one of zp1. Reads zp0, zp1, the vectors, the facts and both zones' points; moves zp1's point by half the distance, then zp0's back by as
-// much, and touches both. Refused in this order: a missing operand, zp0's point, zp1's point, pedantic or not; then nothing is changed. `alignpts` is one equation with
-// `alignptsOf`, for every content of the lists that it isn't lent; it asks that the lists of each zone share one length, and nothing else.
+// Pops a point of zp0, then one of zp1. Reads zp0, zp1, the vectors, the facts and both zones' points; moves zp1's point by half the distance, then
+// zp0's back by as much, and touches both. Refused in this order: a missing operand, zp0's point, zp1's point, pedantic or not; then nothing is
+// changed. `alignpts` is one equation with `alignptsOf`, for every content of the lists that it isn't lent; it asks that the lists of each zone share
+// one length, and nothing else.
 use answer::Call;
 use answer::Refusal;
 use graphics::GraphicsState;

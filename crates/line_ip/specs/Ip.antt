@@ -1,7 +1,8 @@
--- IP[] (0x39): brings each point of zp2 to where it lay between rp1 of zp0 and rp2 of zp1 in the original outline. Pops as many points as the loop counter says, which is 1
--- afterwards. OpenType's IP, and FreeType 2.13.3, ttinterp.c (Ins_IP), on words that wrap. Refusals, the counter being 1 already: rp1, then rp2, then at each point a missing operand, the
--- point; points and references only where the state is pedantic. Where it isn't, a reference outside ends the line and takes no operand, as the Rust decides, which looks at
--- both; Ins_IP goes on without rp2, and counts the operands first. A point outside is passed over by both. Assumes nothing.
+-- IP[] (0x39): brings each point of zp2 to where it lay between rp1 of zp0 and rp2 of zp1 in the original outline. Pops as many points as the loop
+-- counter says, which is 1 afterwards. OpenType's IP, and FreeType 2.13.3, ttinterp.c (Ins_IP), on words that wrap. Refusals, the counter being 1
+-- already: rp1, then rp2, then at each point a missing operand, the point; points and references only where the state is pedantic. Where it isn't, a
+-- reference outside ends the line and takes no operand, as the Rust decides, which looks at both; Ins_IP goes on without rp2, and counts the operands
+-- first. A point outside is passed over by both. Assumes nothing.
 use Prim.Native.Nat.{ℕ}
 use mathlib.Core.Bool.{Bool, _||_, cond}
 use mathlib.Core.List.{List}

@@ -1,11 +1,13 @@
-// IP[] (0x39): brings each point of zp2 to where it lay between rp1 of zp0 and rp2 of zp1 in the original outline. OpenType's IP, FreeType's Ins_IP, and engine/outline.rs.
+// IP[] (0x39): brings each point of zp2 to where it lay between rp1 of zp0 and rp2 of zp1 in the original outline. OpenType's IP, FreeType's Ins_IP,
+// and engine/outline.rs.
 //
-// Pops as many points as the loop counter says, the first popped first. Reads all three zone pointers, rp1, rp2, the vectors, the facts, and the points, unscaled, original and
-// current; rp1 and rp2 once, before the first point is moved. Sets the points and their touch flags, and the counter to 1, refused or not. Refused in this order: where the
-// state is pedantic, at rp1, at rp2; then at each point where an operand is missing, and where the state is pedantic at the point; the points before it stay moved. Where it
-// isn't pedantic, a reference outside ends the line before an operand is taken, and a point outside is passed over. `ip` is one equation with `ipOf` of
-// specs/Ip.antt, for every content of the lists that it isn't lent; that each zone's lists share one length is asked of the caller, and nothing of operands, references
-// or the state. More operands than the counter says are left alone: refusing such a line (answer 5) is the crate opcodes'.
+// Pops as many points as the loop counter says, the first popped first. Reads all three zone pointers, rp1, rp2, the vectors, the facts, and the
+// points, unscaled, original and current; rp1 and rp2 once, before the first point is moved. Sets the points and their touch flags, and the counter
+// to 1, refused or not. Refused in this order: where the state is pedantic, at rp1, at rp2; then at each point where an operand is missing, and where
+// the state is pedantic at the point; the points before it stay moved. Where it isn't pedantic, a reference outside ends the line before an operand
+// is taken, and a point outside is passed over. `ip` is one equation with `ipOf` of specs/Ip.antt, for every content of the lists that it isn't lent;
+// that each zone's lists share one length is asked of the caller, and nothing of operands, references or the state. More operands than the counter
+// says are left alone: refusing such a line (answer 5) is the crate opcodes'.
 use answer::Call;
 use answer::Refusal;
 use graphics::Facts;

@@ -1,6 +1,6 @@
--- UTP[] (0x29): takes the touch marks off a point of zp0, on each axis that the freedom vector has a part in. Pops the point. OpenType's UTP, and FreeType 2.13.3, ttinterp.c
--- (Ins_UTP). Refusals: a missing operand; then the point outside, pedantic or not, where FreeType lets it pass unless it is pedantic. The Rust decides that a freedom vector
--- of (0, 0) looks at no point; Ins_UTP looks, and clears nothing. Assumes nothing.
+-- UTP[] (0x29): takes the touch marks off a point of zp0, on each axis that the freedom vector has a part in. Pops the point. OpenType's UTP, and
+-- FreeType 2.13.3, ttinterp.c (Ins_UTP). Refusals: a missing operand; then the point outside, pedantic or not, where FreeType lets it pass unless it
+-- is pedantic. The Rust decides that a freedom vector of (0, 0) looks at no point; Ins_UTP looks, and clears nothing. Assumes nothing.
 use Prim.Native.Nat.{ℕ}
 use mathlib.Core.Bool.{Bool, false, true}
 use mathlib.Core.List.{List}

@@ -1,8 +1,9 @@
-// UTP[] (0x29): takes the touch marks off a point of zp0, on each axis that the freedom vector has a part in. OpenType's UTP, FreeType's Ins_UTP, and engine/outline.rs.
+// UTP[] (0x29): takes the touch marks off a point of zp0, on each axis that the freedom vector has a part in. OpenType's UTP, FreeType's Ins_UTP, and
+// engine/outline.rs.
 //
-// Pops the point. Reads zp0, the freedom vector and the zone's flags; clears touch bits of the point's flag. Refused in this order: a missing operand; a point outside
-// its zone, pedantic or not. Where the freedom vector is (0, 0) the point isn't looked at. `utp` is one equation with `utpOf`, for every content of the lists that it
-// isn't lent. Nothing is asked of operands, flags or state.
+// Pops the point. Reads zp0, the freedom vector and the zone's flags; clears touch bits of the point's flag. Refused in this order: a missing
+// operand; a point outside its zone, pedantic or not. Where the freedom vector is (0, 0) the point isn't looked at. `utp` is one equation with
+// `utpOf`, for every content of the lists that it isn't lent. Nothing is asked of operands, flags or state.
 use answer::Call;
 use answer::Refusal;
 use flags::CoordAxis;

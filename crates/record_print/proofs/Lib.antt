@@ -1,5 +1,5 @@
 pub mod Decimal
 mod Lines
 pub mod Numbers
-mod Puts
-mod Room
+pub mod Puts
+pub mod Room

@@ -53,7 +53,7 @@ fn count_digits(n: u64) -> usize
 }
 
 // From the last digit to the first; the place behind them.
-fn put_digits(n: u64, text: &mut [u8], at: usize) -> usize
+pub fn put_digits(n: u64, text: &mut [u8], at: usize) -> usize
     requires { ⌜ at + length (decimal n) ≤ length (now text) ⌝ }
     ensures { λ r. ⌜ Put (decimal n) at r (now (text .entry)) (now (text .exit)) ⌝ }
 {
@@ -91,7 +91,7 @@ fn put_signed(x: i32, end: u8, text: &mut [u8], at: usize) -> usize
 }
 
 // ---- a line
-fn put_answer(r: Replayed, text: &mut [u8]) -> usize
+pub fn put_answer(r: Replayed, text: &mut [u8]) -> usize
     requires { ⌜ length (answerLine r) ≤ length (now text) ⌝ }
     ensures { λ n. ⌜ Put (answerLine r) 0 n (now (text .entry)) (now (text .exit)) ⌝ }
 {

@@ -1,0 +1,4 @@
+pub mod Bounded
+pub mod Exact
+pub mod Examples
+pub mod Near

@@ -1,0 +1,2 @@
+pub mod Outline
+pub mod Pen
