@@ -172,7 +172,7 @@ const ONE_POINT: Operands = |k| vec![point(k)];
 const CONTROL: Operands = |k| vec![k as i32 % 16, point(k)];
 const DISTANCE: Operands = |k| vec![64 + k as i32 % 100, point(k)];
 
-const MOVING: [(&str, i32, Operands); 18] = [
+const MOVING: [(&str, i32, Operands); 21] = [
     ("MDAP[0]", 0x2E, ONE_POINT),
     ("MDAP[1]", 0x2F, ONE_POINT),
     ("MIAP[0]", 0x3E, CONTROL),
@@ -191,6 +191,9 @@ const MOVING: [(&str, i32, Operands); 18] = [
     ("MDRP[11100]", 0xDC, ONE_POINT),
     ("MIRP[00000]", 0xE0, CONTROL),
     ("MIRP[11100]", 0xFC, CONTROL),
+    ("IP", 0x39, ONE_POINT),
+    ("ALIGNPTS", 0x27, |k| vec![point(k), point(k + 3)]),
+    ("UTP", 0x29, ONE_POINT),
 ];
 
 fn lines(cases: &mut Vec<Case>) {
@@ -275,6 +278,7 @@ fn lines(cases: &mut Vec<Case>) {
 fn loops(cases: &mut Vec<Case>) {
     for (name, opcode, operands) in [
         ("ALIGNRP", 0x3C, 0),
+        ("IP", 0x39, 0),
         ("SHP[0]", 0x32, 0),
         ("SHPIX", 0x38, 1),
     ] {

@@ -304,6 +304,87 @@ impl GraphicsState {
         }
     }
 
+    // The same state, taken apart and put together by its words: kept so, it goes from line to line in registers.
+    pub fn by_words(self) -> GraphicsState
+        ensures { λ r. ⌜ r ≡ self ⌝ }
+    {
+        let vectors = self.vectors;
+        let projection = vectors.projection;
+        let dual = vectors.dual;
+        let freedom = vectors.freedom;
+        let round = self.round;
+        let mode = round.mode;
+        let pointers = self.pointers;
+        let zp0 = pointers.zp0;
+        let zp1 = pointers.zp1;
+        let zp2 = pointers.zp2;
+        GraphicsState {
+            vectors: Vectors {
+                projection,
+                dual,
+                freedom,
+            },
+            round: RoundState {
+                mode,
+                threshold: round.threshold,
+                phase: round.phase,
+                period: round.period,
+            },
+            references: References {
+                rp0: self.references.rp0,
+                rp1: self.references.rp1,
+                rp2: self.references.rp2,
+            },
+            loop_counter: self.loop_counter,
+            pointers: ZonePointers { zp0, zp1, zp2 },
+            measures: Measures {
+                cut_in: self.measures.cut_in,
+                minimum_distance: self.measures.minimum_distance,
+                single_width: self.measures.single_width,
+                single_width_cut_in: self.measures.single_width_cut_in,
+                auto_flip: self.measures.auto_flip,
+                scale: self.measures.scale,
+            },
+            facts: Facts {
+                backward_compatibility: self.facts.backward_compatibility,
+                pedantic: self.facts.pedantic,
+                native_clear_type_x: self.facts.native_clear_type_x,
+                did_iup_x: self.facts.did_iup_x,
+                did_iup_y: self.facts.did_iup_y,
+            },
+            tallies: Tallies {
+                wrapped_roundings: self.tallies.wrapped_roundings,
+                last_pushed: self.tallies.last_pushed,
+                pushes: self.tallies.pushes,
+            },
+        }
+    }
+
+    // The zone that each pointer names: read here, so that no line copies all three.
+    pub fn zp0(self) -> ZonePointer
+        ensures { λ r. ⌜ r ≡ self .pointers .zp0 ⌝ }
+    {
+        let pointers = self.pointers;
+        let zone = pointers.zp0;
+        zone
+    }
+
+    pub fn zp1(self) -> ZonePointer
+        ensures { λ r. ⌜ r ≡ self .pointers .zp1 ⌝ }
+    {
+        let pointers = self.pointers;
+        let zone = pointers.zp1;
+        zone
+    }
+
+    pub fn zp2(self) -> ZonePointer
+        ensures { λ r. ⌜ r ≡ self .pointers .zp2 ⌝ }
+    {
+        let pointers = self.pointers;
+        let zone = pointers.zp2;
+        zone
+    }
+
     // The test behind answer 3.
     pub fn is_usable(self) -> bool
         ensures { λ r. ⌜ r ≡ usableState self ⌝ }

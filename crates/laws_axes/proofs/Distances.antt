@@ -66,7 +66,7 @@ module _ (a : Axis) (f : Fixed) {v w : World} (e : Alike a v w) where
   original-seen zone at out out' rest rest' o h = by-fetched-seen a out out' rest rest' o h (fetchedAt (fixedSeen a f) v zone at) (fetchedAt f w zone at) (fetched-alike zone at)
 
   pub originals-seen : (u : Vectors) → u ≡ allAlong (unitOf a) → (p : ZonePointer) (i : ℕ) (q : ZonePointer) (j : ℕ)
-      → originalsApart u p i q j (xSeen a (f .gox)) (ySeen a (f .goy)) (v .tox) (v .toy) ≡ originalsApart u p i q j (f .gox) (f .goy) (w .tox) (w .toy)
+      → originalsApart (u .dual) p i q j (xSeen a (f .gox)) (ySeen a (f .goy)) (v .tox) (v .toy) ≡ originalsApart (u .dual) p i q j (f .gox) (f .goy) (w .tox) (w .toy)
   unfolding originalsApart
   originals-seen u straight p i q j = dual-alike a u straight _ _ _ _ (original-alike a f e p i) (original-alike a f e q j)
 
@@ -194,7 +194,7 @@ module _ (a : Axis) (f : Fixed) (op at : ℕ) (w : World) (straight : Straight a
 
   abbrev apartFor : Fixed → World → ℤ
   apartFor g v = let s = v .state in
-      originalsApart (s .vectors) (s .pointers .zp1) at (s .pointers .zp0) (s .references .rp0) (g .gox) (g .goy) (madeFor g v .tox) (madeFor g v .toy)
+      originalsApart (s .vectors .dual) (s .pointers .zp1) at (s .pointers .zp0) (s .references .rp0) (g .gox) (g .goy) (madeFor g v .tox) (madeFor g v .toy)
 
   by-control : Fixed → World → Lined
   by-control g v = let s = v .state in

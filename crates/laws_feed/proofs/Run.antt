@@ -105,7 +105,7 @@ module _ (f : Fixed) (sheet : List ℤ) (small : length sheet ≤ mostWords) (b 
   run-refused h e =
       ap endingOfRun
       (run-line f sheet b m at w h
-      ∙ ap (λ (g : Went). onCall (replayOf f sheet b (suc m)) m (g .place) (g .world) (g .call)) (sym (not-read f sheet at w e)))
+      ∙ ap (λ (g : Went). onCall (replayOf f sheet b (suc m)) m (g .place) (g .world) (g .call)) (sym (not-read f sheet at w refl e)))
 
   by-empty : length words < 1 → fedHere ≡ runHere
   by-empty h =

@@ -38,7 +38,7 @@ pub fn done(state: GraphicsState) -> Stepped
 {
     Stepped {
         call: Call::Done,
-        state,
+        state: state.by_words(),
     }
 }
 
@@ -47,7 +47,7 @@ pub fn refused(state: GraphicsState, why: Refusal) -> Stepped
 {
     Stepped {
         call: Call::Refused(why),
-        state,
+        state: state.by_words(),
     }
 }
 

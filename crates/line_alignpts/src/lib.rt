@@ -101,7 +101,10 @@ pub fn alignpts(
         Measured::Refused(why) => refused(s, why),
         Measured::Distance(half) => {
             let call = move_both(s, half, first, second, gx, gy, gflags, tx, ty, tflags);
-            Stepped { call, state: s }
+            Stepped {
+                call,
+                state: s.by_words(),
+            }
         }
     }
 }

@@ -136,6 +136,6 @@ pub fn alignrp(
     let call = align_each(s, s.loop_counter, operands, gx, gy, gflags, tx, ty, tflags);
     Stepped {
         call,
-        state: s.reset_loop_counter(),
+        state: s.reset_loop_counter().by_words(),
     }
 }

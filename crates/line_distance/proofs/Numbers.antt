@@ -5,7 +5,7 @@ use mathlib.Core.Bool.{Bool, true, false}
 use mathlib.Core.List.{List, [], _∷_, map}
 use Prim.Native.Nat.{ℕ}
 use lib.IntN.{ℤ, pos, negℤ}
-use Rattle.graphics.specs.State.{allAlong, xAxis}
+use Rattle.graphics.specs.State.{xAxis}
 use Rattle.graphics.specs.declared.ZonePointer.the-variants.{Glyph, Twilight}
 use Rattle.graphics.specs.declared.ZonePointer.{ZonePointer}
 use Rattle.int.specs.Word.{abs32, add32, and32, maxZ, minZ, neg32, sub32, wrap32}
@@ -35,7 +35,7 @@ ended-past opcode native d = finished opcode native fresh (pos 64) d d .wrapped
 abbrev outline : ZonePointer → ZonePointer → ℤ
 outline p q =
     let flat = pos 0 ∷ pos 0 ∷ [] in
-    outlineOf (allAlong xAxis) (pos 0x8000) p 0 q 1 (pos 700 ∷ pos 100 ∷ []) flat (pos 60 ∷ pos 10 ∷ []) flat (pos 5 ∷ pos 25 ∷ []) flat
+    outlineOf xAxis (pos 0x8000) p 0 q 1 (pos 700 ∷ pos 100 ∷ []) flat (pos 60 ∷ pos 10 ∷ []) flat (pos 5 ∷ pos 25 ∷ []) flat
 
 unfoldable pub rows : List (ℤ × ℤ)
 rows =

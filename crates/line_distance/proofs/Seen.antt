@@ -7,7 +7,7 @@ use Prim.Native.Nat.{ℕ}
 use lib.IntN.{ℤ, pos}
 use lib.Signed.{ltZ, nonNeg}
 use Rattle.graphics.specs.State.{isTwilight}
-use Rattle.graphics.specs.declared.Vectors.{Vectors}
+use Rattle.graphics.specs.declared.Vector.{Vector}
 use Rattle.graphics.specs.declared.ZonePointer.{ZonePointer}
 use Rattle.int.specs.Word.{abs32, add32, maxZ, minZ, neg32, sub32}
 use Rattle.math.specs.Fixed.{xor}
@@ -114,7 +114,7 @@ module _ (opcode : ℕ) (native : Bool) (round : RoundState) (minimum original d
   finish-free h = rw (sym ek ∙ h) rounded-first
 
 -- ---- the original outline
-module _ (v : Vectors) (scale : ℤ) (p : ZonePointer) (a : ℕ) (q : ZonePointer) (b : ℕ) (gux guy gox goy tox toy : List ℤ) {t u : Bool} {d : ℤ} (et : t ≡ isTwilight p) (eu : u ≡ isTwilight q) where
+module _ (v : Vector) (scale : ℤ) (p : ZonePointer) (a : ℕ) (q : ZonePointer) (b : ℕ) (gux guy gox goy tox toy : List ℤ) {t u : Bool} {d : ℤ} (et : t ≡ isTwilight p) (eu : u ≡ isTwilight q) where
   pub of-originals : t || u ≡ true → d ≡ originalsApart v p a q b gox goy tox toy → d ≡ outlineOf v scale p a q b gux guy gox goy tox toy
   unfolding outlineOf
   of-originals h e = let k : isTwilight p || isTwilight q ≡ true = ap₂ _||_ (sym et) (sym eu) ∙ h in rw k e

@@ -3,7 +3,7 @@
 //
 // Each function is one equation with a definition of specs/Distance.antt, for every number. What MDRP and MIRP share is here once: the bits of their
 // opcodes, rounding, the minimum distance.
-use graphics::Vectors;
+use graphics::Vector;
 use graphics::ZonePointer;
 use int::less;
 use int::max;
@@ -18,8 +18,7 @@ use line::is_odd;
 use line::place_at;
 use line::place_in;
 use math::mul;
-use projection::dual_project;
-use projection::dual_project_unscaled;
+use projection::along;
 use round::RoundState;
 use round::Tracked;
 ghost use mathlib.Core.Path.{_≡_};
@@ -130,7 +129,15 @@ pub fn as_it_is(word: i32) -> Tracked
 pub fn rounded(native: bool, round: RoundState, d: i32) -> Tracked
     ensures { λ r. ⌜ r ≡ roundedUnless native round d ⌝ }
 {
-    if native { as_it_is(d) } else { round.round(d) }
+    if native {
+        as_it_is(d)
+    } else {
+        let r = round.round(d);
+        Tracked {
+            word: r.word,
+            wrapped: r.wrapped,
+        }
+    }
 }
 
 // ---- the minimum distance
@@ -178,9 +185,9 @@ pub fn finish(
     }
 }
 
-// ---- the original outline
+// ---- the original outline, measured along the dual vector, the one that is given
 pub fn originals_apart(
-    v: Vectors,
+    v: Vector,
     p: ZonePointer,
     a: u64,
     q: ZonePointer,
@@ -194,20 +201,20 @@ pub fn originals_apart(
 {
     let here = place_in(p, a, gox, goy, tox, toy);
     let there = place_in(q, b, gox, goy, tox, toy);
-    dual_project(v, here, there)
+    along(v, here, there)
 }
 
-fn unscaled_apart(v: Vectors, scale: i32, a: u64, b: u64, gux: &[i32], guy: &[i32]) -> i32
+pub fn unscaled_apart(v: Vector, scale: i32, a: u64, b: u64, gux: &[i32], guy: &[i32]) -> i32
     ensures { λ r. ⌜ r ≡ unscaledApart v scale a b (now (gux .entry)) (now (guy .entry)) ⌝ }
 {
     let here = place_at(gux, guy, a);
     let there = place_at(gux, guy, b);
-    mul(dual_project_unscaled(v, here, there), scale)
+    mul(along(v, here, there), scale)
 }
 
 // How far a lies from b: of unscaled points where both are the glyph's, else of original ones.
 pub fn outline_apart(
-    v: Vectors,
+    v: Vector,
     scale: i32,
     p: ZonePointer,
     a: u64,

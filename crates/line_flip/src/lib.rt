@@ -67,7 +67,7 @@ pub fn flippt(s: GraphicsState, operands: &[i32], gflags: &mut [u8]) -> Stepped
     let call = flip_points(facts.past_both_iups(), s.loop_counter, operands, gflags);
     Stepped {
         call,
-        state: s.reset_loop_counter(),
+        state: s.reset_loop_counter().by_words(),
     }
 }
 
@@ -109,5 +109,8 @@ pub fn fliprg(s: GraphicsState, opcode: usize, operands: &[i32], gflags: &mut [u
     }
     let low = index_at(operands, 1);
     let call = set_through(gflags, low, high, is_odd(opcode));
-    Stepped { call, state: s }
+    Stepped {
+        call,
+        state: s.by_words(),
+    }
 }

@@ -340,6 +340,6 @@ pub fn ip(
     );
     Stepped {
         call,
-        state: s.reset_loop_counter(),
+        state: s.reset_loop_counter().by_words(),
     }
 }

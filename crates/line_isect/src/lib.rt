@@ -133,7 +133,10 @@ pub fn isect(
         Fetched::Refused(why) => refused(s, why),
         Fetched::At(place) => {
             let call = put_in(zp2, place, at, gx, gy, gflags, tx, ty, tflags);
-            Stepped { call, state: s }
+            Stepped {
+                call,
+                state: s.by_words(),
+            }
         }
     }
 }

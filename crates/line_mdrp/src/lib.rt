@@ -77,11 +77,9 @@ pub fn mdrp(
     let vectors = s.vectors;
     let facts = s.facts;
     let measures = s.measures;
-    let pointers = s.pointers;
-    let references = s.references;
-    let zp0 = pointers.zp0;
-    let zp1 = pointers.zp1;
-    let rp0 = references.rp0;
+    let zp0 = s.zp0();
+    let zp1 = s.zp1();
+    let rp0 = s.references.rp0;
     let sets = sets_rp0(opcode);
     let firsts = size_of(zp1, gx.len(), tx.len());
     let seconds = size_of(zp0, gx.len(), tx.len());
@@ -90,7 +88,7 @@ pub fn mdrp(
         Call::Refused(why) => relate_or(s, sets, at, why),
         Call::Done => {
             let outline = outline_apart(
-                vectors,
+                vectors.dual,
                 measures.scale,
                 zp1,
                 at,

@@ -11,8 +11,8 @@ use Rattle.graphics.specs.declared.Vectors.{Vectors}
 use Rattle.graphics.specs.declared.ZonePointer.{ZonePointer}
 use Rattle.line.specs.Places.{fetchIn}
 use Rattle.line.specs.World.{Lined, World}
-use Rattle.line_distance.specs.Outline.{outlineOf}
-use Rattle.projection.specs.Projection.{dualProjectOf, projectOf}
+use Rattle.line_distance.specs.Outline.{unscaledApart}
+use Rattle.projection.specs.Projection.{alongOf}
 use Rattle.projection.specs.declared.Measured.the-variants.{Distance, Refused}
 use Rattle.projection.specs.declared.Measured.{Measured}
 use Rattle.zone.specs.declared.Fetched.the-variants.{At}
@@ -25,20 +25,19 @@ use Rattle.line_measure.specs.Measure.{pushes, zeroOr}
 unfoldable pub lookedUp : Bool → ZonePointer → ℕ → List ℤ → List ℤ → List ℤ → List ℤ → List ℤ → List ℤ → List ℤ → List ℤ → Fetched
 lookedUp original zone at gox goy gx gy tox toy tx ty = cond original (fetchIn at gox goy tox toy zone) (fetchIn at gx gy tx ty zone)
 
--- along the dual vector in the original outline
-unfoldable pub measureOf : Bool → Vectors → Vector → Vector → ℤ
-measureOf original v here there = cond original (dualProjectOf v here there) (projectOf v here there)
+-- the dual vector in the original outline
+abbrev pub vectorFor : Bool → Vectors → Vector
+vectorFor original v = cond original (v .dual) (v .projection)
 
 -- how far the first lies from the second, the first looked at first
-unfoldable pub apartOf : Bool → Vectors → Fetched → Fetched → Measured
-apartOf original v (RefusedPlace why) second = Refused why
-apartOf original v (At here) (RefusedPlace why) = Refused why
-apartOf original v (At here) (At there) = Distance (measureOf original v here there)
+unfoldable pub apartOf : Vector → Fetched → Fetched → Measured
+apartOf v (RefusedPlace why) second = Refused why
+apartOf v (At here) (RefusedPlace why) = Refused why
+apartOf v (At here) (At there) = Distance (alongOf v here there)
 
 -- how far a lies from b, two points of the original glyph
-unfoldable pub glyphApart : Bool → Vectors → ℤ → ZonePointer → ℕ → ZonePointer → ℕ → List ℤ → List ℤ → List ℤ → List ℤ → List ℤ → List ℤ → ℤ
-glyphApart pedantic v scale p a q b gux guy gox goy tox toy =
-    cond (pedantic || (ltb a (length gux) && ltb b (length gux))) (outlineOf v scale p a q b gux guy gox goy tox toy) (pos 0)
+unfoldable pub glyphApart : Bool → Vector → ℤ → ℕ → ℕ → List ℤ → List ℤ → ℤ
+glyphApart pedantic v scale a b gux guy = cond (pedantic || (ltb a (length gux) && ltb b (length gux))) (unscaledApart v scale a b gux guy) (pos 0)
 
 -- ---- what is pushed
 abbrev pub byMeasured : World → Measured → Lined

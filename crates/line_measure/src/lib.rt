@@ -17,10 +17,9 @@ use line::fetch_in;
 use line::index_at;
 use line::is_odd;
 use line::refused;
-use line_distance::outline_apart;
+use line_distance::unscaled_apart;
 use projection::Measured;
-use projection::dual_project;
-use projection::project;
+use projection::along;
 use zone::Fetched;
 ghost use mathlib.Core.Path.{_≡_};
 ghost use mathlib.Core.List.{List};
@@ -32,7 +31,7 @@ ghost use Rattle.rules.specs.declared.Rules.{Rules};
 ghost use Rattle.line.specs.World.{World, fixed, lined, world};
 ghost use Rattle.line_steps.specs.Steps.{inState, into};
 ghost use Rattle.line_measure.specs.Measure.{gcOf, mdOf, zeroOr};
-ghost use Rattle.line_measure.specs.Steps.{apartOf, byMeasured, glyphApart, lookedUp, measureOf};
+ghost use Rattle.line_measure.specs.Steps.{apartOf, byMeasured, glyphApart, lookedUp, vectorFor};
 
 // ---- what is found
 // A point of the original outline, or where it is now.
@@ -60,25 +59,21 @@ fn look_up(
 }
 
 // Points of the original outline are measured along the dual vector.
-fn measure(original: bool, v: Vectors, here: Vector, there: Vector) -> i32
-    ensures { λ r. ⌜ r ≡ measureOf original v here there ⌝ }
+fn vector_for(original: bool, v: Vectors) -> Vector
+    ensures { λ r. ⌜ r ≡ vectorFor original v ⌝ }
 {
-    if original {
-        dual_project(v, here, there)
-    } else {
-        project(v, here, there)
-    }
+    if original { v.dual } else { v.projection }
 }
 
-// How far the first lies from the second; the first is looked at first.
-fn apart(original: bool, v: Vectors, first: Fetched, second: Fetched) -> Measured
-    ensures { λ r. ⌜ r ≡ apartOf original v first second ⌝ }
+// How far the first lies from the second along a vector; the first is looked at first.
+fn apart(v: Vector, first: Fetched, second: Fetched) -> Measured
+    ensures { λ r. ⌜ r ≡ apartOf v first second ⌝ }
 {
     match first {
         Fetched::Refused(why) => Measured::Refused(why),
         Fetched::At(here) => match second {
             Fetched::Refused(why) => Measured::Refused(why),
-            Fetched::At(there) => Measured::Distance(measure(original, v, here, there)),
+            Fetched::At(there) => Measured::Distance(along(v, here, there)),
         },
     }
 }
@@ -92,24 +87,18 @@ fn is_inside(at: u64, size: usize) -> bool
 // How far a lies from b, two points of the original glyph, of which none is refused: outside 0 is found, and where the state is pedantic (0, 0) is measured.
 fn glyph_apart(
     pedantic: bool,
-    v: Vectors,
+    v: Vector,
     scale: i32,
-    p: ZonePointer,
     a: u64,
-    q: ZonePointer,
     b: u64,
     gux: &[i32],
     guy: &[i32],
-    gox: &[i32],
-    goy: &[i32],
-    tox: &[i32],
-    toy: &[i32],
 ) -> i32
-    ensures { λ r. ⌜ r ≡ glyphApart pedantic v scale p a q b (now (gux .entry)) (now (guy .entry)) (now (gox .entry)) (now (goy .entry)) (now (tox .entry)) (now (toy .entry)) ⌝ }
+    ensures { λ r. ⌜ r ≡ glyphApart pedantic v scale a b (now (gux .entry)) (now (guy .entry)) ⌝ }
 {
     let size = gux.len();
     if pedantic | (is_inside(a, size) & is_inside(b, size)) {
-        outline_apart(v, scale, p, a, q, b, gux, guy, gox, goy, tox, toy)
+        unscaled_apart(v, scale, a, b, gux, guy)
     } else {
         0
     }
@@ -160,11 +149,10 @@ pub fn gc(
     }
     let at = index_at(operands, 0);
     let original = is_odd(opcode);
-    let pointers = s.pointers;
-    let zp2 = pointers.zp2;
+    let zp2 = s.zp2();
     let point = look_up(original, zp2, at, gox, goy, gx, gy, tox, toy, tx, ty);
     let origin = Fetched::At(Vector { x: 0, y: 0 });
-    settle_measured(s, apart(original, s.vectors, point, origin))
+    settle_measured(s, apart(vector_for(original, s.vectors), point, origin))
 }
 
 // MD: a point of zp1, and one of zp0 that is measured from it; where the opcode is even in the original outline.
@@ -192,31 +180,21 @@ pub fn md(
     let b = index_at(operands, 0);
     let a = index_at(operands, 1);
     let fitted = is_odd(opcode);
-    let vectors = s.vectors;
-    let pointers = s.pointers;
-    let facts = s.facts;
-    let measures = s.measures;
-    let p = pointers.zp0;
-    let q = pointers.zp1;
+    let p = s.zp0();
+    let q = s.zp1();
     if fitted | p.is_twilight() | q.is_twilight() {
         let first = look_up(!fitted, p, a, gox, goy, gx, gy, tox, toy, tx, ty);
         let second = look_up(!fitted, q, b, gox, goy, gx, gy, tox, toy, tx, ty);
-        settle_measured(s, apart(!fitted, vectors, first, second))
+        settle_measured(s, apart(vector_for(!fitted, s.vectors), first, second))
     } else {
         let d = glyph_apart(
-            facts.pedantic,
-            vectors,
-            measures.scale,
-            p,
+            s.facts.pedantic,
+            s.vectors.dual,
+            s.measures.scale,
             a,
-            q,
             b,
             gux,
             guy,
-            gox,
-            goy,
-            tox,
-            toy,
         );
         done(s.with_push(d))
     }

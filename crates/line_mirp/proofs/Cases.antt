@@ -27,6 +27,7 @@ use Rattle.line_distance.specs.Distance.{chosenOf, cutInOf, finished, flippedOf
 use Rattle.line_distance.specs.Outline.{originalsApart}
 use Rattle.line_relative.proofs.Both.{both-made, byReach, looked-up, placeOn, reachIn}
 use Rattle.line_relative.specs.Relative.{bothThere, related, relatedOr}
+use Rattle.line_relative.specs.Steps.{reachOf}
 use Rattle.line_steps.proofs.Laws.{rounded-by, two-missing, two-there}
 use Rattle.line_steps.specs.Numbers.{stepFrom}
 use Rattle.line_steps.specs.Steps.{afterMove, doneIn, madeIn, pointIn, refusedIn, roundedIn, roundedMoveIn}
@@ -161,15 +162,19 @@ module _ (f : Fixed) (w : World) (out : Refusal → Lined) where
 -- ---- the line
 module _ (f : Fixed) (w : World) (at : ℕ) where
   -- the world with a twilight point made
-  abbrev madeBy : ℤ → World
-  madeBy control =
+  abbrev madeFrom : ℤ → ZonePointer → ZonePointer → World
+  madeFrom control zp0 zp1 =
       let s = w .state in
-      madeIn at (mirpPlace (s .vectors .freedom) control (placeIn (s .references .rp0) (f .gox) (f .goy) (w .tox) (w .toy) (s .pointers .zp0))) w (s .pointers .zp1)
+      madeIn at (mirpPlace (s .vectors .freedom) control (placeIn (s .references .rp0) (f .gox) (f .goy) (w .tox) (w .toy) zp0)) w zp1
 
-  abbrev apartIn : World → ℤ
-  apartIn made =
+  abbrev apartIn : World → ZonePointer → ZonePointer → ℤ
+  apartIn made zp0 zp1 =
       let s = w .state in
-      originalsApart (s .vectors) (s .pointers .zp1) at (s .pointers .zp0) (s .references .rp0) (f .gox) (f .goy) (made .tox) (made .toy)
+      originalsApart (s .vectors .dual) zp1 at zp0 (s .references .rp0) (f .gox) (f .goy) (made .tox) (made .toy)
+
+  -- where the points are by then
+  abbrev ownIn : World → ZonePointer → ZonePointer → ℤ
+  ownIn made zp0 zp1 = projectOf (w .state .vectors) (placeOn made zp1 at) (placeOn made zp0 (w .state .references .rp0))
 
   -- what is left of the line by then
   abbrev brought : ℕ → Bool → World → ℤ → Lined
@@ -177,13 +182,17 @@ module _ (f : Fixed) (w : World) (at : ℕ) where
       let s = w .state in
       pointIn (s .pointers .zp1) at made λ place.
       pointIn (s .pointers .zp0) (s .references .rp0) made λ reference.
-      let distance = mirpDistance opcode (sameZone (s .pointers .zp0) (s .pointers .zp1)) (s .facts .«native_clear_type_x») (s .round) (s .measures) control (apartIn made) in
+      let distance = mirpDistance opcode (sameZone (s .pointers .zp0) (s .pointers .zp1)) (s .facts .«native_clear_type_x») (s .round) (s .measures) control (apartIn made (s .pointers .zp0) (s .pointers .zp1)) in
       roundedMoveIn (s .pointers .zp1) (stepFrom (projectOf (s .vectors) place reference) distance) at made λ moved.
       doneIn (related sets at moved)
 
   -- and of the line once the control value was found
   abbrev madeAndBrought : ℕ → Bool → ℤ → Lined
-  madeAndBrought opcode sets control = brought opcode sets (madeBy control) control
+  madeAndBrought opcode sets control = brought opcode sets (madeFrom control (w .state .pointers .zp0) (w .state .pointers .zp1)) control
+
+  -- what was found, by the zones that the pointers name
+  abbrev foundIn : ℕ → ZonePointer → ZonePointer → Measured
+  foundIn next zp0 zp1 = mirpFound (w .state .measures) (controlFound next (f .controls)) (reachOf at zp0 (w .state .references .rp0) (length (w .gx)) (length (w .tx)) zp1)
 
 module _ (f : Fixed) (opcode : ℕ) (operands : List ℤ) (w : World) {r : Lined} where
   pub mirp-missing : length operands < 2 → r ≡ refusedIn w Missing → r ≡ mirpOf f opcode operands w
@@ -191,31 +200,36 @@ module _ (f : Fixed) (opcode : ℕ) (operands : List ℤ) (w : World) {r : Lined
   mirp-missing h e = two-missing w operands _ h e
 
   -- ---- both operands are there, and the control value and the points were looked at
-  module _ {next at : ℕ} {sets : Bool} {found : Measured} (h : 2 ≤ length operands) (i : next ≡ indexOf (add32 (getD operands 0 (pos 0)) (pos 1))) (j : at ≡ indexAt operands 1) (s : sets ≡ setsRp0 opcode) (e : found ≡ mirpFound (w .state .measures) (controlFound next (f .controls)) (reachIn w at (w .state .pointers .zp1))) where
+  module _ {next at : ℕ} {zp0 zp1 : ZonePointer} {sets : Bool} {found : Measured} (h : 2 ≤ length operands) (i : next ≡ indexOf (add32 (getD operands 0 (pos 0)) (pos 1))) (j : at ≡ indexAt operands 1) (e0 : zp0 ≡ w .state .pointers .zp0) (e1 : zp1 ≡ w .state .pointers .zp1) (s : sets ≡ setsRp0 opcode) (e : found ≡ foundIn f w at next zp0 zp1) where
     by-found : {said : Measured} → found ≡ said → r ≡ byFound (relatedOr sets at w) (madeAndBrought f w at opcode sets) said → r ≡ mirpOf f opcode operands w
     unfolding mirpOf
     by-found t p =
         two-there w operands _ h
         (rw (← i, ← j, ← s)
-        (found-by f w (relatedOr sets at w) (w .state .measures) at (w .state .pointers .zp1) (madeAndBrought f w at opcode sets) next e t p))
+        (found-by f w (relatedOr sets at w) (w .state .measures) at (w .state .pointers .zp1) (madeAndBrought f w at opcode sets) next (e ∙ ap₂ (foundIn f w at next) e0 e1) t p))
 
     pub mirp-outside : {why : Refusal} → found ≡ Refused why → r ≡ relatedOr sets at w why → r ≡ mirpOf f opcode operands w
     mirp-outside t p = by-found t p
 
-    pub mirp-moved : {z control : ℤ} (made : World) {own original distance : ℤ} {within : Bool} {d step : Tracked} {m : Move} {b : BothMoved} → found ≡ Distance z → control ≡ z → made ≡ madeBy f w at control
-        → own ≡ projectOf (w .state .vectors) (placeOn made (w .state .pointers .zp1) at) (placeOn made (w .state .pointers .zp0) (w .state .references .rp0))
-        → original ≡ apartIn f w at made
-        → within ≡ sameZone (w .state .pointers .zp0) (w .state .pointers .zp1)
+    pub mirp-moved : {z control : ℤ} (made : World) {own original distance : ℤ} {within : Bool} {d step : Tracked} {m : Move} {b : BothMoved} → found ≡ Distance z → control ≡ z → made ≡ madeFrom f w at control zp0 zp1
+        → own ≡ ownIn f w at made zp0 zp1
+        → original ≡ apartIn f w at made zp0 zp1
+        → within ≡ sameZone zp0 zp1
         → d ≡ mirpDistance opcode within (w .state .facts .«native_clear_type_x») (w .state .round) (w .state .measures) control original
         → step ≡ stepFrom own d → distance ≡ step .word → m ≡ moveOf (made .state .vectors) (made .state .facts) distance
-        → b ≡ applyIn m at (made .gx) (made .gy) (made .gflags) (made .tx) (made .ty) (made .tflags) (w .state .pointers .zp1)
+        → b ≡ applyIn m at (made .gx) (made .gy) (made .gflags) (made .tx) (made .ty) (made .tflags) zp1
         → r ≡ afterMove made (λ (v : World). doneIn (related sets at (roundedIn (step .wrapped) v))) b → r ≡ mirpOf f opcode operands w
-    mirp-moved {control = control} made t k q o a n d x c m b p =
+    mirp-moved {control = control} made {m = m′} t k q o a n d x c m b p =
         let g = w .state in
-        let zp1 = g .pointers .zp1 in
-        let there = points-there (g .measures) (controlFound next (f .controls)) (reachIn w at zp1) (sym e ∙ t) in
-        let distance = d ∙ ap₂ (λ (within : Bool) (original : ℤ). mirpDistance opcode within (g .facts .«native_clear_type_x») (g .round) (g .measures) control original) n a in
+        let at-zp1 = g .pointers .zp1 in
+        let there = points-there (g .measures) (controlFound next (f .controls)) (reachIn w at at-zp1) (sym (e ∙ ap₂ (foundIn f w at next) e0 e1) ∙ t) in
+        let is-made = q ∙ ap₂ (madeFrom f w at control) e0 e1 in
+        let own = o ∙ ap₂ (ownIn f w at made) e0 e1 in
+        let original = a ∙ ap₂ (apartIn f w at made) e0 e1 in
+        let within = n ∙ ap₂ sameZone e0 e1 in
+        let moved = b ∙ ap (applyIn m′ at (made .gx) (made .gy) (made .gflags) (made .tx) (made .ty) (made .tflags)) e1 in
+        let distance = d ∙ ap₂ (λ (within : Bool) (original : ℤ). mirpDistance opcode within (g .facts .«native_clear_type_x») (g .round) (g .measures) control original) within original in
         by-found t
-        (both-made w at zp1 _ _ _ refl there q refl refl (rounded-by made zp1 at _ (x ∙ ap₂ stepFrom o distance) c m b p)
-        ∙ ap (λ (v : World). brought f w at opcode sets v control) q
+        (both-made w at at-zp1 _ _ _ refl there is-made refl refl (rounded-by made at-zp1 at _ (x ∙ ap₂ stepFrom own distance) c m moved p)
+        ∙ ap (λ (v : World). brought f w at opcode sets v control) is-made
         ∙ ap (madeAndBrought f w at opcode sets) k)

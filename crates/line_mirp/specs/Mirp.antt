@@ -71,7 +71,7 @@ mirpOf f opcode operands w =
     bothThere at w (relatedOr sets at w)
     (pointIn zp1 at made λ place.
     pointIn zp0 rp0 made λ reference.
-    let original = originalsApart (s .vectors) zp1 at zp0 rp0 (f .gox) (f .goy) (made .tox) (made .toy) in
+    let original = originalsApart (s .vectors .dual) zp1 at zp0 rp0 (f .gox) (f .goy) (made .tox) (made .toy) in
     let distance = mirpDistance opcode (sameZone zp0 zp1) (s .facts .«native_clear_type_x») (s .round) m control original in
     roundedMoveIn zp1 (stepFrom (projectOf (s .vectors) place reference) distance) at made λ moved.
     doneIn (related sets at moved))

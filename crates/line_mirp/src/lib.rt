@@ -231,11 +231,9 @@ pub fn mirp(
     let vectors = s.vectors;
     let facts = s.facts;
     let measures = s.measures;
-    let pointers = s.pointers;
-    let references = s.references;
-    let zp0 = pointers.zp0;
-    let zp1 = pointers.zp1;
-    let rp0 = references.rp0;
+    let zp0 = s.zp0();
+    let zp1 = s.zp1();
+    let rp0 = s.references.rp0;
     let sets = sets_rp0(opcode);
     let found = mirp_found(
         measures,
@@ -266,7 +264,7 @@ pub fn mirp(
                 ty,
             );
             let own = currents_apart(vectors, zp1, at, zp0, rp0, gx, gy, tx, ty);
-            let original = originals_apart(vectors, zp1, at, zp0, rp0, gox, goy, tox, toy);
+            let original = originals_apart(vectors.dual, zp1, at, zp0, rp0, gox, goy, tox, toy);
             let within = same_zone(zp0, zp1);
             let native = facts.native_clear_type_x;
             let distance = mirp_distance(

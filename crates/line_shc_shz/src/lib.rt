@@ -81,8 +81,7 @@ pub fn shc(
     }
     let at = index_at(operands, 0);
     let index = at as usize;
-    let pointers = s.pointers;
-    let zp2 = pointers.zp2;
+    let zp2 = s.zp2();
     if size_of(zp2, contours.len(), 1) <= index {
         return no_contour(s, at);
     }
@@ -108,7 +107,10 @@ pub fn shc(
         ty,
         tflags,
     );
-    Stepped { call, state: s }
+    Stepped {
+        call,
+        state: s.by_words(),
+    }
 }
 
 // ---- SHZ
@@ -139,8 +141,7 @@ pub fn shz(
     if 1 < zone {
         return refused(s, Refusal::ZonePointer(zone));
     }
-    let pointers = s.pointers;
-    let zp2 = pointers.zp2;
+    let zp2 = s.zp2();
     let end = size_of(zp2, point_after(contours, contours.len()), tx.len());
     let reference = reference_of(s, opcode);
     let call = shift_span_of(
@@ -162,5 +163,8 @@ pub fn shz(
         ty,
         tflags,
     );
-    Stepped { call, state: s }
+    Stepped {
+        call,
+        state: s.by_words(),
+    }
 }

@@ -167,8 +167,7 @@ pub fn shp(
 {
     let vectors = s.vectors;
     let facts = s.facts;
-    let pointers = s.pointers;
-    let zp2 = pointers.zp2;
+    let zp2 = s.zp2();
     let count = s.loop_counter;
     let reference = reference_of(s, opcode);
     let by = displaced(vectors, reference, gox, goy, gx, gy, tox, toy, tx, ty);
@@ -179,7 +178,7 @@ pub fn shp(
             let call = shift_in(zp2, m, count, operands, gx, gy, gflags, tx, ty, tflags);
             Stepped {
                 call,
-                state: s.reset_loop_counter(),
+                state: s.reset_loop_counter().by_words(),
             }
         }
     }
@@ -211,8 +210,7 @@ pub fn shpix(
 {
     let vectors = s.vectors;
     let facts = s.facts;
-    let pointers = s.pointers;
-    let zp2 = pointers.zp2;
+    let zp2 = s.zp2();
     let count = s.loop_counter;
     if facts.backward_compatibility {
         return refused(s, Refusal::Compatibility);
@@ -235,6 +233,6 @@ pub fn shpix(
     );
     Stepped {
         call,
-        state: s.reset_loop_counter(),
+        state: s.reset_loop_counter().by_words(),
     }
 }

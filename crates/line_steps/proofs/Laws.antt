@@ -29,7 +29,7 @@ use Rattle.moves.specs.declared.Move.{Move}
 use Rattle.moves.specs.declared.Reference.{Reference}
 use Rattle.line.specs.Places.{Pair, pair, putAt}
 use Rattle.line.specs.Places.{fetchIn}
-use Rattle.line.specs.World.{Fixed, Lined, World, world}
+use Rattle.line.specs.World.{Fixed, Lined, World, lined, world}
 use Rattle.zone.specs.declared.Fetched.the-variants.{At}
 use Rattle.zone.specs.declared.Fetched.the-variants.{Refused as RefusedPlace}
 use Rattle.zone.specs.declared.Fetched.{Fetched}
@@ -174,3 +174,8 @@ made-twilight w at {place = place} {tox = tox} {toy = toy} q o p z =
     ∙ ap (λ (t : Pair). world (w .state) (w .gx) (w .gy) (w .gflags) (t .xs) (t .ys) (putAt place at (w .tx) (w .ty) .xs) (putAt place at (w .tx) (w .ty) .ys) (w .tflags)) o
     ∙ ap (λ (v : Vector). madeIn at v w Twilight) q
     ∙ ap (madeIn at _ w) (sym z)
+
+-- ---- the state that a line hands back, put together by its words
+pub in-words : {call : Call} {s t : GraphicsState} {gx gy : List ℤ} {gflags : List ℕ} {tox toy tx ty : List ℤ} {tflags : List ℕ} {r : Lined} → t ≡ s
+    → lined (record { call = call; state = s }) gx gy gflags tox toy tx ty tflags ≡ r → lined (record { call = call; state = t }) gx gy gflags tox toy tx ty tflags ≡ r
+in-words e p = rw e p

@@ -66,10 +66,12 @@ pub fn utp(s: GraphicsState, operands: &[i32], gflags: &mut [u8], tflags: &mut [
     let at = index_at(operands, 0);
     let vectors = s.vectors;
     let freedom = vectors.freedom;
-    let pointers = s.pointers;
-    let zp0 = pointers.zp0;
+    let zp0 = s.zp0();
     let x = !equal(freedom.x, 0);
     let y = !equal(freedom.y, 0);
     let call = untouch_in(zp0, at, x, y, gflags, tflags);
-    Stepped { call, state: s }
+    Stepped {
+        call,
+        state: s.by_words(),
+    }
 }

@@ -7,7 +7,6 @@ use Prim.Native.Nat.{ℕ, _≤_, _<_}
 use borrow.Author.Tests.{lt-ltb, le-ltb}
 use lib.IntN.{ℤ, pos}
 use lib.ListN.{length, getD, set}
-use lib.Seq.{set-out}
 use Rattle.answer.specs.declared.Call.the-variants.{Refused, Done}
 use Rattle.answer.specs.declared.Refusal.the-variants.{Point}
 use Rattle.graphics.specs.State.{pastBothIups}
@@ -35,9 +34,6 @@ sum-read er′ er ea eb = rw (er′, er, ea, eb) refl
 module _ (l : List ℤ) (at : ℕ) (by : ℤ) {moves : Bool} where
   pub not-moved : moves ≡ false → l ≡ movedAt l at by moves
   not-moved e = rw e
-
-  pub moved-outside : moves ≡ true → length l ≤ at → l ≡ movedAt l at by moves
-  moved-outside e h = rw e (sym (set-out l at (add32 (getD l at (pos 0)) by) h))
 
   pub moved-inside : moves ≡ true → {z : ℤ} → z ≡ add32 (getD l at (pos 0)) by → set l at z ≡ movedAt l at by moves
   moved-inside e q = rw e (ap (set l at) q)

@@ -8,6 +8,7 @@
 use answer::Call;
 use answer::Refusal;
 use flags::CoordAxis;
+use flags::with_bits;
 use graphics::Facts;
 use graphics::GraphicsState;
 use graphics::Vector;
@@ -20,11 +21,12 @@ use projection::derive;
 use projection::project;
 use zone::Fetched;
 use zone::fetch;
-use zone::or_at;
 ghost use mathlib.Core.Path.{_≡_};
+ghost use Prim.Native.Nat.{_<_};
 ghost use lib.ListN.{length};
 ghost use Rattle.moves.specs.Move.{bitsFor, stepBy, stepAlong, isSlanted, heldBack, moveOf, originalMoveOf, zp2MoveOf, isIdle, movedAt};
 ghost use Rattle.moves.specs.Apply.{shifted, shiftOf, moved, applyOf, shiftIn, bothShifted, applyIn, bothMoved};
+ghost use Rattle.zone.specs.Zone.{orAt};
 ghost use Rattle.moves.specs.Displacement.{referenceOf, displacementOf, displacedAt, displacedIn, saidOfDisplaced};
 
 // What is done to one point: which coordinates move, by how much, and the bits that its flag is given.
@@ -175,18 +177,23 @@ pub fn zp2_move_of(v: Vectors, f: Facts, dx: i32, dy: i32, touches: bool) -> Mov
 }
 
 // ---- the move, laid on one zone
-// One axis's coordinate, where it moves; nothing outside.
-pub fn move_at(list: &mut [i32], at: u64, moves: bool, by: i32)
-    ensures { λ _. ⌜ now (list .exit) ≡ movedAt (now (list .entry)) at by moves ⌝ }
+// One axis's coordinate, where it moves. Whether the point is there was tested before.
+fn move_at(list: &mut [i32], i: usize, moves: bool, by: i32)
+    requires { ⌜ i < length (now list) ⌝ }
+    ensures { λ _. ⌜ now (list .exit) ≡ movedAt (now (list .entry)) i by moves ⌝ }
 {
-    let i = at as usize;
     if !moves {
         return;
     }
-    if list.len() <= i {
-        return;
-    }
     list[i] = wrapping_add(list[i], by);
+}
+
+// The flag of a point that is there.
+fn touch_at(flags: &mut [u8], i: usize, mask: u8)
+    requires { ⌜ i < length (now flags) ⌝ }
+    ensures { λ _. ⌜ now (flags .exit) ≡ orAt (now (flags .entry)) i mask ⌝ }
+{
+    flags[i] = with_bits(flags[i], mask);
 }
 
 // The coordinates alone: no flag is touched.
@@ -198,8 +205,8 @@ pub fn apply_coords(m: Move, at: u64, xs: &mut [i32], ys: &mut [i32]) -> Call
     if xs.len() <= i {
         return Call::Refused(Refusal::Point(at));
     }
-    move_at(xs, at, m.moves_x, m.dx);
-    move_at(ys, at, m.moves_y, m.dy);
+    move_at(xs, i, m.moves_x, m.dx);
+    move_at(ys, i, m.moves_y, m.dy);
     Call::Done
 }
 
@@ -211,9 +218,9 @@ pub fn apply(m: Move, at: u64, xs: &mut [i32], ys: &mut [i32], flags: &mut [u8])
     if xs.len() <= i {
         return Call::Refused(Refusal::Point(at));
     }
-    move_at(xs, at, m.moves_x, m.dx);
-    move_at(ys, at, m.moves_y, m.dy);
-    or_at(flags, at, m.touch);
+    move_at(xs, i, m.moves_x, m.dx);
+    move_at(ys, i, m.moves_y, m.dy);
+    touch_at(flags, i, m.touch);
     Call::Done
 }
 
@@ -300,19 +307,15 @@ impl Displaced {
 pub fn reference_of(s: GraphicsState, opcode: usize) -> Reference
     ensures { λ r. ⌜ r ≡ referenceOf s opcode ⌝ }
 {
-    let pointers = s.pointers;
-    let references = s.references;
-    let zp0 = pointers.zp0;
-    let zp1 = pointers.zp1;
     if opcode & 1 == 0 {
         Reference {
-            zone: zp1,
-            at: references.rp2,
+            zone: s.zp1(),
+            at: s.references.rp2,
         }
     } else {
         Reference {
-            zone: zp0,
-            at: references.rp1,
+            zone: s.zp0(),
+            at: s.references.rp1,
         }
     }
 }

@@ -268,6 +268,22 @@ fn to_super(d: i32, threshold: i32, phase: i32, period: i32, divides: bool) -> T
     }
 }
 
+// A distance rounded, by the numbers of a round state: lent so, no line's state has to lie in memory.
+pub fn round_by(mode: RoundMode, threshold: i32, phase: i32, period: i32, d: i32) -> Tracked
+    ensures { λ r. ⌜ r ≡ rounding (record { mode = mode; threshold = threshold; phase = phase; period = period }) d ⌝ }
+{
+    match mode {
+        RoundMode::Grid => to_grid(d),
+        RoundMode::HalfGrid => to_half_grid(d),
+        RoundMode::DoubleGrid => to_double_grid(d),
+        RoundMode::DownToGrid => down_to_grid(d),
+        RoundMode::UpToGrid => up_to_grid(d),
+        RoundMode::Off => given(d),
+        RoundMode::Super => to_super(d, threshold, phase, period, false),
+        RoundMode::Super45 => to_super(d, threshold, phase, period, true),
+    }
+}
+
 impl RoundState {
     // The state that a glyph starts with: Grid.
     pub fn fresh() -> RoundState
@@ -298,19 +314,7 @@ impl RoundState {
         ensures { λ r. ⌜ r ≡ rounding self d ⌝ }
     {
         let mode = self.mode;
-        let threshold = self.threshold;
-        let phase = self.phase;
-        let period = self.period;
-        match mode {
-            RoundMode::Grid => to_grid(d),
-            RoundMode::HalfGrid => to_half_grid(d),
-            RoundMode::DoubleGrid => to_double_grid(d),
-            RoundMode::DownToGrid => down_to_grid(d),
-            RoundMode::UpToGrid => up_to_grid(d),
-            RoundMode::Off => given(d),
-            RoundMode::Super => to_super(d, threshold, phase, period, false),
-            RoundMode::Super45 => to_super(d, threshold, phase, period, true),
-        }
+        round_by(mode, self.threshold, self.phase, self.period, d)
     }
 
     // Whether the state can be rounded by: not Super45 with period 0.

@@ -70,7 +70,7 @@ pub fn step(
         Decoded::Refused(why) => Landing {
             call: Call::Refused(why),
             place: at,
-            state: s,
+            state: s.by_words(),
         },
         Decoded::Operands { opcode, first, end } => {
             let r = perform(

@@ -21,7 +21,7 @@ ghost use Prim.Native.Nat.{_%_, _/_, _^_, _+_, _*_};
 ghost use lib.ListN.{getD};
 ghost use lib.Dec.{leb};
 ghost use Rattle.words.specs.Lists.{allAtMost};
-ghost use Rattle.state_words.specs.Words.{stateWord, numberAt, vectorAt, longAt, modeOf, zoneOf, factOf, modeWord, zoneWord, factWord, vectorsWords, roundWords, referencesWords, pointersWords, factsWords, distanceWords, pushWords, wordOf, stateOf, isState, written};
+ghost use Rattle.state_words.specs.Words.{stateWord, numberAt, vectorAt, longAt, modeOf, zoneOf, factOf, modeWord, zoneWord, factWord, vectorsWords, roundWords, referencesWords, pointersWords, factsWords, distanceWords, pushWords, stateWords, wordOf, stateOf, isState, written};
 
 // How many words a state is: the one place of this number in the code.
 pub const STATE_WORDS: usize = 34;
@@ -430,14 +430,57 @@ pub fn word_of(s: GraphicsState, k: usize) -> u32
     }
 }
 
+// All of them. A word whose number stands in the code is found when this is compiled.
+fn words_of(s: GraphicsState) -> [u32; STATE_WORDS]
+    ensures { λ r. ⌜ r ≡ stateWords s ⌝ }
+{
+    [
+        word_of(s, 0),
+        word_of(s, 1),
+        word_of(s, 2),
+        word_of(s, 3),
+        word_of(s, 4),
+        word_of(s, 5),
+        word_of(s, 6),
+        word_of(s, 7),
+        word_of(s, 8),
+        word_of(s, 9),
+        word_of(s, 10),
+        word_of(s, 11),
+        word_of(s, 12),
+        word_of(s, 13),
+        word_of(s, 14),
+        word_of(s, 15),
+        word_of(s, 16),
+        word_of(s, 17),
+        word_of(s, 18),
+        word_of(s, 19),
+        word_of(s, 20),
+        word_of(s, 21),
+        word_of(s, 22),
+        word_of(s, 23),
+        word_of(s, 24),
+        word_of(s, 25),
+        word_of(s, 26),
+        word_of(s, 27),
+        word_of(s, 28),
+        word_of(s, 29),
+        word_of(s, 30),
+        word_of(s, 31),
+        word_of(s, 32),
+        word_of(s, 33),
+    ]
+}
+
 // The state's words, where there is room for exactly these; else nothing changes.
 pub fn write_state(s: GraphicsState, words: &mut [u32])
     ensures { λ _. ⌜ now (words .exit) ≡ written s (now (words .entry)) ⌝ }
 {
     if words.len() == STATE_WORDS {
+        let all = words_of(s);
         let mut k = 0;
         while k < words.len() {
-            words[k] = word_of(s, k);
+            words[k] = all[k];
             k += 1;
         }
     }

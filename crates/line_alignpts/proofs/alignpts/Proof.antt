@@ -6,6 +6,7 @@ use denote.Ref.{now}
 use lib.IntN.{ℤ}
 use Rattle.int.proofs.Words.{back32}
 use Rattle.line.specs.World.{World, world}
+use Rattle.line_steps.proofs.Laws.{in-words}
 use Rattle.line_steps.specs.Steps.{into}
 use Rattle.line_alignpts.proofs.Cases.{alignpts-missing, alignpts-moved, alignpts-out}
 use Rattle.line_alignpts.proofs.alignpts.Statement.{statement}
@@ -16,7 +17,7 @@ abbrev entry : tie.Start → List ℤ → List ℤ → World
 entry s tox toy = let a = s .args in
     world (a .s) (now (a .gx)) (now (a .gy)) (now (a .gflags)) tox toy (now (a .tx)) (now (a .ty)) (now (a .tflags))
 
-abbrev moved : tie.After-slice-known4 → tie.After-move-both
+abbrev moved : tie.After-by-words → tie.After-move-both
 moved c = search
 
 abbrev told : tie.After-move-both → tie.After-known-told2
@@ -62,6 +63,9 @@ enum-known-apart-2 c = c .match .keys2
 move-both-requires : tie.Need-move-both-requires
 move-both-requires c κs = let k : tie.After-apart2 = search in indexed (fetched (k .before .before .before)) .before .before .before .before .before .pre
 
+by-words-requires : tie.Need-by-words-requires
+by-words-requires c κs = tt
+
 same-length : tie.Need-same-length
 same-length c = refl
 
@@ -99,8 +103,8 @@ same-length-10 c = moved c .move-both .kept .1 .1 .1 .1 .1 .1 .1 .1 .1 .0
 
 returns-3 : tie.Need-returns-3
 returns-3 c = let y = moved c in let n = told y in let k = n .before in let d = k .before .before in let h = d .before in let g = fetched h in let j = indexed g in let i = j .before in let s = i .before .before .before .before in
-    λ f opcode tox toy. alignpts-moved f opcode (now (s .args .operands)) (entry s tox toy) (i .before .if1 .left) (i .index-at .ensures) (j .index-at2 .ensures) (g .fetch-in .ensures) (h .fetch-in2 .ensures)
-    (d .half-apart .ensures) (k .apart2 .given .1) (back32 _ (omega (arith, n .known-told2 .given))) (y .move-both .ensures tox toy)
+    λ f opcode tox toy. in-words (c .by-words .ensures) (alignpts-moved f opcode (now (s .args .operands)) (entry s tox toy) (i .before .if1 .left) (i .index-at .ensures) (j .index-at2 .ensures) (g .fetch-in .ensures) (h .fetch-in2 .ensures)
+    (d .half-apart .ensures) (k .apart2 .given .1) (back32 _ (omega (arith, n .known-told2 .given))) (y .move-both .ensures tox toy))
 
 pub alignpts-spec : {M : Type 1} → statement M
 alignpts-spec =
@@ -117,6 +121,7 @@ alignpts-spec =
     refused-requires-2
     enum-known-apart-2
     move-both-requires
+    by-words-requires
     same-length
     same-length-2
     same-length-3

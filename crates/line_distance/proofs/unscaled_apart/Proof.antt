@@ -4,7 +4,7 @@ use borrow.Author.Needs.{needs}
 use mir.Facts.{toZ-ofZ}
 use Rattle.int.proofs.Words.{back32}
 use Rattle.math.specs.Fixed.{mulFix}
-use Rattle.projection.specs.Projection.{dualProjectOf}
+use Rattle.projection.specs.Projection.{alongOf}
 use Rattle.line_distance.specs.Outline.{unscaledApart}
 use Rattle.line_distance.proofs.unscaled_apart.Statement.{statement}
 use Rattle.line_distance.proofs.unscaled_apart.Tie as tie
@@ -15,8 +15,8 @@ place-at-requires c κs = search needs
 place-at-requires-2 : tie.Need-place-at-requires-2
 place-at-requires-2 c κs = search needs
 
-dual-project-unscaled-requires : tie.Need-dual-project-unscaled-requires
-dual-project-unscaled-requires c κs = search needs
+along-requires : tie.Need-along-requires
+along-requires c κs = search needs
 
 mul-requires : tie.Need-mul-requires
 mul-requires c κs = search needs
@@ -27,9 +27,9 @@ returns c = let p = c .before in let b = p .before in let a = b .before in let s
     back32 (c .mul .result) (c .mul .ok)
     ∙ c .mul .ensures
     ∙ ap₂ mulFix
-    (back32 (p .dual-project-unscaled .result) (p .dual-project-unscaled .ok)
-    ∙ p .dual-project-unscaled .ensures
-    ∙ ap₂ (dualProjectOf (s .args .v)) (a .place-at .ensures) (b .place-at2 .ensures))
+    (back32 (p .along .result) (p .along .ok)
+    ∙ p .along .ensures
+    ∙ ap₂ (alongOf (s .args .v)) (a .place-at .ensures) (b .place-at2 .ensures))
     (toZ-ofZ (s .fits .scale))
 
 pub unscaled-apart-spec : {M : Type 1} → statement M
@@ -38,6 +38,6 @@ unscaled-apart-spec =
     (tie.spec
     place-at-requires
     place-at-requires-2
-    dual-project-unscaled-requires
+    along-requires
     mul-requires
     returns)

@@ -3,6 +3,7 @@
 use mathlib.Core.Path.{ap, refl, sym, _∙_}
 use borrow.Author.Needs.{needs}
 use denote.Ref.{now}
+use Rattle.line_steps.proofs.Laws.{in-words}
 use Rattle.line_steps.specs.Steps.{into}
 use Rattle.line.specs.World.{world}
 use Rattle.line_flip.proofs.Cases.{too-few, none-set, range-set}
@@ -40,13 +41,16 @@ is-odd-requires c κs = search needs
 set-through-requires : tie.Need-set-through-requires
 set-through-requires c κs = search needs
 
+by-words-requires : tie.Need-by-words-requires
+by-words-requires c κs = tt
+
 same-length : tie.Need-same-length
-same-length c = search needs
+same-length c = let t : tie.After-set-through = search in t .set-through .kept .0
 
 returns-3 : tie.Need-returns-3
-returns-3 c = let t = c .before .before in let o = t .before in let l = o .before .before in let d = l .before in let p = d .before in let h = p .before in let i = h .before in let a = i .before .before .args in
-    λ f gx gy tox toy tx ty tflags. range-set f (a .opcode) (now (a .operands)) (world (a .s) gx gy (now (a .gflags)) tox toy tx ty tflags) (i .if1 .left) (h .index-at .ensures) (p .held-fast .ensures) (d .if2 .left)
-    (l .index-at2 .ensures) (o .is-odd .ensures) (t .set-through .ensures) refl
+returns-3 c = let t = c .before .before .before in let o = t .before in let l = o .before .before in let d = l .before in let p = d .before in let h = p .before in let i = h .before in let a = i .before .before .args in
+    λ f gx gy tox toy tx ty tflags. in-words (c .by-words .ensures) (range-set f (a .opcode) (now (a .operands)) (world (a .s) gx gy (now (a .gflags)) tox toy tx ty tflags) (i .if1 .left) (h .index-at .ensures) (p .held-fast .ensures) (d .if2 .left)
+    (l .index-at2 .ensures) (o .is-odd .ensures) (t .set-through .ensures) refl)
 
 pub fliprg-spec : {M : Type 1} → statement M
 fliprg-spec =
@@ -61,5 +65,6 @@ fliprg-spec =
     index-at-requires-2
     is-odd-requires
     set-through-requires
+    by-words-requires
     same-length
     returns-3)

@@ -3,6 +3,7 @@ use mathlib.Core.List.{List}
 use mathlib.Core.Path.{ap, refl}
 use denote.Ref.{now}
 use lib.IntN.{ℤ}
+use Rattle.line_steps.proofs.Laws.{in-words}
 use Rattle.line_steps.specs.Steps.{into}
 use Rattle.line.specs.World.{World, world}
 use Rattle.line_isect.proofs.Cases.{isect-missing, isect-out, isect-put}
@@ -15,7 +16,7 @@ abbrev entry : tie.Start → List ℤ → List ℤ → World
 entry s tox toy = let a = s .args in
     world (a .s) (now (a .gx)) (now (a .gy)) (now (a .gflags)) tox toy (now (a .tx)) (now (a .ty)) (now (a .tflags))
 
-abbrev putting : tie.After-slice-known4 → tie.After-put-in
+abbrev putting : tie.After-by-words → tie.After-put-in
 putting c = search
 
 abbrev told : tie.After-put-in → tie.After-met2
@@ -61,6 +62,9 @@ enum-known-met-2 c = c .match .keys2
 put-in-requires : tie.Need-put-in-requires
 put-in-requires c κs = tt
 
+by-words-requires : tie.Need-by-words-requires
+by-words-requires c κs = tt
+
 same-length : tie.Need-same-length
 same-length c = refl
 
@@ -100,10 +104,10 @@ same-length-10 c = search (putting c .put-in .kept)
 
 returns-3 : tie.Need-returns-3
 returns-3 c = let p = putting c in let m = told p in let k = m .before .before in let i4 = indexed k in let i3 = i4 .before in let i2 = i3 .before in let i1 = i2 .before in let i0 = i1 .before in let t = i0 .before in let s = t .before .before .before in
-    λ f opcode tox toy. isect-put f opcode (now (s .args .operands)) (entry s tox toy) (t .if1 .left) (i0 .index-at .ensures) (i1 .index-at2 .ensures) (i2 .index-at3 .ensures) (i3 .index-at4 .ensures) (i4 .index-at5 .ensures)
+    λ f opcode tox toy. in-words (c .by-words .ensures) (isect-put f opcode (now (s .args .operands)) (entry s tox toy) (t .if1 .left) (i0 .index-at .ensures) (i1 .index-at2 .ensures) (i2 .index-at3 .ensures) (i3 .index-at4 .ensures) (i4 .index-at5 .ensures)
     (k .meeting .ensures (s .args .s) (now (s .args .gflags)) tox toy (now (s .args .tflags)))
     (m .met2 .given .1)
-    (p .put-in .ensures)
+    (p .put-in .ensures))
 
 pub isect-spec : {M : Type 1} → statement M
 isect-spec =
@@ -121,6 +125,7 @@ isect-spec =
     refused-requires-2
     enum-known-met-2
     put-in-requires
+    by-words-requires
     same-length
     same-length-2
     same-length-3

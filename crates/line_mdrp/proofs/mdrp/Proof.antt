@@ -31,6 +31,12 @@ started i = search
 abbrev indexed : tie.After-sets-rp0 → tie.After-index-at
 indexed n = search
 
+abbrev pointed0 : tie.After-sets-rp0 → tie.After-zp0
+pointed0 n = search
+
+abbrev pointed1 : tie.After-sets-rp0 → tie.After-zp1
+pointed1 n = search
+
 abbrev setting : tie.After-size-of → tie.After-sets-rp0
 setting k = search
 
@@ -79,6 +85,12 @@ returns c = let i = c .before in let s = beginning c in
 
 index-at-requires : tie.Need-index-at-requires
 index-at-requires c κs = tt
+
+zp0-requires : tie.Need-zp0-requires
+zp0-requires c κs = tt
+
+zp1-requires : tie.Need-zp1-requires
+zp1-requires c κs = tt
 
 sets-rp0-requires : tie.Need-sets-rp0-requires
 sets-rp0-requires c κs = tt
@@ -132,6 +144,8 @@ returns-2 : tie.Need-returns-2
 returns-2 c = let t = c .before .before in let k = t .before .before in let l = looking k in let z = sizing l in let n = setting z in let i = indexed n in let s = started i in
     λ rules controls contours. mdrp-outside (held s rules controls contours) (s .args .opcode) (now (s .args .operands)) (entry s) (i .before .if1 .left)
     (i .index-at .ensures)
+    (pointed0 n .zp0 .ensures)
+    (pointed1 n .zp1 .ensures)
     (n .sets-rp0 .ensures)
     (z .size-of .ensures)
     (l .size-of2 .ensures)
@@ -162,6 +176,8 @@ returns-3 c = let a = applying c in let m = moving (a .before) in let t = steppe
     let e = o .before .before in let k = looked o in let l = looking k in let z = sizing l in let n = setting z in let i = indexed n in let s = started i in
     λ rules controls contours. mdrp-moved (held s rules controls contours) (s .args .opcode) (now (s .args .operands)) (entry s) (i .before .if1 .left)
     (i .index-at .ensures)
+    (pointed0 n .zp0 .ensures)
+    (pointed1 n .zp1 .ensures)
     (n .sets-rp0 .ensures)
     (z .size-of .ensures)
     (l .size-of2 .ensures)
@@ -186,6 +202,8 @@ mdrp-spec =
     refused-requires
     returns
     index-at-requires
+    zp0-requires
+    zp1-requires
     sets-rp0-requires
     size-of-requires
     size-of-requires-2

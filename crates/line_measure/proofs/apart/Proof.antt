@@ -17,20 +17,20 @@ enum-known-second c = c .match2 .keys1
 enum-known-second-2 : tie.Need-enum-known-second-2
 enum-known-second-2 c = c .match2 .keys2
 
-measure-requires : tie.Need-measure-requires
-measure-requires c κs = tt
+along-requires : tie.Need-along-requires
+along-requires c κs = tt
 
 returns : tie.Need-returns
 returns c = let k = c .before in let a = k .before .before .args in
-    first-out (a .original) (a .v) (a .second) (k .first .given .1)
+    first-out (a .v) (a .second) (k .first .given .1)
 
 returns-2 : tie.Need-returns-2
 returns-2 c = let k = c .before in let h = k .before .before .before in let a = h .before .before .args in
-    second-out (a .original) (a .v) (h .first2 .given .1) (k .second .given .1)
+    second-out (a .v) (h .first2 .given .1) (k .second .given .1)
 
 returns-3 : tie.Need-returns-3
 returns-3 c = let k = c .before .before in let h = k .before .before .before in let a = h .before .before .args in
-    both-there (a .original) (a .v) (h .first2 .given .1) (k .second2 .given .1) (back32 (c .measure .result) (c .measure .ok) ∙ c .measure .ensures)
+    both-there (a .v) (h .first2 .given .1) (k .second2 .given .1) (back32 (c .along .result) (c .along .ok) ∙ c .along .ensures)
 
 pub apart-spec : {M : Type 1} → statement M
 apart-spec =
@@ -40,7 +40,7 @@ apart-spec =
     enum-known-first-2
     enum-known-second
     enum-known-second-2
-    measure-requires
+    along-requires
     returns
     returns-2
     returns-3)

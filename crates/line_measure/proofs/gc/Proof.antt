@@ -28,11 +28,17 @@ started i = search
 abbrev indexed : tie.After-is-odd → tie.After-index-at
 indexed o = search
 
-abbrev asked : tie.After-look-up → tie.After-is-odd
-asked l = search
+abbrev pointed : tie.After-look-up → tie.After-zp2
+pointed l = search
 
-abbrev looked : tie.After-apart → tie.After-look-up
-looked d = search
+abbrev asked : tie.After-zp2 → tie.After-is-odd
+asked z = search
+
+abbrev looked : tie.After-vector-for → tie.After-look-up
+looked v = search
+
+abbrev along : tie.After-apart → tie.After-vector-for
+along d = search
 
 abbrev measured : tie.After-settle-measured → tie.After-apart
 measured c = search
@@ -51,8 +57,14 @@ index-at-requires c κs = tt
 is-odd-requires : tie.Need-is-odd-requires
 is-odd-requires c κs = tt
 
+zp2-requires : tie.Need-zp2-requires
+zp2-requires c κs = tt
+
 look-up-requires : tie.Need-look-up-requires
 look-up-requires c κs = search
+
+vector-for-requires : tie.Need-vector-for-requires
+vector-for-requires c κs = tt
 
 apart-requires : tie.Need-apart-requires
 apart-requires c κs = tt
@@ -61,11 +73,13 @@ settle-measured-requires : tie.Need-settle-measured-requires
 settle-measured-requires c κs = tt
 
 returns-2 : tie.Need-returns-2
-returns-2 c = let d = measured c in let l = looked d in let o = asked l in let i = indexed o in let s = started i in
+returns-2 c = let d = measured c in let v = along d in let l = looked v in let z = pointed l in let o = asked z in let i = indexed o in let s = started i in
     λ rules controls gux guy contours gflags tflags. gc-found (held s rules controls gux guy contours) (s .args .opcode) (now (s .args .operands)) (entry s gflags tflags) (i .before .if1 .left)
     (i .index-at .ensures)
     (o .is-odd .ensures)
+    (z .zp2 .ensures)
     (l .look-up .ensures)
+    (v .vector-for .ensures)
     (d .apart .ensures)
     (c .settle-measured .ensures (entry s gflags tflags))
 
@@ -77,7 +91,9 @@ gc-spec =
     returns
     index-at-requires
     is-odd-requires
+    zp2-requires
     look-up-requires
+    vector-for-requires
     apart-requires
     settle-measured-requires
     returns-2)

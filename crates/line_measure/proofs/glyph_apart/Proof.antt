@@ -13,21 +13,21 @@ is-inside-requires c κs = tt
 is-inside-requires-2 : tie.Need-is-inside-requires-2
 is-inside-requires-2 c κs = tt
 
-outline-apart-requires : tie.Need-outline-apart-requires
-outline-apart-requires c κs = tt
+unscaled-apart-requires : tie.Need-unscaled-apart-requires
+unscaled-apart-requires c κs = tt
 
 returns : tie.Need-returns
 returns c = let i = c .before in let l = i .before in let k = l .before in let s = k .before in let a = s .args in
-    glyph-measured (a .pedantic) (a .v) (a .scale) (a .p) (a .a) (a .q) (a .b) (now (a .gux)) (now (a .guy)) (now (a .gox)) (now (a .goy)) (now (a .tox)) (now (a .toy))
+    glyph-measured (a .pedantic) (a .v) (a .scale) (a .a) (a .b) (now (a .gux)) (now (a .guy))
     (k .is-inside .ensures)
     (l .is-inside2 .ensures)
     (i .if1 .taken)
     (toZ-ofZ (s .fits .scale))
-    (back32 (c .outline-apart .result) (c .outline-apart .ok) ∙ c .outline-apart .ensures)
+    (back32 (c .unscaled-apart .result) (c .unscaled-apart .ok) ∙ c .unscaled-apart .ensures)
 
 returns-2 : tie.Need-returns-2
 returns-2 c = let i = c in let l = i .before in let k = l .before in let a = k .before .args in
-    glyph-outside (a .pedantic) (a .v) (a .scale) (a .p) (a .a) (a .q) (a .b) (now (a .gux)) (now (a .guy)) (now (a .gox)) (now (a .goy)) (now (a .tox)) (now (a .toy))
+    glyph-outside (a .pedantic) (a .v) (a .scale) (a .a) (a .b) (now (a .gux)) (now (a .guy))
     (k .is-inside .ensures)
     (l .is-inside2 .ensures)
     (i .if1 .left)
@@ -35,4 +35,4 @@ returns-2 c = let i = c in let l = i .before in let k = l .before in let a = k .
 pub glyph-apart-spec : {M : Type 1} → statement M
 glyph-apart-spec =
     tie.close
-    (tie.spec is-inside-requires is-inside-requires-2 outline-apart-requires returns returns-2)
+    (tie.spec is-inside-requires is-inside-requires-2 unscaled-apart-requires returns returns-2)

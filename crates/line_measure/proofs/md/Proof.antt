@@ -34,6 +34,12 @@ first j = search
 abbrev indexed : tie.After-is-odd → tie.After-index-at2
 indexed o = search
 
+abbrev pointed0 : tie.After-is-twilight → tie.After-zp0
+pointed0 t = search
+
+abbrev pointed1 : tie.After-is-twilight → tie.After-zp1
+pointed1 t = search
+
 abbrev asked : tie.After-is-twilight → tie.After-is-odd
 asked t = search
 
@@ -46,8 +52,11 @@ twilit l = search
 abbrev one : tie.After-look-up2 → tie.After-look-up
 one l = search
 
-abbrev both : tie.After-apart → tie.After-look-up2
-both d = search
+abbrev both : tie.After-vector-for → tie.After-look-up2
+both v = search
+
+abbrev along : tie.After-apart → tie.After-vector-for
+along d = search
 
 abbrev measured : tie.After-settle-measured → tie.After-apart
 measured c = search
@@ -72,6 +81,12 @@ index-at-requires-2 c κs = tt
 is-odd-requires : tie.Need-is-odd-requires
 is-odd-requires c κs = tt
 
+zp0-requires : tie.Need-zp0-requires
+zp0-requires c κs = tt
+
+zp1-requires : tie.Need-zp1-requires
+zp1-requires c κs = tt
+
 is-twilight-requires : tie.Need-is-twilight-requires
 is-twilight-requires c κs = tt
 
@@ -83,6 +98,9 @@ look-up-requires c κs = search
 
 look-up-requires-2 : tie.Need-look-up-requires-2
 look-up-requires-2 c κs = search
+
+vector-for-requires : tie.Need-vector-for-requires
+vector-for-requires c κs = tt
 
 apart-requires : tie.Need-apart-requires
 apart-requires c κs = tt
@@ -100,16 +118,19 @@ done-requires : tie.Need-done-requires
 done-requires c κs = tt
 
 returns-2 : tie.Need-returns-2
-returns-2 c = let d = measured c in let m = both d in let l = one m in let u = twilit l in let t = seen u in let o = asked t in let j = indexed o in let i = first j in let s = started i in
+returns-2 c = let d = measured c in let v = along d in let m = both v in let l = one m in let u = twilit l in let t = seen u in let o = asked t in let j = indexed o in let i = first j in let s = started i in
     λ rules controls contours gflags tflags. md-found (held s rules controls contours) (s .args .opcode) (now (s .args .operands)) (entry s gflags tflags) (i .before .if1 .left)
     (i .index-at .ensures)
     (j .index-at2 .ensures)
     (o .is-odd .ensures)
+    (pointed0 t .zp0 .ensures)
+    (pointed1 t .zp1 .ensures)
     (t .is-twilight .ensures)
     (u .is-twilight2 .ensures)
     (l .before .if2 .taken)
     (l .look-up .ensures)
     (m .look-up2 .ensures)
+    (v .vector-for .ensures)
     (d .apart .ensures)
     (c .settle-measured .ensures (entry s gflags tflags))
 
@@ -119,6 +140,8 @@ returns-3 c = let h = c .before in let g = h .before in let u = scaled g in let 
     (i .index-at .ensures)
     (j .index-at2 .ensures)
     (o .is-odd .ensures)
+    (pointed0 t .zp0 .ensures)
+    (pointed1 t .zp1 .ensures)
     (t .is-twilight .ensures)
     (u .is-twilight2 .ensures)
     (g .before .before .if2 .left)
@@ -135,10 +158,13 @@ md-spec =
     index-at-requires
     index-at-requires-2
     is-odd-requires
+    zp0-requires
+    zp1-requires
     is-twilight-requires
     is-twilight-requires-2
     look-up-requires
     look-up-requires-2
+    vector-for-requires
     apart-requires
     settle-measured-requires
     glyph-apart-requires

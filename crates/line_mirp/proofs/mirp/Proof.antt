@@ -31,6 +31,12 @@ started i = search
 abbrev indexed : tie.After-sets-rp0 → tie.After-index-at
 indexed n = search
 
+abbrev pointed0 : tie.After-sets-rp0 → tie.After-zp0
+pointed0 n = search
+
+abbrev pointed1 : tie.After-sets-rp0 → tie.After-zp1
+pointed1 n = search
+
 abbrev looked : tie.After-make-in → tie.After-mirp-found
 looked m = search
 
@@ -78,6 +84,12 @@ next-at-requires c κs = tt
 
 index-at-requires : tie.Need-index-at-requires
 index-at-requires c κs = tt
+
+zp0-requires : tie.Need-zp0-requires
+zp0-requires c κs = tt
+
+zp1-requires : tie.Need-zp1-requires
+zp1-requires c κs = tt
 
 sets-rp0-requires : tie.Need-sets-rp0-requires
 sets-rp0-requires c κs = tt
@@ -128,6 +140,8 @@ returns-2 c = let t = c .before .before in let k = t .before .before in let n = 
     λ rules gux guy contours. mirp-outside (held s rules gux guy contours) (s .args .opcode) (now (s .args .operands)) (entry s) (x .before .if1 .left)
     (x .next-at .ensures)
     (i .index-at .ensures)
+    (pointed0 n .zp0 .ensures)
+    (pointed1 n .zp1 .ensures)
     (n .sets-rp0 .ensures)
     (k .mirp-found .ensures)
     (t .found .given .1)
@@ -165,6 +179,8 @@ returns-3 c = let a = applying c in let m = moving (a .before) in let t = steppi
     λ rules gux guy contours. mirp-moved (held s rules gux guy contours) (s .args .opcode) (now (s .args .operands)) (entry s) (x .before .if1 .left)
     (x .next-at .ensures)
     (i .index-at .ensures)
+    (pointed0 n .zp0 .ensures)
+    (pointed1 n .zp1 .ensures)
     (n .sets-rp0 .ensures)
     (k .mirp-found .ensures)
     (madeWorld y)
@@ -189,6 +205,8 @@ mirp-spec =
     returns
     next-at-requires
     index-at-requires
+    zp0-requires
+    zp1-requires
     sets-rp0-requires
     mirp-found-requires
     enum-known-found

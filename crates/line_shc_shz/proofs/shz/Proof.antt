@@ -1,11 +1,19 @@
 -- `line_shc_shz::shz` meets its contract: by whether there is an operand and whether it names a zone; then the span is what `shift_span_of` ensures, in
 -- any world that holds the lists lent. Assumes nothing.
+use Prim.Native.Nat.{ℕ}
 use mathlib.Core.Bool.{false}
 use mathlib.Core.List.{List}
-use mathlib.Core.Path.{ap}
+use mathlib.Core.Path.{ap, _∙_}
 use denote.Ref.{now}
 use lib.IntN.{ℤ}
+use Rattle.graphics.specs.declared.ZonePointer.{ZonePointer}
+use Rattle.line.specs.Places.{sizeOf}
 use Rattle.line_span.proofs.Bridge.{span-is}
+use Rattle.line_span.specs.Steps.{spanOf}
+use Rattle.line_steps.proofs.Bridge.{zonesOf}
+use Rattle.line_steps.specs.Loop.{Ended, Zones}
+use Rattle.moves.specs.declared.Reference.{Reference}
+use Rattle.line_steps.proofs.Laws.{in-words}
 use Rattle.line_steps.specs.Steps.{into}
 use Rattle.rules.specs.declared.Rules.{Rules}
 use Rattle.line.specs.World.{Fixed, World, fixed, world}
@@ -20,7 +28,15 @@ lent b rules controls gux guy = let a = b .args in fixed rules controls gux guy 
 abbrev entry : tie.Start → World
 entry b = let a = b .args in world (a .s) (now (a .gx)) (now (a .gy)) (now (a .gflags)) (now (a .tox)) (now (a .toy)) (now (a .tx)) (now (a .ty)) (now (a .tflags))
 
+-- the span that is shifted, by the zone that it lies in
+abbrev spanIn : tie.Start → Reference → ℕ → ℕ → ZonePointer → Ended Zones
+spanIn b p start end zone = let a = b .args in
+    spanOf (a .s .vectors) (a .s .facts) zone p false start end (now (a .gox)) (now (a .goy)) (now (a .tox)) (now (a .toy)) (zonesOf (entry b))
+
 -- ---- places of the walk, found by their types
+abbrev pointed : tie.After-point-after → tie.After-zp2
+pointed a = search
+
 abbrev started : tie.After-index-at → tie.Start
 started i = search
 
@@ -30,7 +46,7 @@ indexed t = search
 abbrev referring : tie.After-shift-span-of → tie.After-reference-of
 referring t = search
 
-abbrev shifted : tie.After-slice-known4 → tie.After-shift-span-of
+abbrev shifted : tie.After-by-words → tie.After-shift-span-of
 shifted c = search
 
 refused-requires : tie.Need-refused-requires
@@ -50,6 +66,9 @@ returns-2 : tie.Need-returns-2
 returns-2 c = let i = c .before .before in let b = started i in
     λ rules controls gux guy. no-such-zone (lent b rules controls gux guy) (b .args .opcode) (now (b .args .operands)) (entry b) (i .before .if1 .left) (i .index-at .ensures) (c .before .if2 .taken) (ap (into (entry b)) (c .refused2 .ensures))
 
+zp2-requires : tie.Need-zp2-requires
+zp2-requires c κs = tt
+
 point-after-requires : tie.Need-point-after-requires
 point-after-requires c κs = tt
 
@@ -61,6 +80,9 @@ reference-of-requires c κs = tt
 
 shift-span-of-requires : tie.Need-shift-span-of-requires
 shift-span-of-requires c κs = let b : tie.Start = search in b .pre
+
+by-words-requires : tie.Need-by-words-requires
+by-words-requires c κs = tt
 
 same-length : tie.Need-same-length
 same-length c = search (shifted c .shift-span-of .kept)
@@ -82,8 +104,8 @@ same-length-6 c = search (shifted c .shift-span-of .kept)
 
 returns-3 : tie.Need-returns-3
 returns-3 c = let t = shifted c in let p = referring t in let e = p .before in let a = e .before in let i = indexed t in let b = started i in
-    λ rules controls gux guy. zone-shifted (lent b rules controls gux guy) (b .args .opcode) (now (b .args .operands)) (entry b) (i .before .if1 .left) (i .index-at .ensures) (a .before .before .if2 .left) (a .point-after .ensures) (e .size-of .ensures)
-    (span-is (lent b rules controls gux guy) (b .args .opcode) false 0 (e .size-of .result) (entry b) (p .reference-of .ensures) (t .shift-span-of .ensures))
+    λ rules controls gux guy. in-words (c .by-words .ensures) (zone-shifted (lent b rules controls gux guy) (b .args .opcode) (now (b .args .operands)) (entry b) (i .before .if1 .left) (i .index-at .ensures) (pointed a .before .if2 .left) (a .point-after .ensures) (e .size-of .ensures ∙ ap (sizeOf _ _) (pointed a .zp2 .ensures))
+    (span-is (lent b rules controls gux guy) (b .args .opcode) false 0 (e .size-of .result) (entry b) (p .reference-of .ensures) (t .shift-span-of .ensures ∙ ap (spanIn b (p .reference-of .result) 0 (e .size-of .result)) (pointed a .zp2 .ensures))))
 
 pub shz-spec : {M : Type 1} → statement M
 shz-spec =
@@ -94,10 +116,12 @@ shz-spec =
     index-at-requires
     refused-requires-2
     returns-2
+    zp2-requires
     point-after-requires
     size-of-requires
     reference-of-requires
     shift-span-of-requires
+    by-words-requires
     same-length
     same-length-2
     same-length-3

@@ -1,12 +1,13 @@
 -- `line_shift::shp` meets its contract: by whether the reference point is refused; else the loop is what `shift_in` ensures. Assumes nothing.
 use Prim.Native.Nat.{ℕ}
 use mathlib.Core.List.{List}
-use mathlib.Core.Path.{ap, refl}
+use mathlib.Core.Path.{ap, refl, _∙_}
 use native.Mathlib.Omega.{arith}
 use denote.Ref.{now}
 use lib.IntN.{ℤ}
 use Rattle.graphics.specs.declared.GraphicsState.{GraphicsState}
 use Rattle.int.proofs.Words.{back32}
+use Rattle.line_steps.specs.Loop.{inZone}
 use Rattle.line_steps.specs.Steps.{into}
 use Rattle.rules.specs.declared.Rules.{Rules}
 use Rattle.line.specs.World.{Fixed, World, fixed, world}
@@ -23,7 +24,7 @@ abbrev held : tie.Start → Rules → List ℤ → List ℤ → List ℤ → Lis
 held s rules controls gux guy contours = fixed rules controls gux guy (now (s .args .gox)) (now (s .args .goy)) contours
 
 -- ---- places of the walk, found by their types
-abbrev shifted : tie.After-reset-loop-counter → tie.After-shift-in
+abbrev shifted : tie.After-by-words → tie.After-shift-in
 shifted c = search
 
 abbrev moving : tie.After-shift-in → tie.After-zp2-move-of
@@ -35,8 +36,14 @@ displacing m = search
 abbrev referred : tie.After-displaced → tie.After-reference-of
 referred x = search
 
+abbrev pointed : tie.After-reference-of → tie.After-zp2
+pointed r = search
+
 abbrev started : tie.After-reference-of → tie.Start
 started r = search
+
+zp2-requires : tie.Need-zp2-requires
+zp2-requires c κs = tt
 
 reference-of-requires : tie.Need-reference-of-requires
 reference-of-requires c κs = tt
@@ -61,6 +68,9 @@ shift-in-requires c κs = let m : tie.After-zp2-move-of = search in let p = star
 
 reset-loop-counter-requires : tie.Need-reset-loop-counter-requires
 reset-loop-counter-requires c κs = tt
+
+by-words-requires : tie.Need-by-words-requires
+by-words-requires c κs = tt
 
 same-length : tie.Need-same-length
 same-length c = refl
@@ -104,13 +114,14 @@ returns-2 c = let t = shifted c in let m = moving t in let f = m .before .before
     (m .zp2-move-of .ensures)
     (back32 _ (omega (arith, m .before .before .struct-told .given .1 .1 .0)))
     (back32 _ (omega (arith, m .before .struct-told2 .given .1 .1 .1 .0)))
-    (ap (λ (s : GraphicsState). record { call = t .shift-in .result; state = s }) (c .reset-loop-counter .ensures))
-    (t .shift-in .ensures)
+    (ap (λ (s : GraphicsState). record { call = t .shift-in .result; state = s }) (c .by-words .ensures ∙ c .before .reset-loop-counter .ensures))
+    (t .shift-in .ensures ∙ ap (inZone _ _) (pointed r .zp2 .ensures))
 
 pub shp-spec : {M : Type 1} → statement M
 shp-spec =
     tie.close
     (tie.spec
+    zp2-requires
     reference-of-requires
     displaced-requires
     enum-known-by
@@ -119,6 +130,7 @@ shp-spec =
     zp2-move-of-requires
     shift-in-requires
     reset-loop-counter-requires
+    by-words-requires
     same-length
     same-length-2
     same-length-3

@@ -8,6 +8,7 @@ use denote.Ref.{now}
 use lib.IntN.{ℤ}
 use Rattle.graphics.specs.declared.GraphicsState.{GraphicsState}
 use Rattle.int.proofs.Words.{back32}
+use Rattle.line_steps.specs.Loop.{inZone}
 use Rattle.line_steps.specs.Steps.{into}
 use Rattle.line.specs.World.{World, world}
 use Rattle.line_shift.proofs.Cases.{amount-first, compatible, no-amount}
@@ -20,14 +21,20 @@ entry s tox toy = let a = s .args in
     world (a .s) (now (a .gx)) (now (a .gy)) (now (a .gflags)) tox toy (now (a .tx)) (now (a .ty)) (now (a .tflags))
 
 -- ---- places of the walk, found by their types
-abbrev shifted : tie.After-reset-loop-counter → tie.After-shift-in
+abbrev shifted : tie.After-by-words → tie.After-shift-in
 shifted c = search
 
 abbrev moving : tie.After-shift-in → tie.After-pixel-move
 moving t = search
 
+abbrev pointed : tie.Else1 → tie.After-zp2
+pointed i = search
+
 abbrev started : tie.Else1 → tie.Start
 started i = search
+
+zp2-requires : tie.Need-zp2-requires
+zp2-requires c κs = tt
 
 refused-requires : tie.Need-refused-requires
 refused-requires c κs = tt
@@ -64,6 +71,9 @@ shift-in-requires c κs = search needs
 reset-loop-counter-requires : tie.Need-reset-loop-counter-requires
 reset-loop-counter-requires c κs = tt
 
+by-words-requires : tie.Need-by-words-requires
+by-words-requires c κs = tt
+
 same-length : tie.Need-same-length
 same-length c = search (shifted c .shift-in .kept)
 
@@ -87,13 +97,14 @@ returns-3 c = let t = shifted c in let m = moving t in let j = m .before .before
     λ f opcode tox toy. amount-first f opcode (now (s .args .operands)) (entry s tox toy) (i .if1 .left) (omega (arith, j .if2 .left))
     (m .pixel-move .ensures)
     (back32 _ (m .before .pixel-move-arg .given))
-    (ap (λ (s : GraphicsState). record { call = t .shift-in .result; state = s }) (c .reset-loop-counter .ensures))
-    (t .shift-in .ensures)
+    (ap (λ (s : GraphicsState). record { call = t .shift-in .result; state = s }) (c .by-words .ensures ∙ c .before .reset-loop-counter .ensures))
+    (t .shift-in .ensures ∙ ap (inZone _ _) (pointed i .zp2 .ensures))
 
 pub shpix-spec : {M : Type 1} → statement M
 shpix-spec =
     tie.close
     (tie.spec
+    zp2-requires
     refused-requires
     returns
     refused-requires-2
@@ -105,6 +116,7 @@ shpix-spec =
     part-shift-in-end
     shift-in-requires
     reset-loop-counter-requires
+    by-words-requires
     same-length
     same-length-2
     same-length-3

@@ -15,10 +15,10 @@ returns : tie.Need-returns
 returns c = let a = c .before .args in shift-out (a .m) (a .at) (now (a .xs)) (now (a .ys)) (c .if1 .taken)
 
 move-at-requires : tie.Need-move-at-requires
-move-at-requires c κs = tt
+move-at-requires c κs = let e : tie.Else1 = search in e .if1 .left
 
 move-at-requires-2 : tie.Need-move-at-requires-2
-move-at-requires-2 c κs = tt
+move-at-requires-2 c κs = let s : tie.Start = search in let e : tie.Else1 = search in omega (arith, e .if1 .left, s .pre)
 
 same-length : tie.Need-same-length
 same-length c = c .before .before .before .before .before .move-at .kept .0

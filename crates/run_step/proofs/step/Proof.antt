@@ -34,6 +34,9 @@ decode-requires c κs = search needs
 enum-known-line : tie.Need-enum-known-line
 enum-known-line c = search needs
 
+by-words-requires : tie.Need-by-words-requires
+by-words-requires c κs = tt
+
 enum-known-line-2 : tie.Need-enum-known-line-2
 enum-known-line-2 c = search needs
 
@@ -60,8 +63,8 @@ land-requires : tie.Need-land-requires
 land-requires c κs = search needs
 
 returns : tie.Need-returns
-returns c = let l = c .before in let k : tie.After-decode = search in let s = started k in
-    not-read (held s) (now (s .args .sheet)) (s .args .at) (entry s) (sym (k .decode .ensures) ∙ l .line .given .1)
+returns c = let l : tie.After-line = search in let k : tie.After-decode = search in let s = started k in
+    not-read (held s) (now (s .args .sheet)) (s .args .at) (entry s) (c .by-words .ensures) (sym (k .decode .ensures) ∙ l .line .given .1)
 
 same-length : tie.Need-same-length
 same-length c = search (performing c .perform .kept)
@@ -97,6 +100,7 @@ step-spec =
     (tie.spec
     decode-requires
     enum-known-line
+    by-words-requires
     enum-known-line-2
     mul-perform
     sub-perform
