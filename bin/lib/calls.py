@@ -114,6 +114,25 @@ def read(name, what, most):
         raise Bad(f"{'standard input' if name == '-' else name}: {bad.strerror}") from None
 
 
+def blocks(name, what, most):
+    """A file, or standard input for '-', by the block as it arrives."""
+    if not name:
+        raise Bad(f"the name of the {what} is empty")
+    try:
+        place = 0 if name == "-" else os.open(name, os.O_RDONLY | os.O_CLOEXEC)
+        try:
+            while True:
+                part = os.read(place, most)
+                if not part:
+                    return
+                yield part
+        finally:
+            if place:
+                os.close(place)
+    except OSError as bad:
+        raise Bad(f"{'standard input' if name == '-' else name}: {bad.strerror}") from None
+
+
 def write_all(place, data):
     while data:
         data = data[os.write(place, data) :]

@@ -1,4 +1,5 @@
 """The proved programs: those of release/ where its sums are right, else proved and built here; and what they say of a record."""
+import contextlib
 import functools
 import hashlib
 import os
@@ -18,6 +19,9 @@ TARGET = ROOT / "target"
 LOADER = "/lib64/ld-linux-x86-64.so.2"
 # the program that replays a record, and the one that replays many, each in a frame: its length in four bytes, the low one first, and the record
 ONE, MANY = "replay_record", "replay_records"
+# the one that feeds the sheet behind such a frame, as it arrives
+FEED = "feed_sheet"
+BLOCK = 1 << 16
 FRAME_BYTES = 4
 
 
@@ -85,21 +89,51 @@ def outlined(data, rules):
     return outline.whole(data, run("outline_record", data, rules))
 
 
+def fed(data, blocks, rules):
+    """The four numbers of the answer to a record that a sheet's blocks are fed to, and all that is printed. A block is sent when it is there; none after a
+    refusal, which ends the program."""
+    with starting(FEED):
+        running = subprocess.Popen(command(FEED) + [rules], stdin=subprocess.PIPE, stdout=subprocess.PIPE, stderr=subprocess.PIPE, env=environment())
+    try:
+        write_all(running.stdin.fileno(), framed(data))
+        for block in blocks:
+            write_all(running.stdin.fileno(), block)
+    except BrokenPipeError:
+        pass
+    except BaseException:
+        running.kill()
+        running.communicate()
+        raise
+    printed = whole_output(FEED, running, *running.communicate())
+    return record.answer_in(data, printed), printed
+
+
 def run(name, data, rules):
     """What a program writes on a record. A name of rules that it doesn't know it tells on standard error."""
-    path, words = program(name), command(name) + [rules]
-    shown = path.relative_to(ROOT)
+    with starting(name):
+        ran = subprocess.run(command(name) + [rules], input=data, stdout=subprocess.PIPE, stderr=subprocess.PIPE, env=environment())
+    return whole_output(name, ran, ran.stdout, ran.stderr)
+
+
+@contextlib.contextmanager
+def starting(name):
+    shown = program(name).relative_to(ROOT)
     try:
-        ran = subprocess.run(words, input=data, stdout=subprocess.PIPE, stderr=subprocess.PIPE, env=environment())
+        yield
     except OSError as bad:
         raise Bad(f"{shown} can't be started: {bad.strerror}") from None
-    said = ran.stderr.decode(errors="replace").strip()
+
+
+def whole_output(name, ran, output, errors):
+    """What a program wrote that has ended, once it is seen that nothing went wrong."""
+    shown = program(name).relative_to(ROOT)
+    said = errors.decode(errors="replace").strip()
     if ran.returncode < 0:
         stack = "; it needs a stack of 512 KiB (ulimit -s)" if ran.returncode == -signal.SIGSEGV else ""
         raise Bad(f"{shown} was ended by {signal.Signals(-ran.returncode).name}{stack}")
     if ran.returncode or said:
         raise Bad(f"{shown} ended with status {ran.returncode}{': ' if said else ''}{said}")
-    return ran.stdout
+    return output
 
 
 @functools.lru_cache(None)

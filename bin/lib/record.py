@@ -37,6 +37,7 @@ MEANINGS = {
     15: "the record is refused: its sum is not that of its words, so something in it has changed",
     16: "the record is refused: its length, its trailer or a word is out of range, so this is no record of edition 1, 2 or 3, or it is damaged",
     17: "the record is refused: it has more than 24 KiB",
+    18: "a line of more than 4,096 operands, which a feed doesn't wait for",
 }
 
 PRINT = re.compile(rb"(\d+) (\d+) (\d+) (\d+)\n((?:-?\d+ -?\d+ \d+\n)*)")
@@ -145,6 +146,19 @@ def explained(answer, data):
         return meaning(number)
     where = bad_end(data) if number == ENDS else f"at word {place} of the sheet, after {lines} lines"
     return f"{meaning(number)} ({where})"
+
+
+def is_cut(answer, data):
+    """Whether it is the sheet that was refused with 16, and not the record."""
+    try:
+        from_bytes(data)
+    except Refused:
+        return False
+    return answer[0] == 16
+
+
+def cut_within(size):
+    return f"16: the sheet ends within a word: it has {size} bytes, which is no multiple of 4"
 
 
 # ---- what a program wrote, held to the record: a program has no exit status, and a write of its may be cut short

@@ -8,7 +8,7 @@ from . import programs
 from .calls import Bad
 from .programs import RELEASE, TARGET
 
-PROGRAMS = ["outline_record", "replay_record", "replay_records", "write_record"]
+PROGRAMS = ["feed_sheet", "outline_record", "replay_record", "replay_records", "write_record"]
 LIBRARY = "exports"
 SUMS = """\
 # Built from the proved sources by bin/release. `sha256sum -c SUMS` in this folder holds each file to its sum.

@@ -94,26 +94,30 @@ few-points rules most bytes out = by-verdict (openOf bytes) refl
 
 -- ---- the text
 -- TEXT_ROOM
-abbrev textRoom : ℕ
+abbrev pub textRoom : ℕ
 textRoom = 24576
 
-module _ (rules : Rules) (bytes : List ℕ) {r : Replayed} {out : List ℕ} (e : shelved r out ≡ shelfWithin rules room bytes blank) where
-  pub lines-few : length (glyphLines out (r .layout)) ≤ 24416
-  lines-few =
-      let few : r .layout .points ≤ 872 = subst (λ (s : Shelved). s .said .layout .points ≤ 872) (sym e) (few-points rules room bytes blank) in
-      omega (arith, few, glyph-most out (r .layout))
+-- the answer's line and the points' are the whole of a text
+pub text-put : (r : Replayed) (out t : List ℕ) {n m : ℕ} {l₀ l₁ l₂ : List ℕ} → answerLine r ++ glyphLines out (r .layout) ≡ t → r .layout .points ≤ 872
+    → Put (answerLine r) 0 n l₀ l₁ → Put (glyphLines out (r .layout)) n m l₁ l₂ → length (answerLine r) ≤ 74 → length l₀ ≡ textRoom
+    → (m ≡ length t) × (Front m l₂ × (l₂ ≡ t ++ drop m l₀))
+text-put r out t {n} {m} {l₀} {l₁} {l₂} same few p q a h =
+    let whole : Put t 0 m l₀ l₂ = subst (λ (s : List ℕ). Put s 0 m l₀ l₂) same (put-join p q) in
+    let long : m ≡ length t = omega (arith, whole .behind) in
+    let roomy : m ≤ textRoom = omega (arith, long, ap length same, length-append (answerLine r) (glyphLines out (r .layout)), few, glyph-most out (r .layout), a) in
+    let within : m ≤ length l₂ = omega (arith, roomy, h, ap length (whole .there), length-sets l₀ 0 t) in (
+      long,
+      ((within, sym (length-take-le m l₂ within)), whole .there ∙ sets-eq t l₀ 0 (omega (arith, long, roomy, h)) ∙ ap (λ (k : ℕ). t ++ drop k l₀) (sym (whole .behind))),
+    )
 
-  -- the answer's line and the points' are the whole text
+module _ (rules : Rules) (bytes : List ℕ) {r : Replayed} {out : List ℕ} (e : shelved r out ≡ shelfWithin rules room bytes blank) where
+  few : r .layout .points ≤ 872
+  few = subst (λ (s : Shelved). s .said .layout .points ≤ 872) (sym e) (few-points rules room bytes blank)
+
+  pub lines-few : length (glyphLines out (r .layout)) ≤ 24416
+  lines-few = omega (arith, few, glyph-most out (r .layout))
+
   pub printed : {n m : ℕ} {l₀ l₁ l₂ : List ℕ} → Put (answerLine r) 0 n l₀ l₁ → Put (glyphLines out (r .layout)) n m l₁ l₂ → length (answerLine r) ≤ 74 → length l₀ ≡ textRoom
       → (m ≡ length (printOf rules bytes)) × (Front m l₂ × (l₂ ≡ printOf rules bytes ++ drop m l₀))
   unfolding printOf textOf
-  printed {n} {m} {l₀} {l₁} {l₂} p q a t =
-      let few = lines-few in
-      let same : answerLine r ++ glyphLines out (r .layout) ≡ printOf rules bytes = ap textOf e in
-      let whole : Put (printOf rules bytes) 0 m l₀ l₂ = subst (λ (s : List ℕ). Put s 0 m l₀ l₂) same (put-join p q) in
-      let long : m ≡ length (printOf rules bytes) = omega (arith, whole .behind) in
-      let roomy : m ≤ textRoom = omega (arith, long, ap length same, length-append (answerLine r) (glyphLines out (r .layout))) in
-      let within : m ≤ length l₂ = omega (arith, roomy, t, ap length (whole .there), length-sets l₀ 0 (printOf rules bytes)) in (
-        long,
-        ((within, sym (length-take-le m l₂ within)), whole .there ∙ sets-eq (printOf rules bytes) l₀ 0 (omega (arith, long, roomy, t)) ∙ ap (λ (k : ℕ). printOf rules bytes ++ drop k l₀) (sym (whole .behind))),
-      )
+  printed p q a t = text-put r out (printOf rules bytes) (ap textOf e) few p q a t

@@ -30,7 +30,7 @@ ghost use Rattle.record_print.specs.Steps.{endedBy, Put};
 pub const TEXT_ROOM: usize = 24576;
 
 // 24 KiB, and the eight words of the state that a record of edition 1 gains.
-const RECORD_ROOM: usize = 24608;
+pub const RECORD_ROOM: usize = 24608;
 
 // ---- a number
 // Below, `at` is the place where a piece of the text begins, and the answer the place behind it.
@@ -121,7 +121,7 @@ fn put_point(out: &[u8], l: Layout, i: usize, text: &mut [u8], at: usize) -> usi
 }
 
 // ---- a text
-fn put_points(out: &[u8], l: Layout, text: &mut [u8], at: usize) -> usize
+pub fn put_points(out: &[u8], l: Layout, text: &mut [u8], at: usize) -> usize
     requires { ⌜ at + length (glyphLines (now out) l) ≤ length (now text) ⌝ }
     ensures { λ r. ⌜ Put (glyphLines (now (out .entry)) l) at r (now (text .entry)) (now (text .exit)) ⌝ }
 {

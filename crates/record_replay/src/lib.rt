@@ -42,11 +42,11 @@ ghost use Rattle.record_run.specs.After.{shelved, shelvedFor};
 ghost use Rattle.record_replay.specs.Shelf.{refusedAs, shelfOf, shelfWithin};
 
 // No list of a record is longer than the words between its state and its trailer; a glyph point takes seven of these words, a twilight point five.
-const LIST_ROOM: usize = 6110;
+pub const LIST_ROOM: usize = 6110;
 
-const POINT_ROOM: usize = 872;
+pub const POINT_ROOM: usize = 872;
 
-const TWILIGHT_ROOM: usize = 1222;
+pub const TWILIGHT_ROOM: usize = 1222;
 
 // The layout of the newest edition, with the counts of another's.
 fn renew(l: Layout) -> Layout
@@ -160,7 +160,8 @@ fn replay_whole(rules: Rules, most: usize, bytes: &[u8], l: Layout, out: &mut [u
     )
 }
 
-fn refuse(number: u32) -> Replayed
+// A byte string that is no record.
+pub fn refuse(number: u32) -> Replayed
     ensures { λ r. ⌜ r ≡ refusedAs number ⌝ }
 {
     let layout = lay_out(0, 0, 0, 0, 0);
