@@ -19,11 +19,9 @@ use Rattle.line.specs.World.{Fixed, World}
 use Rattle.run_step.specs.Step.{stepOf}
 use Rattle.run_lines.specs.Onward.{Ran, ran, replayOf}
 use Rattle.run_lines.specs.declared.Answer.{Answer}
-use Rattle.run_lines.specs.declared.Answer.the-variants.{Finished, OutOfBudget}
-use Rattle.run_lines.specs.declared.Answer.the-variants.{Refused as RefusedRun}
 use Rattle.run_lines.specs.declared.Outcome.{Outcome}
 use Rattle.feed_look.specs.Look.{lookOf, mostLine}
-use Rattle.feed_look.specs.Steps.{Counted, wholeBy}
+use Rattle.feed_look.specs.Steps.{wholeAt, wholeBy}
 use Rattle.feed_look.specs.declared.Seen.{Seen}
 use Rattle.feed_look.specs.declared.Seen.the-variants.{Bad, Waits, Whole}
 use Rattle.feed_look.specs.declared.Seen.the-variants.{Long as LongLine}
@@ -36,8 +34,11 @@ use Rattle.feed_carry.specs.declared.Said.the-variants.{Long, Open, Refused}
 use Rattle.feed_carry.proofs.Joins.{waits-short}
 use Rattle.graphics.specs.declared.GraphicsState.{GraphicsState}
 use Rattle.feed.specs.Feed.{Feeding, Left, afterCall, afterLine, fedAll, going, handed, left, stops}
-use Rattle.feed.specs.Steps.{ranBy}
-use Rattle.feed.proofs.Lines.{Goes, lines-run, onBy}
+use Rattle.feed.specs.Steps.{Runs, ranBy, refusalBy}
+use Rattle.feed.specs.Steps.Runs.{Few, Many}
+use Rattle.feed.proofs.Few.{few-run}
+use Rattle.feed.proofs.Lines.{Goes, How, counted-run, onBy, refusal}
+use Rattle.feed.proofs.Lines.How.{Rests, Stops}
 use Rattle.feed.proofs.Words.{all-wait, are-bad, are-line, are-long, cut, stays}
 
 -- what is handed back over a world
@@ -75,67 +76,69 @@ module _ (f : Fixed) (base held lines : ℕ) (w : World) (words carry : List ℤ
   put-away z k = put-by (lookOf (p ++ words)) refl z k
 
 -- ---- whole lines, and the words behind them
-module _ (f : Fixed) (sheet : List ℤ) (origin before m at end : ℕ) (w : World) (counted : Counted sheet at m end) (carry : List ℤ) where
-  module _ (r : Ran) {d : Fed} {carry' : List ℤ} where
-    off-by : (a : Answer) → kept d carry' ≡ ranBy origin end (r .place) before (r .lines) (r .world .state) sheet carry a
-        → leftOf d carry' (r .world) ≡ handed carry (onBy f sheet origin before end r a)
+module _ (f : Fixed) (sheet : List ℤ) (origin before b at : ℕ) (w : World) (h : at ≤ length sheet) (runs : Runs sheet at b) (carry : List ℤ) where
+  goes-by : Runs sheet at b → Goes f sheet origin before 0 at w (replayOf f sheet b 0 at w)
+  goes-by (Few s m) = few-run f sheet origin before b 0 at w h (omega (arith, s, m)) s
+  goes-by (Many end c) = counted-run f sheet origin before b 0 at end w (c .lines) (c .inside) (c .last)
+
+  pub goes : Goes f sheet origin before 0 at w (replayOf f sheet b 0 at w)
+  goes = goes-by runs
+
+  module _ (r : Ran) {d : Fed} {carry' : List ℤ} (k : kept d carry' ≡ ranBy origin (r .place) before (r .lines) (r .world .state) sheet carry (refusal sheet r)) where
+    off-by : How sheet r → leftOf d carry' (r .world) ≡ handed carry (onBy f sheet origin before r (refusal sheet r))
     unfolding ranBy onBy
-    off-by (RefusedRun why) k = ap (λ (x : Kept). leftOf (x .fed) (x .carry) (r .world)) k
-    off-by Finished k = put-away f (origin + end) 0 (before + r .lines) (r .world) (drop end sheet) carry (omega arith) none-waits (counted .last) k
-    off-by OutOfBudget k = put-away f (origin + end) 0 (before + r .lines) (r .world) (drop end sheet) carry (omega arith) none-waits (counted .last) k
+    off-by (Stops why e) =
+        ap (λ (x : Kept). leftOf (x .fed) (x .carry) (r .world)) (k ∙ ap (ranBy origin (r .place) before (r .lines) (r .world .state) sheet carry) e)
+        ∙ sym (ap (λ (c : Call). handed carry (onBy f sheet origin before r c)) e)
+    off-by (Rests e z) =
+        put-away f (origin + r .place) 0 (before + r .lines) (r .world) (drop (r .place) sheet) carry (omega arith) none-waits z
+        (k ∙ ap (ranBy origin (r .place) before (r .lines) (r .world .state) sheet carry) e)
+        ∙ sym (ap (λ (c : Call). handed carry (onBy f sheet origin before r c)) e)
 
-  pub goes : Goes f sheet origin before m 0 at end w (replayOf f sheet m 0 at w)
-  goes = lines-run f sheet origin before m 0 at end w (counted .lines) (counted .inside)
-
-  pub off-is : (r : Ran) {d : Fed} {carry' : List ℤ} → r ≡ replayOf f sheet m 0 at w
-      → kept d carry' ≡ ranBy origin end (r .place) before (r .lines) (r .world .state) sheet carry (r .answer)
+  pub off-is : (r : Ran) {d : Fed} {carry' : List ℤ} → r ≡ replayOf f sheet b 0 at w
+      → kept d carry' ≡ ranBy origin (r .place) before (r .lines) (r .world .state) sheet carry (refusal sheet r)
       → leftOf d carry' (r .world) ≡ handed carry (fedAll f (going (origin + at) before [] w) (drop at sheet))
   off-is r e k =
-      off-by r (r .answer) k
-      ∙ ap (λ (x : Ran). handed carry (onBy f sheet origin before end x (x .answer))) e
+      off-by r k (subst (How sheet) (sym e) (goes .how))
+      ∙ ap (λ (x : Ran). handed carry (onBy f sheet origin before x (refusal sheet x))) e
       ∙ sym (ap (handed carry) (goes .same))
       ∙ ap (λ (n : ℕ). handed carry (fedAll f (going (origin + at) n [] w) (drop at sheet))) (add-zero before)
 
 -- ---- how many lines were finished
-rest-lines : (base held lines : ℕ) (w : World) (words carry : List ℤ) (s : Seen) → restBy base held lines (w .state) words carry s .fed .lines ≡ lines
+rest-lines : (base held lines : ℕ) (s : GraphicsState) (words carry : List ℤ) (seen : Seen) → restBy base held lines s words carry seen .fed .lines ≡ lines
 unfolding restBy
-rest-lines base held lines w words carry Waits = refl
-rest-lines base held lines w words carry Bad = refl
-rest-lines base held lines w words carry LongLine = refl
-rest-lines base held lines w words carry (Whole n) = refl
+rest-lines base held lines s words carry Waits = refl
+rest-lines base held lines s words carry Bad = refl
+rest-lines base held lines s words carry LongLine = refl
+rest-lines base held lines s words carry (Whole n) = refl
 
-ran-lines : (origin end before : ℕ) (r : Ran) (sheet carry : List ℤ) (a : Answer)
-    → ranBy origin end (r .place) before (r .lines) (r .world .state) sheet carry a .fed .lines ≡ before + r .lines
+ran-lines : (origin place before lines : ℕ) (s : GraphicsState) (sheet carry : List ℤ) (c : Call) → ranBy origin place before lines s sheet carry c .fed .lines ≡ before + lines
 unfolding ranBy
-ran-lines origin end before r sheet carry (RefusedRun why) = refl
-ran-lines origin end before r sheet carry Finished = rest-lines (origin + end) 0 (before + r .lines) (r .world) (drop end sheet) carry (lookOf (drop end sheet))
-ran-lines origin end before r sheet carry OutOfBudget = rest-lines (origin + end) 0 (before + r .lines) (r .world) (drop end sheet) carry (lookOf (drop end sheet))
+ran-lines origin place before lines s sheet carry (RefusedCall why) = refl
+ran-lines origin place before lines s sheet carry Done = rest-lines (origin + place) 0 (before + lines) s (drop place sheet) carry (lookOf (drop place sheet))
 
-pub off-lines : (origin end before : ℕ) (r : Ran) (sheet carry : List ℤ) {d : Fed} {carry' : List ℤ}
-    → kept d carry' ≡ ranBy origin end (r .place) before (r .lines) (r .world .state) sheet carry (r .answer) → d .lines ≡ before + r .lines
-off-lines origin end before r sheet carry k = ap (λ (x : Kept). x .fed .lines) k ∙ ran-lines origin end before r sheet carry (r .answer)
+pub off-lines : (origin before : ℕ) (r : Ran) (sheet carry : List ℤ) {d : Fed} {carry' : List ℤ}
+    → kept d carry' ≡ ranBy origin (r .place) before (r .lines) (r .world .state) sheet carry (refusal sheet r) → d .lines ≡ before + r .lines
+off-lines origin before r sheet carry k = ap (λ (x : Kept). x .fed .lines) k ∙ ran-lines origin (r .place) before (r .lines) (r .world .state) sheet carry (refusal sheet r)
 
 -- ---- the words of a run, put away
-module _ (origin end place before lines : ℕ) (s : GraphicsState) (sheet carry : List ℤ) {d : Fed} where
-  pub ran-refused : {a : Answer} {why : Refusal} → a ≡ RefusedRun why → d ≡ fed (Refused why) (origin + place) 0 (before + lines) s
-      → kept d carry ≡ ranBy origin end place before lines s sheet carry a
+module _ (origin place before lines : ℕ) (s : GraphicsState) (sheet carry : List ℤ) (a : Answer) {call : Call} {seen : Seen} {whole : ℕ} {part : List ℤ}
+    (es : seen ≡ lookOf part) (ep : part ≡ drop place sheet) (ew : whole ≡ wholeBy seen) (ec : call ≡ refusalBy a whole) where
+  said : call ≡ refusalBy a (wholeAt sheet place)
+  said = ec ∙ ap (refusalBy a) (ew ∙ ap wholeBy (es ∙ ap lookOf ep))
+
+  pub ran-refused : {why : Refusal} {d : Fed} → call ≡ RefusedCall why → d ≡ fed (Refused why) (origin + place) 0 (before + lines) s
+      → kept d carry ≡ ranBy origin place before lines s sheet carry (refusalBy a (wholeAt sheet place))
   unfolding ranBy
-  ran-refused t e = ap (λ (c : Fed). kept c carry) e ∙ sym (ap (ranBy origin end place before lines s sheet carry) t)
+  ran-refused t e = ap (λ (c : Fed). kept c carry) e ∙ sym (ap (ranBy origin place before lines s sheet carry) t) ∙ ap (ranBy origin place before lines s sheet carry) said
 
-  module _ {carry' : List ℤ} {seen : Seen} {part : List ℤ} (es : seen ≡ lookOf part) (ep : part ≡ drop end sheet)
-      (k : kept d carry' ≡ restBy (origin + end) 0 (before + lines) s part carry seen) where
-    put : kept d carry' ≡ restBy (origin + end) 0 (before + lines) s (drop end sheet) carry (lookOf (drop end sheet))
-    put =
-        k ∙ ap (restBy (origin + end) 0 (before + lines) s part carry) es
-        ∙ ap (λ (l : List ℤ). restBy (origin + end) 0 (before + lines) s l carry (lookOf l)) ep
-
-    pub ran-finished : {a : Answer} → a ≡ Finished → kept d carry' ≡ ranBy origin end place before lines s sheet carry a
-    unfolding ranBy
-    ran-finished t = put ∙ sym (ap (ranBy origin end place before lines s sheet carry) t)
-
-    pub ran-used : {a : Answer} → a ≡ OutOfBudget → kept d carry' ≡ ranBy origin end place before lines s sheet carry a
-    unfolding ranBy
-    ran-used t = put ∙ sym (ap (ranBy origin end place before lines s sheet carry) t)
+  pub ran-on : {d : Fed} {carry' : List ℤ} → call ≡ Done → kept d carry' ≡ restBy (origin + place) 0 (before + lines) s part carry seen
+      → kept d carry' ≡ ranBy origin place before lines s sheet carry (refusalBy a (wholeAt sheet place))
+  unfolding ranBy
+  ran-on t k =
+      k ∙ ap (restBy (origin + place) 0 (before + lines) s part carry) es
+      ∙ ap (λ (l : List ℤ). restBy (origin + place) 0 (before + lines) s l carry (lookOf l)) ep
+      ∙ sym (ap (ranBy origin place before lines s sheet carry) t) ∙ ap (ranBy origin place before lines s sheet carry) said
 
 -- what waits has room in the carry
 pub room-for : {seen : Seen} (part carry : List ℤ) → mostLine ≤ length carry → seen ≡ lookOf part → seen ≡ Waits → 0 + length part ≤ length carry

@@ -24,6 +24,7 @@ use feed_carry::stopped;
 use feed_look::LINE;
 use feed_look::lines_ahead;
 use feed_look::look;
+use feed_look::words_of;
 use graphics::GraphicsState;
 use line::sizes_fit;
 use opcodes::needs_table;
@@ -45,12 +46,43 @@ ghost use Rattle.line.specs.World.{Sound, fixed, world};
 ghost use Rattle.opcodes.specs.Table.{needsTable};
 ghost use Rattle.rules.specs.declared.Rules.{Rules};
 ghost use Rattle.feed.specs.Feed.{begun, endOf, fedAll, feedOf, going, handed, left};
-ghost use Rattle.feed.specs.Steps.{ranBy};
+ghost use Rattle.feed_look.specs.Steps.{wholeAt};
+ghost use Rattle.feed.specs.Steps.{Runs, ranBy, refusalBy};
+
+// How many lines a run may do: those that are whole. Among no more words than the longest line has none is too long to wait for, so that there is
+// nothing to count: the run itself stops at the first line that isn't whole.
+fn lines_to_run(sheet: &[i32], at: usize, needs: &[u8]) -> u64
+    requires { ⌜ now needs ≡ needsTable ⌝ }
+    requires { ⌜ at ≤ length (now sheet) ⌝ }
+    ensures { λ r. ⌜ Runs (now (sheet .entry)) at r ⌝ }
+{
+    if sheet.len() - at <= LINE {
+        return LINE as u64;
+    }
+    let ahead = lines_ahead(sheet, at, needs);
+    ahead.lines
+}
+
+// A refusal is one of a whole line. Where no whole line stands the words that are there say what they are.
+fn refusal_of(answer: Answer, whole: usize) -> Call
+    ensures { λ r. ⌜ r ≡ refusalBy answer whole ⌝ }
+{
+    match answer {
+        Answer::Refused(why) => {
+            if 0 < whole {
+                Call::Refused(why)
+            } else {
+                Call::Done
+            }
+        }
+        Answer::Finished => Call::Done,
+        Answer::OutOfBudget => Call::Done,
+    }
+}
 
 // After a run of the whole lines of a sheet: its refusal, or the words behind them.
 fn after_run(
     origin: usize,
-    end: usize,
     lines: u64,
     out: Outcome,
     sheet: &[i32],
@@ -58,36 +90,22 @@ fn after_run(
     carry: &mut [i32],
 ) -> Fed
     requires { ⌜ now needs ≡ needsTable ⌝ }
-    requires { ⌜ end ≤ length (now sheet) ⌝ }
     requires { ⌜ origin + length (now sheet) ≤ mostWords ⌝ }
     requires { ⌜ out .place ≤ length (now sheet) ⌝ }
     requires { ⌜ lines + out .lines ≤ mostWords + mostWords ⌝ }
     requires { ⌜ mostLine ≤ length (now carry) ⌝ }
-    ensures { λ r. ⌜ kept r (now (carry .exit)) ≡ ranBy origin end (out .place) lines (out .lines) (out .state) (now (sheet .entry)) (now (carry .entry)) (out .answer) ⌝ }
+    ensures { λ r. ⌜ kept r (now (carry .exit)) ≡ ranBy origin (out .place) lines (out .lines) (out .state) (now (sheet .entry)) (now (carry .entry)) (refusalBy (out .answer) (wholeAt (now (sheet .entry)) (out .place))) ⌝ }
 {
     let answer = out.answer;
+    let place = out.place;
     let finished = lines + out.lines;
     let state = out.state;
-    match answer {
-        Answer::Refused(why) => { stopped(Said::Refused(why), origin + out.place, finished, state) }
-        Answer::Finished => rest(
-            origin + end,
-            0,
-            finished,
-            state,
-            &sheet[end..],
-            carry,
-            look(&sheet[end..], needs),
-        ),
-        Answer::OutOfBudget => rest(
-            origin + end,
-            0,
-            finished,
-            state,
-            &sheet[end..],
-            carry,
-            look(&sheet[end..], needs),
-        ),
+    let words = &sheet[place..];
+    let seen = look(words, needs);
+    let call = refusal_of(answer, words_of(seen));
+    match call {
+        Call::Refused(why) => stopped(Said::Refused(why), origin + place, finished, state),
+        Call::Done => rest(origin + place, 0, finished, state, words, carry, seen),
     }
 }
 
@@ -126,10 +144,10 @@ fn off(
     ensures { λ r. ⌜ left r (now (carry .exit)) (now (gx .exit)) (now (gy .exit)) (now (gflags .exit)) (now (tox .exit)) (now (toy .exit)) (now (tx .exit)) (now (ty .exit)) (now (tflags .exit)) ≡ handed (now (carry .entry)) (fedAll (fixed rules (now (controls .entry)) (now (gux .entry)) (now (guy .entry)) (now (gox .entry)) (now (goy .entry)) (now (contours .entry))) (going (origin + at) lines [] (world s (now (gx .entry)) (now (gy .entry)) (now (gflags .entry)) (now (tox .entry)) (now (toy .entry)) (now (tx .entry)) (now (ty .entry)) (now (tflags .entry)))) (drop at (now (sheet .entry)))) ⌝ }
     ensures { λ r. ⌜ r .lines ≤ lines + length (now (sheet .entry)) ⌝ }
 {
-    let ahead = lines_ahead(sheet, at, needs);
+    let budget = lines_to_run(sheet, at, needs);
     let out = onward(
         at,
-        ahead.lines,
+        budget,
         s,
         rules,
         sheet,
@@ -149,7 +167,7 @@ fn off(
         ty,
         tflags,
     );
-    after_run(origin, ahead.end, lines, out, sheet, needs, carry)
+    after_run(origin, lines, out, sheet, needs, carry)
 }
 
 // The words of a piece, after the tests: first what ends the unfinished line, then the piece itself.
