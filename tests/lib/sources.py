@@ -1,4 +1,5 @@
 """The public functions of the product's crates, read off their sources."""
+import functools
 import re
 
 from listed import ROOT, dependencies
@@ -16,6 +17,7 @@ def product():
     what the system did."""
     deps = dependencies()
 
+    @functools.lru_cache(maxsize=None)
     def outside(name):
         return name in ("test_cases", "test_tally", "libc") or any(outside(d) for d in deps.get(name, []))
     return [name for name in deps if not outside(name)]
