@@ -52,10 +52,16 @@ def calls(crate):
 
 
 # What users call, beside the direct calls. The calls of PURE are users' too: they are lent no list to change, but for those that are faces for that.
-FACES = {"replay": ["run"], "feed": ["feed", "end"], "exports": ["taleviqa_run", "taleviqa_feed", "taleviqa_feed_end", "taleviqa_outline_begin", "taleviqa_outline_next"],
+FACES = {"replay": ["run"], "feed": ["feed", "end"], "feed_reader": ["over", "moved", "left", "fed", "feed_from"],
+         "exports": ["taleviqa_run", "taleviqa_feed", "taleviqa_feed_end", "taleviqa_outline_begin", "taleviqa_outline_next"],
          "outline_steps": ["begin", "next"], "outline_print": ["print_outline"],
          "record_replay": ["replay"], "record_print": ["print"], "record_read": ["open"], "record_write": ["write"]}
 PURE = ("int", "math", "round", "super_round", "flags", "graphics", "projection", "state_words")
+
+
+def is_changed(kind):
+    """Whether a parameter of this type is lent to be changed."""
+    return re.match(r"&('\w+ )?mut\b", kind) is not None
 
 
 def is_direct(call):
@@ -66,17 +72,19 @@ def faces():
     """The calls of which one outcome is stated call by call."""
     for crate in sorted(product()):
         for call in calls(crate):
-            lent = any(kind.startswith("&mut") for _, kind in call.parameters)
+            lent = any(is_changed(kind) for _, kind in call.parameters)
             if call.name in FACES.get(crate, ()) or is_direct(call) or (crate in PURE and lent):
                 yield call
 
 
 DIRECT = "crates/laws_direct/proofs/Said.antt"
+# The files of laws_outcome with the laws of some crates' faces; those of all others stand in Outcome.antt.
+OUTCOMES = {"feed": "Feeds", "feed_reader": "Reader"}
 
 
 def outcomes(call):
     """The file with the law that a face has one outcome."""
-    return f"crates/laws_outcome/proofs/{'Feeds' if call.crate.startswith('feed') else 'Outcome'}.antt"
+    return f"crates/laws_outcome/proofs/{OUTCOMES.get(call.crate, 'Outcome')}.antt"
 
 
 def law_of(call):
@@ -101,6 +109,7 @@ def one_outcome(call):
             said = re.sub(rf"(?<![\w.]){result}(?!\w)", "r" + k, said)
             for when, mark in (("exit", k), ("entry", "")):
                 said = re.sub(rf"now \((\w+) \.{when}\)", rf"\1{mark}", said)
+            said = re.sub(r"(\w+) \.entry\b", r"\1", said)  # a struct that holds a slice, and its slice
             premises.append(" ".join(re.sub(r"\((\w+)\)", r"\1", said).split()))
     parts = [f"{name}₁ ≡ {name}₂" for name in ["r"] * answers + left]
     return " → ".join(premises + [parts[0] if len(parts) == 1 else " × ".join(f"({part})" for part in parts)])

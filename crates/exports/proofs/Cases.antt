@@ -19,7 +19,8 @@ use Rattle.run_lines.specs.Onward.{ran, numberOfAnswer, detailOfAnswer}
 use Rattle.replay.specs.Run.{runOf}
 use Rattle.state_words.specs.Words.{stateSize, stateWords, stateOf, isState, written}
 use Rattle.state_words.proofs.Back.{size-is}
-use Rattle.exports.specs.Call.{Left, answered, answerSize, badWord, isCall, left, handedBack, callOf}
+use Rattle.feed_calls.specs.Left.{Left, badWord, left}
+use Rattle.exports.specs.Call.{answered, answerSize, callOf, handedBack, isCall}
 
 -- ---- the answer
 all-set : (l : List ℕ) (n p k d : ℕ) → length l ≡ answerSize → set (set (set (set l 0 n) 1 p) 2 k) 3 d ≡ n ∷ p ∷ k ∷ d ∷ []

@@ -1,3 +1,1 @@
 mod Cases
-mod FeedCalls
-mod Feeds

@@ -13,24 +13,7 @@ use Rattle.rules.specs.declared.Rules.{Rules}
 use Rattle.run_lines.specs.Onward.{Ran, numberOfAnswer, detailOfAnswer}
 use Rattle.replay.specs.Run.{runOf}
 use Rattle.state_words.specs.Words.{stateWords, stateOf, isState}
-
--- the number that is returned, and what every list that can change holds afterwards
-pub record Left : Type 0 where
-  pub number : ℕ
-  pub state : List ℕ
-  pub answer : List ℕ
-  pub gx : List ℤ
-  pub gy : List ℤ
-  pub gflags : List ℕ
-  pub tox : List ℤ
-  pub toy : List ℤ
-  pub tx : List ℤ
-  pub ty : List ℤ
-  pub tflags : List ℕ
-
-abbrev pub left : ℕ → List ℕ → List ℕ → List ℤ → List ℤ → List ℕ → List ℤ → List ℤ → List ℤ → List ℤ → List ℕ → Left
-left number state answer gx gy gflags tox toy tx ty tflags =
-    record { number = number; state = state; answer = answer; gx = gx; gy = gy; gflags = gflags; tox = tox; toy = toy; tx = tx; ty = ty; tflags = tflags }
+use Rattle.feed_calls.specs.Left.{Left, badWord, left, refusedCall}
 
 -- number, place, lines and detail, where there are places for exactly these
 abbrev pub answerSize : ℕ
@@ -38,10 +21,6 @@ answerSize = 4
 
 unfoldable pub answered : ℕ → ℕ → ℕ → ℕ → List ℕ → List ℕ
 answered number place lines detail old = cond (eqb (length old) answerSize) (number ∷ place ∷ lines ∷ detail ∷ []) old
-
--- a word out of its range
-abbrev pub badWord : ℕ
-badWord = 16
 
 unfoldable pub isCall : List ℕ → List ℕ → Bool
 isCall words answer = isState words && eqb (length answer) answerSize
@@ -52,10 +31,6 @@ handedBack r =
     let number = numberOfAnswer (r .answer) in
     let w = r .world in
     left number (stateWords (w .state)) (number ∷ r .place ∷ r .lines ∷ detailOfAnswer (r .answer) ∷ []) (w .gx) (w .gy) (w .gflags) (w .tox) (w .toy) (w .tx) (w .ty) (w .tflags)
-
--- a call that is refused: no list changes but the answer
-abbrev pub refusedCall : List ℕ → List ℕ → List ℤ → List ℤ → List ℕ → List ℤ → List ℤ → List ℤ → List ℤ → List ℕ → Left
-refusedCall words answer gx gy gflags tox toy tx ty tflags = left badWord words answer gx gy gflags tox toy tx ty tflags
 
 -- a number that names no rules, words that are no state, or an answer that is not four long, are refused
 unfoldable pub callOf : (Rules → Fixed) → List ℤ → ℕ → ℕ → List ℕ → List ℕ → List ℤ → List ℤ → List ℕ → List ℤ → List ℤ → List ℤ → List ℤ → List ℕ → Named → Left

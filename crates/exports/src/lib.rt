@@ -2,12 +2,11 @@
 //
 // `taleviqa_run` answers for every input, and what it returns and leaves in each list is one equation with `callOf` of specs/Call.antt. The state
 // goes in and comes back as the words of the crate state_words; words that are no state are refused with 16, and so is a number that names no rules
-// (crate rules); then nothing changes but the answer. `taleviqa_feed` and `taleviqa_feed_end` are the same over a feed (crate feed), of which five numbers
-// are kept between the calls, beside the state and the carry: specs/Feed.antt.
-// The calls for an outline are those of the crate outline_calls under their names for C, with its definitions.
-use feed_carry::Fed;
-use feed_carry::Said;
-use graphics::GraphicsState;
+// (crate rules); then nothing changes but the answer.
+// The calls for a feed are those of the crates feed_reader, which holds the piece, and feed_calls, under their names for C, and the calls for an outline those of
+// the crate outline_calls, each with its definitions.
+use feed_calls::feed_end_call;
+use feed_reader::feed_from;
 use outline_calls::begin_call;
 use outline_calls::next_call;
 use replay::run;
@@ -18,7 +17,6 @@ use state_words::is_state;
 use state_words::read_state;
 use state_words::write_state;
 ghost use mathlib.Core.Path.{_≡_};
-ghost use Rattle.feed_carry.specs.Carry.{detailOfSaid, numberOfSaid};
 ghost use Rattle.graphics.specs.declared.GraphicsState.{GraphicsState};
 ghost use Rattle.line.specs.World.{fixed, world};
 ghost use Rattle.outline_calls.specs.Slots.{beginCallOf, left as drawnLeft, nextCallOf, started};
@@ -26,8 +24,9 @@ ghost use Rattle.outline_steps.specs.Outline.{glyph};
 ghost use Rattle.rules.specs.Rules.{byNumber};
 ghost use Rattle.rules.specs.declared.Rules.{Rules};
 ghost use Rattle.run_lines.specs.Onward.{numberOfAnswer, detailOfAnswer};
-ghost use Rattle.exports.specs.Call.{answered, badWord, callOf, isCall, left};
-ghost use Rattle.exports.specs.Feed.{carried, fedOf, fedWords, feedCallOf, feedEndCallOf, isOpenFeed, kept, refusedFeed, saidBefore, told};
+ghost use Rattle.feed_calls.specs.Feed.{carried, feedCallOf, feedEndCallOf, told};
+ghost use Rattle.feed_calls.specs.Left.{badWord, left};
+ghost use Rattle.exports.specs.Call.{answered, callOf, isCall};
 
 // The answer's places: number, place, lines and detail.
 const ANSWER_WORDS: usize = 4;
@@ -139,94 +138,6 @@ pub extern "C" fn taleviqa_run(
 }
 
 // ---- feeds
-// What is kept of a feed: number, place, lines and detail, and how many words of the carry wait.
-const FEED_WORDS: usize = 5;
-
-// The number of a feed that can go on.
-const OPEN: u64 = 1;
-
-// The last number that a call says.
-const LAST: u64 = 18;
-
-// Word k of what is kept, 0 outside.
-fn kept_word(numbers: &[u64], k: usize) -> u64
-    ensures { λ r. ⌜ r ≡ kept (now (numbers .entry)) k ⌝ }
-{
-    if k < numbers.len() { numbers[k] } else { 0 }
-}
-
-fn is_open(numbers: &[u64]) -> bool
-    ensures { λ r. ⌜ r ≡ isOpenFeed (now (numbers .entry)) ⌝ }
-{
-    (numbers.len() == FEED_WORDS) & (kept_word(numbers, 0) == OPEN)
-}
-
-// What a feed said that cannot go on; 16 where no call leaves such words.
-fn said_before(numbers: &[u64]) -> u32
-    ensures { λ r. ⌜ r ≡ saidBefore (now (numbers .entry)) ⌝ }
-{
-    if numbers.len() != FEED_WORDS {
-        return BAD_WORD;
-    }
-    let number = kept_word(numbers, 0);
-    if LAST < number {
-        return BAD_WORD;
-    }
-    number as u32
-}
-
-// The feed that words stand for.
-fn fed_of(s: GraphicsState, numbers: &[u64]) -> Fed
-    ensures { λ r. ⌜ r ≡ fedOf s (now (numbers .entry)) ⌝ }
-{
-    Fed {
-        said: Said::Open,
-        base: kept_word(numbers, 1) as usize,
-        held: kept_word(numbers, 4) as usize,
-        lines: kept_word(numbers, 2),
-        state: s,
-    }
-}
-
-fn write_feed(number: u32, place: usize, lines: u64, detail: u64, held: usize, numbers: &mut [u64])
-    ensures { λ _. ⌜ now (numbers .exit) ≡ fedWords number place lines detail held (now (numbers .entry)) ⌝ }
-{
-    if numbers.len() == FEED_WORDS {
-        numbers[0] = widen(number);
-        numbers[1] = place as u64;
-        numbers[2] = lines;
-        numbers[3] = detail;
-        numbers[4] = held as u64;
-    }
-}
-
-fn refuse_feed(numbers: &mut [u64]) -> u32
-    ensures { λ r. ⌜ r ≡ badWord ⌝ }
-    ensures { λ _. ⌜ now (numbers .exit) ≡ refusedFeed (now (numbers .entry)) ⌝ }
-{
-    let place = kept_word(numbers, 1) as usize;
-    write_feed(BAD_WORD, place, 0, 0, 0, numbers);
-    BAD_WORD
-}
-
-// What a feed says, in what is kept of it and as its number.
-fn say_fed(fed: Fed, numbers: &mut [u64]) -> u32
-    ensures { λ r. ⌜ r ≡ numberOfSaid (fed .said) ⌝ }
-    ensures { λ _. ⌜ now (numbers .exit) ≡ fedWords (numberOfSaid (fed .said)) (fed .base) (fed .lines) (detailOfSaid (fed .said)) (fed .held) (now (numbers .entry)) ⌝ }
-{
-    let said = fed.said;
-    let number = said.number();
-    write_feed(
-        number,
-        fed.base,
-        fed.lines,
-        said.detail(),
-        fed.held,
-        numbers,
-    );
-    number
-}
-
 // A piece of a sheet. The number is returned, and stands first in what is kept.
 #[no_mangle]
 pub extern "C" fn taleviqa_feed(
@@ -252,43 +163,28 @@ pub extern "C" fn taleviqa_feed(
 ) -> u32
     ensures { λ r. ⌜ carried (now (carry .exit)) (left r (now (state .exit)) (now (numbers .exit)) (now (gx .exit)) (now (gy .exit)) (now (gflags .exit)) (now (tox .exit)) (now (toy .exit)) (now (tx .exit)) (now (ty .exit)) (now (tflags .exit))) ≡ feedCallOf (λ (by : Rules). fixed by (now (controls .entry)) (now (gux .entry)) (now (guy .entry)) (now (gox .entry)) (now (goy .entry)) (now (contours .entry))) (now (piece .entry)) (now (state .entry)) (now (numbers .entry)) (now (carry .entry)) (now (gx .entry)) (now (gy .entry)) (now (gflags .entry)) (now (tox .entry)) (now (toy .entry)) (now (tx .entry)) (now (ty .entry)) (now (tflags .entry)) (byNumber rules) ⌝ }
 {
-    if !is_open(numbers) {
-        return said_before(numbers);
-    }
-    let named = by_number(rules);
-    match named {
-        Named::Unknown => refuse_feed(numbers),
-        Named::Known(by) => {
-            if !is_state(state) {
-                return refuse_feed(numbers);
-            }
-            let s = read_state(state);
-            let c = fed_of(s, numbers);
-            let fed = feed::feed(
-                0,
-                c,
-                by,
-                piece,
-                carry,
-                controls,
-                gux,
-                guy,
-                gox,
-                goy,
-                gx,
-                gy,
-                gflags,
-                contours,
-                tox,
-                toy,
-                tx,
-                ty,
-                tflags,
-            );
-            write_state(fed.state, state);
-            say_fed(fed, numbers)
-        }
-    }
+    feed_from(
+        piece,
+        0,
+        rules,
+        state,
+        carry,
+        controls,
+        gux,
+        guy,
+        gox,
+        goy,
+        gx,
+        gy,
+        gflags,
+        contours,
+        tox,
+        toy,
+        tx,
+        ty,
+        tflags,
+        numbers,
+    )
 }
 
 // The last call of a feed, which has no words: the rules don't matter, and nothing changes but what is kept.
@@ -314,16 +210,8 @@ pub extern "C" fn taleviqa_feed_end(
 ) -> u32
     ensures { λ r. ⌜ ((by : Rules) → told r (now (numbers .exit)) ≡ feedEndCallOf (fixed by (now (controls .entry)) (now (gux .entry)) (now (guy .entry)) (now (gox .entry)) (now (goy .entry)) (now (contours .entry))) (now (state .entry)) (now (numbers .entry)) (now (carry .entry)) (λ (s : GraphicsState). world s (now (gx .entry)) (now (gy .entry)) (now (gflags .entry)) (now (tox .entry)) (now (toy .entry)) (now (tx .entry)) (now (ty .entry)) (now (tflags .entry)))) ⌝ }
 {
-    if !is_open(numbers) {
-        return said_before(numbers);
-    }
-    if !is_state(state) {
-        return refuse_feed(numbers);
-    }
-    let s = read_state(state);
-    let c = fed_of(s, numbers);
-    let fed = feed::end(
-        c,
+    feed_end_call(
+        state,
         carry,
         controls,
         gux,
@@ -339,8 +227,8 @@ pub extern "C" fn taleviqa_feed_end(
         tx,
         ty,
         tflags,
-    );
-    say_fed(fed, numbers)
+        numbers,
+    )
 }
 
 // ---- outlines

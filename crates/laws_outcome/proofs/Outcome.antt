@@ -35,8 +35,9 @@ use Rattle.line.specs.World.{fixed, world}
 use Rattle.run_lines.specs.Onward.{Ran, ran}
 use Rattle.run_lines.specs.declared.Outcome.{Outcome}
 use Rattle.replay.specs.Run.{runOf}
-use Rattle.exports.specs.Call.{Left, callOf, left}
-use Rattle.exports.specs.Feed.{Carried, Told, carried, feedCallOf, feedEndCallOf, told}
+use Rattle.exports.specs.Call.{callOf}
+use Rattle.feed_calls.specs.Feed.{Carried, Told, carried, feedCallOf, feedEndCallOf, told}
+use Rattle.feed_calls.specs.Left.{Left, left}
 use Rattle.outline_calls.specs.Slots.{Left as DrawnLeft, Started, beginCallOf, left as drawnLeft, nextCallOf, started}
 use Rattle.outline_print.specs.Print.{outlineOf}
 use Rattle.outline_steps.specs.Outline.{glyph}
