@@ -14,18 +14,19 @@ fn index_of(end: u16) -> usize
 pub fn ends_rise(contours: &[u16], points: usize) -> bool
     ensures { λ r. ⌜ r ≡ endsRise points (now (contours .entry)) ⌝ }
 {
-    let mut least = 0;
-    let mut k = 0;
-    while k < contours.len() {
-        let end = index_of(contours[k]);
-        if end < least {
-            return false;
-        }
-        if points <= end {
-            return false;
-        }
-        least = end + 1;
+    let n = contours.len();
+    if n == 0 {
+        return true;
+    }
+    if points <= index_of(contours[n - 1]) {
+        return false;
+    }
+    // No exit between, so that the compiler takes several pairs at once.
+    let mut rise = true;
+    let mut k = 1;
+    while k < n {
+        rise = rise & (contours[k - 1] < contours[k]);
         k += 1;
     }
-    true
+    rise
 }
