@@ -23,7 +23,7 @@ use moves::Displacement;
 use moves::Move;
 use moves::Reference;
 use moves::apply;
-use moves::displacement_of;
+use moves::displacement_by;
 use moves::reference_of;
 use moves::zp2_move_of;
 use zone::Fetched;
@@ -134,7 +134,16 @@ fn displaced(
             match there {
                 Fetched::Refused(why) => Displaced::Refused(why),
                 Fetched::At(original) => {
-                    let d = displacement_of(v, current, original);
+                    let d = displacement_by(
+                        v.projection.x,
+                        v.projection.y,
+                        v.freedom.x,
+                        v.freedom.y,
+                        current.x,
+                        current.y,
+                        original.x,
+                        original.y,
+                    );
                     Displaced::By(Displacement {
                         zone,
                         at,

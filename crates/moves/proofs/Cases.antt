@@ -90,9 +90,22 @@ zp2-from v f dx dy touches efx efy edx edy eex eey et ep em = rw (em, et, ep, ee
 abbrev pub vector : ℤ → ℤ → Vector
 vector x y = record { x = x; y = y }
 
-pub displacement-from : (v : Vectors) (a b : Vector) {d : Derived} {fdotp distance fx fy x y : ℤ} → d ≡ derivedOf v → fdotp ≡ d .fdotp → distance ≡ projectOf v a b → fx ≡ v .freedom .x → fy ≡ v .freedom .y → x ≡ mulDiv distance fx fdotp → y ≡ mulDiv distance fy fdotp → vector x y ≡ displacementOf v a b
+abbrev pub vectors : ℤ → ℤ → ℤ → ℤ → Vectors
+vectors px py fx fy = record { projection = vector px py; dual = vector px py; freedom = vector fx fy }
+
+pub displacement-from :
+    {px py fx fy cx cy ox oy px′ py′ fx′ fy′ cx′ cy′ ox′ oy′ : ℤ} {d : Derived} {fdotp distance x y : ℤ} → px′ ≡ px → py′ ≡ py → fx′ ≡ fx → fy′ ≡ fy → cx′ ≡ cx → cy′ ≡ cy → ox′ ≡ ox → oy′ ≡ oy →
+    d ≡ derivedOf (vectors px′ py′ fx′ fy′) → fdotp ≡ d .fdotp → distance ≡ projectOf (vectors px′ py′ fx′ fy′) (vector cx′ cy′) (vector ox′ oy′) → x ≡ mulDiv distance fx′ fdotp → y ≡ mulDiv distance fy′ fdotp →
+    vector x y ≡ displacementOf (vectors px py fx fy) (vector cx cy) (vector ox oy)
 unfolding displacementOf
-displacement-from v a b e p q f g h k = rw (h, k, q, f, g, p, e)
+displacement-from epx epy efx efy ecx ecy eox eoy e p q h k = rw (h, k, q, p, e, epx, epy, efx, efy, ecx, ecy, eox, eoy)
+
+-- by the numbers of vectors and places, whatever the dual vector is
+pub displacement-is :
+    (v : Vectors) (a b : Vector) {px py fx fy cx cy ox oy : ℤ} {d : Vector} → px ≡ v .projection .x → py ≡ v .projection .y → fx ≡ v .freedom .x → fy ≡ v .freedom .y → cx ≡ a .x → cy ≡ a .y → ox ≡ b .x → oy ≡ b .y →
+    d ≡ displacementOf (vectors px py fx fy) (vector cx cy) (vector ox oy) → d ≡ displacementOf v a b
+unfolding displacementOf
+displacement-is v a b epx epy efx efy ecx ecy eox eoy e = e ∙ rw (epx, epy, efx, efy, ecx, ecy, eox, eoy) refl
 
 pub displaced-by : (p : Reference) {d m : Vector} {x y : ℤ} → d ≡ m → x ≡ d .x → y ≡ d .y → _≡_ {A = Displacement} (record { zone = p .zone; at = p .at; dx = x; dy = y }) (displacement p m)
 displaced-by p e f g = rw (f, g) (ap (displacement p) e)

@@ -320,14 +320,32 @@ pub fn reference_of(s: GraphicsState, opcode: usize) -> Reference
     }
 }
 
-pub fn displacement_of(v: Vectors, current: Vector, original: Vector) -> Vector
-    ensures { λ r. ⌜ r ≡ displacementOf v current original ⌝ }
+// By numbers, and not by places and vectors: two words that were just stored one by one aren't loaded as one.
+pub fn displacement_by(
+    px: i32,
+    py: i32,
+    fx: i32,
+    fy: i32,
+    cx: i32,
+    cy: i32,
+    ox: i32,
+    oy: i32,
+) -> Vector
+    ensures { λ r. ⌜ r ≡ displacementOf (record { projection = record { x = px; y = py }; dual = record { x = px; y = py }; freedom = record { x = fx; y = fy } }) (record { x = cx; y = cy }) (record { x = ox; y = oy }) ⌝ }
 {
-    let freedom = v.freedom;
+    let projection = Vector { x: px, y: py };
+    let freedom = Vector { x: fx, y: fy };
+    let v = Vectors {
+        projection,
+        dual: projection,
+        freedom,
+    };
+    let current = Vector { x: cx, y: cy };
+    let original = Vector { x: ox, y: oy };
     let derived = derive(v);
     let distance = project(v, current, original);
-    let x = mul_div(distance, freedom.x, derived.fdotp);
-    let y = mul_div(distance, freedom.y, derived.fdotp);
+    let x = mul_div(distance, fx, derived.fdotp);
+    let y = mul_div(distance, fy, derived.fdotp);
     Vector { x, y }
 }
 
@@ -353,7 +371,16 @@ pub fn displaced_at(
             match there {
                 Fetched::Refused(why) => Displaced::Refused(why),
                 Fetched::At(original) => {
-                    let d = displacement_of(v, current, original);
+                    let d = displacement_by(
+                        v.projection.x,
+                        v.projection.y,
+                        v.freedom.x,
+                        v.freedom.y,
+                        current.x,
+                        current.y,
+                        original.x,
+                        original.y,
+                    );
                     Displaced::By(Displacement {
                         zone,
                         at,
