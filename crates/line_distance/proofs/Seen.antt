@@ -10,13 +10,23 @@ use Rattle.graphics.specs.State.{isTwilight}
 use Rattle.graphics.specs.declared.Vector.{Vector}
 use Rattle.graphics.specs.declared.ZonePointer.{ZonePointer}
 use Rattle.int.specs.Word.{abs32, add32, maxZ, minZ, neg32, sub32}
-use Rattle.math.specs.Fixed.{xor}
+use Rattle.line.specs.Places.{placeIn}
+use Rattle.math.specs.Fixed.{mulFix, xor}
+use Rattle.projection.specs.Projection.{alongOf}
 use Rattle.round.proofs.Exact.{tracked}
 use Rattle.round.specs.Tracked.{given, on}
 use Rattle.round.specs.declared.RoundState.{RoundState}
 use Rattle.round.specs.declared.Tracked.{Tracked}
+use Rattle.zone.specs.Zone.{placeOf}
 use Rattle.line_distance.specs.Distance.{atLeast, chosenOf, finished, flippedOf, keepsMinimum, minimumOf, onSideOf, roundedUnless, rounds, singleControl, singleOutline}
 use Rattle.line_distance.specs.Outline.{originalsApart, outlineOf, unscaledApart}
+
+-- by a test that was made
+pub yes-of : {A : Type 0} {x a : A} (b : A) {t : Bool} → t ≡ true → x ≡ a → x ≡ cond t a b
+yes-of b h e = rw h e
+
+pub no-of : {A : Type 0} {x b : A} (a : A) {t : Bool} → t ≡ false → x ≡ b → x ≡ cond t a b
+no-of a h e = rw h e
 
 -- what is chosen, of numbers as they are read back
 pub near-by : {c c' k k' o o' r : ℤ} → r ≡ chosenOf c' k' o' → c' ≡ c → k' ≡ k → o' ≡ o → r ≡ chosenOf c k o
@@ -114,11 +124,12 @@ module _ (opcode : ℕ) (native : Bool) (round : RoundState) (minimum original d
   finish-free h = rw (sym ek ∙ h) rounded-first
 
 -- ---- the original outline
-module _ (v : Vector) (scale : ℤ) (p : ZonePointer) (a : ℕ) (q : ZonePointer) (b : ℕ) (gux guy gox goy tox toy : List ℤ) {t u : Bool} {d : ℤ} (et : t ≡ isTwilight p) (eu : u ≡ isTwilight q) where
-  pub of-originals : t || u ≡ true → d ≡ originalsApart v p a q b gox goy tox toy → d ≡ outlineOf v scale p a q b gux guy gox goy tox toy
-  unfolding outlineOf
-  of-originals h e = let k : isTwilight p || isTwilight q ≡ true = ap₂ _||_ (sym et) (sym eu) ∙ h in rw k e
-
-  pub of-unscaled : {s : ℤ} → t || u ≡ false → s ≡ scale → d ≡ unscaledApart v s a b gux guy → d ≡ outlineOf v scale p a q b gux guy gox goy tox toy
-  unfolding outlineOf
-  of-unscaled h es e = let k : isTwilight p || isTwilight q ≡ false = ap₂ _||_ (sym et) (sym eu) ∙ h in rw k (e ∙ ap (λ (z : ℤ). unscaledApart v z a b gux guy) es)
+module _ (v : Vector) (scale : ℤ) (p : ZonePointer) (a : ℕ) (q : ZonePointer) (b : ℕ) (gux guy gox goy tox toy : List ℤ) {t u : Bool} (et : t ≡ isTwilight p) (eu : u ≡ isTwilight q) where
+  pub of-places : {here there : Vector} {s d r : ℤ} → here ≡ cond (t || u) (placeIn a gox goy tox toy p) (placeOf gux guy a) → there ≡ cond (t || u) (placeIn b gox goy tox toy q) (placeOf gux guy b)
+      → d ≡ alongOf v here there → s ≡ scale → r ≡ cond (t || u) d (mulFix d s) → r ≡ outlineOf v scale p a q b gux guy gox goy tox toy
+  unfolding outlineOf originalsApart unscaledApart
+  of-places eh eo ed es er = by-both (t || u) (placeIn a gox goy tox toy p) (placeOf gux guy a) (placeIn b gox goy tox toy q) (placeOf gux guy b) eh eo ed es er ∙ ap (λ (o : Bool). cond o (alongOf v (placeIn a gox goy tox toy p) (placeIn b gox goy tox toy q)) (mulFix (alongOf v (placeOf gux guy a) (placeOf gux guy b)) scale)) (ap₂ _||_ et eu)
+    where
+      by-both : (o : Bool) (h h' k k' : Vector) {here there : Vector} {s d r : ℤ} → here ≡ cond o h h' → there ≡ cond o k k' → d ≡ alongOf v here there → s ≡ scale → r ≡ cond o d (mulFix d s) → r ≡ cond o (alongOf v h k) (mulFix (alongOf v h' k') scale)
+      by-both true h h' k k' eh eo ed es er = er ∙ ed ∙ ap₂ (alongOf v) eh eo
+      by-both false h h' k k' eh eo ed es er = er ∙ ap₂ mulFix (ed ∙ ap₂ (alongOf v) eh eo) es

@@ -21,8 +21,12 @@ use math::mul;
 use projection::along;
 use round::RoundState;
 use round::Tracked;
+ghost use mathlib.Core.Bool.{cond};
 ghost use mathlib.Core.Path.{_≡_};
+ghost use Rattle.line.specs.Places.{placeIn};
+ghost use Rattle.math.specs.Fixed.{mulFix};
 ghost use Rattle.round.specs.Tracked.{given};
+ghost use Rattle.zone.specs.Zone.{placeOf};
 ghost use Rattle.line_distance.specs.Outline.{originalsApart, outlineOf, unscaledApart};
 ghost use Rattle.line_distance.specs.Distance.{atLeast, chosenOf, cutInOf, finished, flippedOf, keepsMinimum, minimumOf, onSideOf, roundedUnless, rounds, setsRp0, singleControl, singleOutline};
 
@@ -212,6 +216,33 @@ pub fn unscaled_apart(v: Vector, scale: i32, a: u64, b: u64, gux: &[i32], guy: &
     mul(along(v, here, there), scale)
 }
 
+// A point's place, of the original outline or of the unscaled one.
+fn place_for(
+    original: bool,
+    zone: ZonePointer,
+    at: u64,
+    gux: &[i32],
+    guy: &[i32],
+    gox: &[i32],
+    goy: &[i32],
+    tox: &[i32],
+    toy: &[i32],
+) -> Vector
+    ensures { λ r. ⌜ r ≡ cond original (placeIn at (now (gox .entry)) (now (goy .entry)) (now (tox .entry)) (now (toy .entry)) zone) (placeOf (now (gux .entry)) (now (guy .entry)) at) ⌝ }
+{
+    if original {
+        place_in(zone, at, gox, goy, tox, toy)
+    } else {
+        place_at(gux, guy, at)
+    }
+}
+
+fn scaled_unless(original: bool, scale: i32, d: i32) -> i32
+    ensures { λ r. ⌜ r ≡ cond original d (mulFix d scale) ⌝ }
+{
+    if original { d } else { mul(d, scale) }
+}
+
 // How far a lies from b: of unscaled points where both are the glyph's, else of original ones.
 pub fn outline_apart(
     v: Vector,
@@ -229,9 +260,9 @@ pub fn outline_apart(
 ) -> i32
     ensures { λ r. ⌜ r ≡ outlineOf v scale p a q b (now (gux .entry)) (now (guy .entry)) (now (gox .entry)) (now (goy .entry)) (now (tox .entry)) (now (toy .entry)) ⌝ }
 {
-    if p.is_twilight() | q.is_twilight() {
-        originals_apart(v, p, a, q, b, gox, goy, tox, toy)
-    } else {
-        unscaled_apart(v, scale, a, b, gux, guy)
-    }
+    // Both places first, so that one measure serves both outlines.
+    let original = p.is_twilight() | q.is_twilight();
+    let here = place_for(original, p, a, gux, guy, gox, goy, tox, toy);
+    let there = place_for(original, q, b, gux, guy, gox, goy, tox, toy);
+    scaled_unless(original, scale, along(v, here, there))
 }
