@@ -17,6 +17,8 @@ NAMES = {
     "SROUND": 0x76, "S45ROUND": 0x77, "ROFF": 0x7A, "RUTG": 0x7C, "RDTG": 0x7D, "FLIPPT": 0x80,
     "FLIPRGON": 0x81, "FLIPRGOFF": 0x82, "GC[0]": 0x46, "GC[1]": 0x47, "MD[0]": 0x49, "MD[1]": 0x4A,
     "ALIGNPTS": 0x27, "UTP": 0x29, "IP": 0x39,
+    "SPVTL[0]": 0x06, "SPVTL[1]": 0x07, "SFVTL[0]": 0x08, "SFVTL[1]": 0x09, "SPVFS": 0x0A, "SFVFS": 0x0B, "SFVTPV": 0x0E,
+    "SDPVTL[0]": 0x86, "SDPVTL[1]": 0x87, "SMD": 0x1A, "SCVTCI": 0x1D, "SSWCI": 0x1E, "SSW": 0x1F, "FLIPON": 0x4D, "FLIPOFF": 0x4E,
     # the five bits of the code, as OpenType's [abcde]
     **{f"{name}[{bits:05b}]": first + bits for name, first in (("MDRP", 0xC0), ("MIRP", 0xE0)) for bits in range(32)},
 }

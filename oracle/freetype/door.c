@@ -179,6 +179,7 @@ static void load_state(const World *world)
     context.GS.auto_flip = state[AUTO_FLIP] != 0;
     context.metrics.x_scale = (int32_t)state[SCALE];
     context.metrics.y_scale = (int32_t)state[SCALE];
+    context.tt_metrics.scale = (int32_t)state[SCALE];
     context.pedantic_hinting = state[PEDANTIC] != 0;
     context.subpixel_hinting_lean = TRUE;
     context.backward_compatibility = state[COMPATIBLE] != 0;
@@ -211,6 +212,11 @@ static void store_state(World *world)
     state[ZONES] = context.GS.gep0;
     state[ZONES + 1] = context.GS.gep1;
     state[ZONES + 2] = context.GS.gep2;
+    state[CUT_IN] = (uint32_t)context.GS.control_value_cutin;
+    state[MINIMUM_DISTANCE] = (uint32_t)context.GS.minimum_distance;
+    state[SINGLE_WIDTH] = (uint32_t)context.GS.single_width_value;
+    state[SINGLE_WIDTH_CUT_IN] = (uint32_t)context.GS.single_width_cutin;
+    state[AUTO_FLIP] = context.GS.auto_flip != 0;
     state[X_DONE] |= context.iupx_called != 0;
     state[Y_DONE] |= context.iupy_called != 0;
 }

@@ -9,6 +9,9 @@ MOVERS = [0x0F, 0x2E, 0x2F, 0x2F, 0x30, 0x31, 0x32, 0x33, 0x3A, 0x3B, 0x3C, 0x3E
 MSIRP = [0x3A, 0x3B]
 ZP1, NATIVE = streams.STATE_NAMES.index("zp1"), streams.STATE_NAMES.index("native")
 SINGLES = [0x27, 0x29, 0x39, 0x39]
+# Lines that set a vector, and lines that set a size.
+TO_LINE, FROM_STACK, SIZES = [0x06, 0x07, 0x08, 0x09, 0x86, 0x87], [0x0A, 0x0B], [0x1A, 0x1D, 0x1E, 0x1F]
+SETTINGS = [*TO_LINE, *FROM_STACK, 0x0E, *SIZES, 0x4D, 0x4E]
 DISTANCES = [0x46, 0x47, 0x49, 0x4A] * 8 + list(range(0xC0, 0x100))
 # Corners of 32-bit numbers, for wild cases.
 CORNERS = [0, 1, -1, 31, 32, 63, 64, -64, ONE, -ONE, 2**30, -2**30, 2**31 - 1, -2**31, -2**31 + 1]
@@ -18,6 +21,9 @@ REACH, ISECT_REACH, IP_REACH = 2**24, 2**14, 2**11
 
 class Maker:
     """Makes cases; wild ones have numbers of any size."""
+
+    # Whether points may have been on one place, all of a glyph, so that a line through them had no direction.
+    meets = True
 
     def __init__(self, random, wild):
         self.random, self.wild = random, wild
@@ -104,6 +110,8 @@ class Maker:
         if self.chance(2):
             # Originals are mostly in the order of the unscaled points.
             glyph[2], glyph[3] = glyph[0], glyph[1]
+        if self.meets and self.chance(10):
+            glyph[2], glyph[3] = glyph[2][:1] * points, glyph[3][:1] * points
         shade = [self.numbers(twilight, reach) for _ in range(4)]
         if self.chance(4):
             glyph[4:], shade[2:] = self.row(points, reach), self.row(twilight, reach)
@@ -138,13 +146,26 @@ class Maker:
                 **{code: lambda: [self.random.choice([0, 1, 1, 0, 1, 2, -1])] for code in range(0x13, 0x17)},
                 **{code: lambda: [self.selector()] for code in (0x76, 0x77)},
                 0x27: lambda: [point(0), point(1)], 0x29: lambda: [point(0)],
+                **{code: lambda: [point(2), point(1)] for code in TO_LINE},
+                **{code: lambda: [self.component(), self.component()] for code in FROM_STACK},
+                **{code: lambda: [self.number(self.random.choice([3, 70, 400]))] for code in SIZES},
                 **{code: lambda: [point(2)] for code in (0x46, 0x47)},
                 **{code: lambda: [point(1), point(0)] for code in (0x49, 0x4A)},
                 **{code: lambda: [point(1)] for code in range(0xC0, 0xE0)},
                 **{code: lambda: [self.random.choice([self.index(counts[2]), -1]), point(1)] for code in range(0xE0, 0x100)},
                 }.get(opcode, list)()
 
+    def component(self):
+        """Of a vector, mostly in 2.14; what stands above 16 bits doesn't count."""
+        choices = [0, 1, -1, ONE, -ONE, 11585, self.random.randint(-ONE, ONE), self.random.randint(-2**15, 2**15 - 1),
+                   self.random.randint(-2**31, 2**31 - 1)]
+        return self.random.choice(choices)
+
     def opcode(self):
+        return self.random.choice(SETTINGS) if self.chance(6) else self.later_opcode()
+
+    def later_opcode(self):
+        """Of a line that sets no vector and no size, but along an axis."""
         return self.random.choice(SINGLES) if self.chance(8) else self.older_opcode()
 
     def older_opcode(self):
@@ -203,6 +224,8 @@ class Maker:
 class CalmMaker(Maker):
     """Sane sheets poor in what FreeType does otherwise."""
 
+    meets = False
+
     def index(self, count):
         """Mostly inside, else the first that isn't: a greater one may be told apart by its 16 bits alone."""
         return self.random.randrange(count) if count and not self.chance(40) else count
@@ -233,6 +256,19 @@ class SinglesMaker(CalmMaker):
 
     def opcode(self):
         return self.random.choice(SINGLES) if self.chance(2) else self.older_opcode()
+
+    def reach(self):
+        return self.random.choice([3, 20, 200, 1500])
+
+
+class SettingsMaker(CalmMaker):
+    """Rich in lines that set vectors and sizes; the others go by what they set."""
+
+    def opcode(self):
+        return self.random.choice(SETTINGS) if self.chance(2) else self.later_opcode()
+
+    def older_opcode(self):
+        return self.random.choice(SETTERS) if self.chance(6) else self.random.choice(self.random.choice([MOVERS, DISTANCES]))
 
     def reach(self):
         return self.random.choice([3, 20, 200, 1500])

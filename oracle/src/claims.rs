@@ -5,6 +5,7 @@ mod distances;
 mod ends;
 mod rules;
 mod selectors;
+mod settings;
 mod shifts;
 mod singles;
 mod wraps;
@@ -45,6 +46,7 @@ pub fn check_all() -> bool {
     ends::check(&mut claims);
     rules::check(&mut claims);
     singles::check(&mut claims);
+    settings::check(&mut claims);
     budgets_add_up(&mut claims);
     println!("{} claims, {} fail", claims.count, claims.failed);
     claims.failed == 0

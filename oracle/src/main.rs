@@ -37,7 +37,7 @@ use std::{io::Write, path::Path, process::ExitCode};
 
 const USAGE: &str = "\
 usage: oracle/run COMMAND
-  sample FOLDER            write the sixteen sample files, the same bytes every time
+  sample FOLDER            write the seventeen sample files, the same bytes every time
   check FOLDER             make them again and compare with the folder's
   show FILE                print a sample file as text
   coverage N SEED          make N cases, count what came up, fail if a kind is missing

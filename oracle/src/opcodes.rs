@@ -4,10 +4,10 @@
 use std::ops::RangeInclusive;
 use Access::{Each, Named, OfShift, Rp0, Rp1, Rp2};
 use Codes::{Axes, FiveBits, Flags, One};
-use Family::{Distances, Outline, Selector, Setter, Shift, Single};
+use Family::{Distances, Outline, Selector, Setter, Shift, Single, Size, Vector};
 use Operand::{
-    Amount, Contour, ControlValue, ControlValueOrNone, Distance, High, LoopCount, Low, Point,
-    PointNumber, SelectorByte, ZoneNumber,
+    Amount, Component, Contour, ControlValue, ControlValueOrNone, Distance, FontUnits, High,
+    LoopCount, Low, Point, PointNumber, SelectorByte, ZoneNumber,
 };
 use Zone::{Glyph, Zp0, Zp1, Zp2};
 
@@ -59,6 +59,12 @@ pub enum Family {
     Distances,
     /// Document 02's IP, ALIGNPTS and UTP.
     Single,
+    /// Those that set a vector by points, from their operands or by another vector:
+    /// SPVTL, SFVTL, SPVFS, SFVFS, SFVTPV and SDPVTL.
+    Vector,
+    /// Those that set a number or a fact that distances go by: SMD, SCVTCI, SSWCI,
+    /// SSW, FLIPON and FLIPOFF.
+    Size,
 }
 
 /// What an operand is, and so which wrong ones are worth making.
@@ -73,6 +79,10 @@ pub enum Operand {
     Distance,
     /// How far SHPIX shifts.
     Amount,
+    /// Of a vector: its low 16 bits count.
+    Component,
+    /// What SSW scales.
+    FontUnits,
     ControlValue,
     /// The same, but that -1 stands for the value 0.
     ControlValueOrNone,
@@ -116,7 +126,7 @@ pub struct Reference {
 }
 
 /// Every instruction. Chance and the sample go by the order within a family.
-pub static TABLE: [Row; 39] = [
+pub static TABLE: [Row; 51] = [
     row("SVTCA", Axes(0x00), Setter),
     row("SPVTCA", Axes(0x02), Setter),
     row("SFVTCA", Axes(0x04), Setter),
@@ -234,6 +244,18 @@ pub static TABLE: [Row; 39] = [
         .takes(&[Point(Zp0)])
         .accesses(&[Named("point", 0)])
         .refuses(&[7]),
+    row("SPVTL", Flags(0x06, 0x07), Vector).to_line(),
+    row("SFVTL", Flags(0x08, 0x09), Vector).to_line(),
+    row("SDPVTL", Flags(0x86, 0x87), Vector).to_line(),
+    row("SPVFS", One(0x0A), Vector).takes(&[Component, Component]),
+    row("SFVFS", One(0x0B), Vector).takes(&[Component, Component]),
+    row("SFVTPV", One(0x0E), Vector),
+    row("SMD", One(0x1A), Size).takes(&[Distance]),
+    row("SCVTCI", One(0x1D), Size).takes(&[Distance]),
+    row("SSWCI", One(0x1E), Size).takes(&[Distance]),
+    row("SSW", One(0x1F), Size).takes(&[FontUnits]),
+    row("FLIPON", One(0x4D), Size),
+    row("FLIPOFF", One(0x4E), Size),
 ];
 
 /// A row that takes and looks for nothing.
@@ -279,6 +301,13 @@ impl Row {
 
     const fn pushes_one(self) -> Self {
         Self { pushes: 1, ..self }
+    }
+
+    /// Takes a point of zp2 and one of zp1, and looks for that of zp1 first.
+    const fn to_line(self) -> Self {
+        self.takes(&[Point(Zp2), Point(Zp1)])
+            .accesses(&[Named("point of zp1", 1), Named("point of zp2", 0)])
+            .refuses(&[7])
     }
 }
 
@@ -358,9 +387,14 @@ impl Family {
         matches!(self, Setter | Outline)
     }
 
-    /// True if its lines leave points alone.
+    /// True if the files that hold a line of each code were there before it.
+    pub fn is_later(self) -> bool {
+        matches!(self, Single | Vector | Size)
+    }
+
+    /// True if its lines leave points alone, and look at none.
     pub fn sets_the_state(self) -> bool {
-        matches!(self, Setter | Selector)
+        matches!(self, Setter | Selector | Size)
     }
 }
 

@@ -1,4 +1,4 @@
-//! The committed sample: sixteen files, the same bytes every time.
+//! The committed sample: seventeen files, the same bytes every time.
 
 use crate::{
     answer,
@@ -7,12 +7,12 @@ use crate::{
     direct::Call,
     generate::{
         distance_case, distance_run_case, every_distance, every_end, every_length, every_limit,
-        every_opcode, every_rule, every_selector, every_setter, every_shift, every_single,
-        every_wrap, far_calls, far_distances, far_references, iup_case, largest_faces, length_case,
-        limit_cases, line_case, long_iup_case, long_iup_shift_case, mended,
-        rounds_by_every_selector, rules_run_case, run_case, runs_of_01, selector_counts,
-        selector_run_case, set_words, shift_case, shift_run_case, single_case, single_run_case,
-        turns, under_both, wrap_case, zone_case,
+        every_opcode, every_rule, every_selector, every_setter, every_setting, every_shift,
+        every_single, every_wrap, far_calls, far_distances, far_references, iup_case,
+        largest_faces, length_case, limit_cases, line_case, long_iup_case, long_iup_shift_case,
+        mended, rounds_by_every_selector, rules_run_case, run_case, runs_of_01, selector_counts,
+        selector_run_case, set_words, setting_case, setting_rows, setting_run_case, shift_case,
+        shift_run_case, single_case, single_run_case, turns, under_both, wrap_case, zone_case,
     },
     math_rows, notable,
     opcodes::{rows_of, Family},
@@ -37,6 +37,7 @@ const WRAPS_SEED: u64 = 0x7772_6170;
 const DISTANCES_SEED: u64 = 0x6469_7374;
 const RULES_SEED: u64 = 0x7275_6C65;
 const SINGLES_SEED: u64 = 0x7369_6E67;
+const SETTINGS_SEED: u64 = 0x7365_7474;
 const ZONE_CASES: usize = 5_000;
 const IUP_CASES: usize = 3_400;
 const LINES_EACH: usize = 480;
@@ -56,8 +57,11 @@ const RULES_RUN_CASES: usize = 320;
 /// Random lines of IP, ALIGNPTS and UTP.
 const SINGLES_EACH: [usize; 3] = [280, 120, 80];
 const SINGLE_RUN_CASES: usize = 160;
+/// Random lines of each that sets a vector or a size.
+const SETTINGS_EACH: usize = 60;
+const SETTING_RUN_CASES: usize = 200;
 
-const NAMES: [&str; 16] = [
+const NAMES: [&str; 17] = [
     "math",
     "projection",
     "zone",
@@ -74,12 +78,13 @@ const NAMES: [&str; 16] = [
     "ends",
     "rules",
     "singles",
+    "settings",
 ];
 
 /// Those that hold no cases, and those from `ends` on.
-const UNLIKE_BEFORE: [&str; 5] = ["math", "projection", "ends", "rules", "singles"];
+const UNLIKE_BEFORE: [&str; 6] = ["math", "projection", "ends", "rules", "singles", "settings"];
 
-/// Writes the sixteen files into a folder and says how large each is.
+/// Writes the seventeen files into a folder and says how large each is.
 pub fn write(folder: &Path) -> Result<(), String> {
     std::fs::create_dir_all(folder).map_err(|error| error.to_string())?;
     for name in NAMES {
@@ -141,7 +146,7 @@ fn make(name: &str) -> (usize, Vec<u32>) {
     }
 }
 
-/// The cases of one of the fourteen files that hold cases.
+/// The cases of one of the fifteen files that hold cases.
 fn cases_of(name: &str) -> Vec<Case> {
     match name {
         "zone" => zone_cases(),
@@ -157,6 +162,7 @@ fn cases_of(name: &str) -> Vec<Case> {
         "ends" => ends(),
         "rules" => rules(),
         "singles" => singles(),
+        "settings" => settings(),
         _ => turns_and_far_indices(),
     }
 }
@@ -317,6 +323,23 @@ fn singles() -> Vec<Case> {
     }
     for _ in 0..SINGLE_RUN_CASES {
         cases.extend(under_both(single_run_case(&mut random)));
+    }
+    cases
+}
+
+/// The lines that set vectors and sizes where they turn, then random ones alone, by
+/// either of the rules, then among other lines, by both.
+fn settings() -> Vec<Case> {
+    let mut random = Random::new(SETTINGS_SEED);
+    let mut cases = every_setting();
+    for row in setting_rows() {
+        cases.extend((0..SETTINGS_EACH).map(|_| {
+            let case = setting_case(&mut random, row);
+            case.under(random.pick(&ALL_RULES))
+        }));
+    }
+    for _ in 0..SETTING_RUN_CASES {
+        cases.extend(under_both(setting_run_case(&mut random)));
     }
     cases
 }

@@ -17,7 +17,7 @@ static int active;
 static struct words pending;
 static enum { NOTHING, AS_IT_STANDS, TOO_FEW_OPERANDS, SHIFT_BY_POINTS } pending_as;
 static int compatible_before;
-static FT_Long loop_before, settings_before[5];
+static FT_Long loop_before;
 
 /* ---- lists of words */
 
@@ -96,16 +96,24 @@ static const FT_Long *first_popped(TT_ExecContext exc)
     return exc->stack + exc->args + popped - 1;
 }
 
-/* Any operand may be a point, and any reference may be taken: what is named too often only makes a record longer. */
+/* The zone pointers that point at twilight, as bits. */
+static int twilight_pointers(TT_ExecContext exc)
+{
+    return (exc->GS.gep0 == TWILIGHT) | (exc->GS.gep1 == TWILIGHT) << 1 | (exc->GS.gep2 == TWILIGHT) << 2;
+}
+
+/* Any operand may be such a point, and any reference may be taken: what is named too often only makes a record longer. */
 static void note_twilight(TT_ExecContext exc)
 {
-    if (exc->GS.gep0 && exc->GS.gep1 && exc->GS.gep2)
-        return;
-    for (size_t k = 0; k < pending.length; k++)
-        name_twilight(exc, pending.word[k]);
-    name_twilight(exc, exc->GS.rp0);
-    name_twilight(exc, exc->GS.rp1);
-    name_twilight(exc, exc->GS.rp2);
+    const struct opcode *opcode = &opcodes[exc->opcode];
+    if (opcode->points & twilight_pointers(exc))
+        for (size_t k = 0; k < pending.length; k++)
+            name_twilight(exc, pending.word[k]);
+    if (opcode->references & twilight_pointers(exc)) {
+        name_twilight(exc, exc->GS.rp0);
+        name_twilight(exc, exc->GS.rp1);
+        name_twilight(exc, exc->GS.rp2);
+    }
     if (exc->opcode >= SHC && exc->opcode <= SHZ_LAST && exc->GS.gep2 == TWILIGHT) {
         name_twilight(exc, exc->twilight.n_points - 1);
         run.twilight_shifted = 1;
@@ -160,6 +168,17 @@ static void take_operands(TT_ExecContext exc)
         pending_as = SHIFT_BY_POINTS;
 }
 
+/* Where the original points of SDPVTL are in one place, FreeType takes the current ones along their line, across or not. */
+static void note_line_of_one_point(TT_ExecContext exc, const FT_Long *args)
+{
+    FT_UShort from = (FT_UShort)args[0], to = (FT_UShort)args[1];
+    if (from >= exc->zp1.n_points || to >= exc->zp2.n_points)
+        return;
+    FT_Vector p = exc->zp1.org[from], q = exc->zp2.org[to];
+    if (p.x == q.x && p.y == q.y)
+        run.lowered |= LINE_OF_ONE_POINT;
+}
+
 static void finish_line(TT_ExecContext exc)
 {
     switch (pending_as) {
@@ -171,10 +190,11 @@ static void finish_line(TT_ExecContext exc)
         }
         break;
     case TOO_FEW_OPERANDS: /* FreeType does nothing but reset the counter */
+        run.lowered |= COUNTER_SET_BACK;
         write_line1(SLOOP, 1);
         break;
     case SHIFT_BY_POINTS:
-        run.lowered |= LEFT_OUT;
+        run.lowered |= SHIFT_LEFT_OUT;
         if (loop_before != 1)
             write_line1(SLOOP, 1);
         break;
@@ -185,24 +205,6 @@ static void finish_line(TT_ExecContext exc)
 
 /* ---- what isn't a line */
 
-static void settings(TT_ExecContext exc, FT_Long *out)
-{
-    out[0] = exc->GS.minimum_distance;
-    out[1] = exc->GS.control_value_cutin;
-    out[2] = exc->GS.single_width_cutin;
-    out[3] = exc->GS.single_width_value;
-    out[4] = exc->GS.auto_flip;
-}
-
-static void finish_setter(TT_ExecContext exc)
-{
-    FT_Long now[5];
-    settings(exc, now);
-    if (memcmp(now, settings_before, sizeof now))
-        hinder(SETTING_CHANGED, exc->opcode);
-    run.lowered |= LEFT_OUT;
-}
-
 static void move_to_coordinate(TT_ExecContext exc, FT_Long *args)
 {
     FT_UShort point = (FT_UShort)args[0];
@@ -212,6 +214,15 @@ static void move_to_coordinate(TT_ExecContext exc, FT_Long *args)
         hinder(TWILIGHT_POINT_MOVED, exc->opcode);
     else
         lower_move(exc, point, args[1] - exc->func_project(exc, exc->zp2.cur[point].x, exc->zp2.cur[point].y));
+}
+
+/* What the lines before it did stands: FreeType, which isn't pedantic, shows such a glyph. An instruction that moves or sets may have got halfway. */
+static void end_by_error(int opcode)
+{
+    if (opcodes[opcode].handling == UNSEEN)
+        run.lowered |= ENDED_BY_ERROR;
+    else
+        hinder(ENDED_BY_FREETYPE, opcode);
 }
 
 /* ---- the calls of ttinterp.c */
@@ -248,7 +259,8 @@ void trace_before(TT_ExecContext exc, FT_Long *args)
     pending_as = NOTHING;
     loop_before = exc->GS.loop;
     compatible_before = exc->backward_compatibility;
-    settings(exc, settings_before);
+    if (exc->opcode == SDPVTL_ACROSS)
+        note_line_of_one_point(exc, args);
     if (opcodes[exc->opcode].handling == LINE)
         take_operands(exc);
     else if (exc->opcode == SCFS)
@@ -262,12 +274,6 @@ void trace_after(TT_ExecContext exc)
     switch (opcodes[exc->opcode].handling) {
     case LINE:
         finish_line(exc);
-        break;
-    case SETTER:
-        finish_setter(exc);
-        break;
-    case VECTOR:
-        lower_to_axes(exc);
         break;
     case SWITCH:
         if (compatible_before != exc->backward_compatibility)
@@ -302,6 +308,6 @@ void trace_end(TT_ExecContext exc, int error)
         return;
     active = 0;
     if (error)
-        hinder(ENDED_BY_FREETYPE, exc->opcode);
+        end_by_error(exc->opcode);
     run_ended(exc);
 }

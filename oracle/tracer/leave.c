@@ -2,14 +2,15 @@
  *
  * Replays frames of records with the proved library, under the rules freetype, and writes of each a frame with all that it leaves: the answer's
  * four numbers, the state, x, y and flags of the glyph, and the five lists of the twilight zone. The program replay_records prints the answer
- * and the glyph alone. The records are the tracer's own, of edition 3, so their counts are taken as they stand once they are seen to fill the record. */
+ * and the glyph alone. The records are the tracer's own, of edition 3, so their counts are taken as they stand once they are seen to fill the record;
+ * they may be longer than a record may be, for the library has no such limit. */
 #include <stdint.h>
 #include <stdio.h>
 #include <stdlib.h>
 
 #include "taleviqa.h"
 
-enum { MOST_WORDS = 6144, TRAILER_WORDS = 8 };
+enum { MOST_WORDS = 1 << 20, TRAILER_WORDS = 8 };
 
 static int32_t record[MOST_WORDS];
 static uint8_t flags[MOST_WORDS], twilight_flags[MOST_WORDS];

@@ -9,18 +9,6 @@ static int axis_of(FT_UnitVector vector)
     return vector.x == 0 && vector.y == 0x4000 ? 0 : -1;
 }
 
-void lower_to_axes(TT_ExecContext exc)
-{
-    int projection = axis_of(exc->GS.projVector), freedom = axis_of(exc->GS.freeVector);
-    if (projection < 0 || freedom < 0 || axis_of(exc->GS.dualVector) != projection) {
-        hinder(OFF_THE_AXES, exc->opcode);
-        return;
-    }
-    run.lowered |= AXES;
-    write_line(SPVTCA + projection, 0, NULL);
-    write_line(SFVTCA + freedom, 0, NULL);
-}
-
 static void point_zones_at(TT_ExecContext exc, int zone)
 {
     if (exc->GS.gep0 != zone)

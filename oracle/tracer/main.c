@@ -2,8 +2,9 @@
  *
  * Loads every simple glyph of a font file at a size with FreeType's interpreter, and flattens each run of a glyph program into a record.
  * MODE: 35 interpreter version 35; 40 version 40; lcd version 40 for an LCD.
- * Writes OUT.records (frames of records), OUT.prints (frames: what each must print), OUT.after (frames: all that each must leave) and OUT.runs,
- * a line of text for each run: the glyph, the obstacle or "held", the opcode that it is about, what was lowered, lines and words of the sheet, and points.
+ * Writes OUT.records (frames of records), OUT.prints (frames: what each must print), OUT.after (frames: all that each must leave), the same of records
+ * that are too long, whose sheets are to be fed, as OUT.fed.records and so on, and OUT.runs, a line of text for each run: the glyph, the obstacle or
+ * "held", the opcode that it is about, what was lowered, lines and words of the sheet, and points.
  * Prints the numbers of glyphs, and how often each opcode was executed and stands in a record. */
 #include <stdlib.h>
 #include <string.h>
@@ -14,8 +15,6 @@
 
 static const char *const names[OBSTACLES] = {
     [HELD] = "held",
-    [OFF_THE_AXES] = "off-the-axes",
-    [SETTING_CHANGED] = "setting-changed",
     [COMPATIBILITY_SWITCHED] = "compatibility-switched",
     [TWILIGHT_POINT_MOVED] = "twilight-point-moved",
     [SHIFT_OFF_THE_AXES] = "shift-off-the-axes",
@@ -25,7 +24,8 @@ static const char *const names[OBSTACLES] = {
     [ENDED_BY_FREETYPE] = "ended-by-freetype",
 };
 
-static FILE *records, *prints, *after, *runs;
+static struct streams whole, fed;
+static FILE *runs;
 static FT_UInt glyph;
 static unsigned long held_lines[256];
 
@@ -43,7 +43,7 @@ static void count_lines(void)
 
 void run_ended(TT_ExecContext exc)
 {
-    if (run.obstacle == HELD && !write_record(exc, records, prints, after))
+    if (run.obstacle == HELD && !write_record(exc, &whole, &fed))
         hinder(ABOVE_24_KIB, 0);
     if (run.obstacle == HELD)
         count_lines();
@@ -65,6 +65,13 @@ static void close_output(FILE *file)
 {
     if (ferror(file) || fclose(file))
         fail("an output was not written whole");
+}
+
+static void close_streams(const struct streams *streams)
+{
+    close_output(streams->records);
+    close_output(streams->prints);
+    close_output(streams->after);
 }
 
 static FT_Face open_font(const char *font, const char *mode, int ppem)
@@ -93,9 +100,8 @@ int main(int count, char **words)
     FT_Face face = open_font(words[1], words[2], atoi(words[3]));
     FT_Int32 flags = FT_LOAD_NO_BITMAP | FT_LOAD_NO_AUTOHINT | (strcmp(words[2], "lcd") ? FT_LOAD_TARGET_NORMAL : FT_LOAD_TARGET_LCD);
     long simple = 0, failed = 0;
-    records = open_output(words[4], "records");
-    prints = open_output(words[4], "prints");
-    after = open_output(words[4], "after");
+    whole = (struct streams){open_output(words[4], "records"), open_output(words[4], "prints"), open_output(words[4], "after")};
+    fed = (struct streams){open_output(words[4], "fed.records"), open_output(words[4], "fed.prints"), open_output(words[4], "fed.after")};
     runs = open_output(words[4], "runs");
     for (glyph = 0; glyph < (FT_UInt)face->num_glyphs; glyph++) {
         following = 0;
@@ -105,9 +111,8 @@ int main(int count, char **words)
         simple++;
         failed += FT_Load_Glyph(face, glyph, flags) != 0;
     }
-    close_output(records);
-    close_output(prints);
-    close_output(after);
+    close_streams(&whole);
+    close_streams(&fed);
     close_output(runs);
     printf("glyphs %ld simple %ld failed %ld\n", face->num_glyphs, simple, failed);
     for (int opcode = 0; opcode < 256; opcode++)

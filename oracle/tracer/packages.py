@@ -4,6 +4,7 @@ import pathlib
 import shutil
 import subprocess
 import tarfile
+import threading
 
 from lib.calls import Bad
 
@@ -30,10 +31,14 @@ class Packages:
 
     def __init__(self, cache):
         self.apt, self.debs, self.fonts = cache / "apt", cache / "packages", cache / "fonts"
-        self.no_lists, self.fetched = None, False
+        self.no_lists, self.fetched, self.one_at_a_time = None, False, threading.Lock()
 
     def font(self, font):
         """The file of a font, and its package's version."""
+        with self.one_at_a_time:
+            return self.file_and_version(font)
+
+    def file_and_version(self, font):
         deb = self.package(font.package)
         version = self.output(["dpkg-deb", "--field", str(deb), "Version"], f"{deb.name} can't be read").decode().strip()
         path = self.fonts / deb.stem / font.file

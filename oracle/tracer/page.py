@@ -16,8 +16,10 @@ NO_PROGRAM = "none"
 MEANS = {
     1: "a point that DELTAP, SCFS or SHPIX moves goes by MSIRP, or by ALIGNRP in twilight",
     2: "a control value that the program changed has an entry of its own",
-    4: "vectors that come out on the axes are set by SPVTCA and SFVTCA",
-    8: "a setter that changes nothing is left out, or a SHPIX under backward compatibility",
+    4: "a SHPIX under backward compatibility is left out, but for the points that it moves",
+    8: "FreeType ends the program with an error, which isn't at a line: the lines before it stand",
+    16: "the record would have more than 24 KiB: its sheet is fed to it by feed_sheet",
+    32: "a looped instruction finds too few operands, and FreeType does nothing but set the loop counter back: SLOOP",
 }
 
 
@@ -61,6 +63,7 @@ def totals(results):
         ("different font programs (fpgm)", len(programs)), ("glyph programs run", number(total(results, "runs"))),
         ("of these became records", number(total(results, "held"))), ("replayed to what FreeType reached, to the last word", number(total(results, "same"))),
         ("differ, for a named reason", number(len(apart) - unnamed)), ("differ, for none", number(unnamed)),
+        ("have an SDPVTL across two points that are one in the original outline", number(tally.with_means(results, tracing.LINE_OF_ONE_POINT))),
         ("points in these records", number(total(results, "points"))), ("lines in these records", number(total(results, "lines"))),
     ]
     return table(["", "count"], rows)
@@ -107,9 +110,8 @@ def opcodes(results):
 
 
 def means(results):
-    lowered = tally.merged(results, "lowered")
-    rows = [["every line stands as it was executed", number(lowered["0"])]]
-    rows += [[words, number(sum(times for bits, times in lowered.items() if int(bits) & bit))] for bit, words in MEANS.items()]
+    rows = [["every line stands as it was executed", number(tally.merged(results, "lowered")["0"])]]
+    rows += [[words, number(tally.with_means(results, bit))] for bit, words in MEANS.items()]
     return table(["what was done to hold a run", "records"], rows)
 
 

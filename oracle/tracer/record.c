@@ -202,18 +202,21 @@ static void write_print(FILE *out, TT_ExecContext exc)
     write_frame(out, text, (size_t)size);
 }
 
-int write_record(TT_ExecContext exc, FILE *records, FILE *prints, FILE *after)
+int write_record(TT_ExecContext exc, const struct streams *whole, const struct streams *fed)
 {
     static struct words record, left;
     fill_in_places();
     put_record(&record);
-    if (4 * record.length > MOST_BYTES)
+    if (4 * (record.length - run.sheet.length) > MOST_BYTES)
         return 0;
     put_after(&left, exc);
     if (run.obstacle != HELD) /* what is left has more than 32 bits */
         return 1;
-    write_frame(records, record.word, 4 * record.length);
-    write_frame(after, left.word, 4 * left.length);
-    write_print(prints, exc);
+    int fits = 4 * record.length <= MOST_BYTES;
+    const struct streams *out = fits ? whole : fed;
+    run.lowered |= fits ? NONE : SHEET_FED;
+    write_frame(out->records, record.word, 4 * record.length);
+    write_frame(out->after, left.word, 4 * left.length);
+    write_print(out->prints, exc);
     return 1;
 }

@@ -6,23 +6,18 @@ import tracing
 
 # why a run can't be held, in words; NAME is the instruction that is the reason
 OBSTACLES = {
-    "off-the-axes": "NAME turns a vector off the axes",
-    "setting-changed": "NAME changes a setting",
     "compatibility-switched": "NAME switches backward compatibility",
     "twilight-point-moved": "NAME moves a twilight point",
     "shift-off-the-axes": "NAME under backward compatibility, off the axes",
     "spare-point-shifted": "NAME shifts the twilight zone, where SHPIX needs a spare point",
     "above-32-bits": "a number has more than 32 bits",
-    "above-24-kib": "the record would have more than 24 KiB",
+    "above-24-kib": "the record would have more than 24 KiB without its sheet",
     "ended-by-freetype": "FreeType ends the program with an error, at NAME",
 }
-# names of what isn't in the table of opcodes and can be a reason
-OTHERS = {0x2B: "CALL"}
 
 
 def name_of(code):
-    row = opcode_table.names().get(code)
-    return row.name if row else OTHERS.get(code, f"0x{code:02X}")
+    return opcode_table.names()[code].name
 
 
 def total(results, what):
@@ -41,6 +36,11 @@ def merged(results, what):
         for size in result["sizes"].values():
             counts.update(size[what])
     return counts
+
+
+def with_means(results, bit):
+    """How many records the tracer says a thing of."""
+    return sum(times for bits, times in merged(results, "lowered").items() if int(bits) & bit)
 
 
 def obstacle_in_words(obstacle):

@@ -24,7 +24,7 @@ void put(struct words *list, int32_t word);
 void clear(struct words *list);
 
 /* How the table handles an instruction. */
-enum handling { UNSEEN, LINE, SETTER, VECTOR, MOVE, VALUE, SWITCH };
+enum handling { UNSEEN, LINE, MOVE, VALUE, SWITCH };
 
 /* Operands of a line that takes them by the loop counter. */
 enum { BY_LOOP = -1, BY_LOOP_AND_ONE = -2 };
@@ -32,14 +32,14 @@ enum { BY_LOOP = -1, BY_LOOP_AND_ONE = -2 };
 struct opcode {
     unsigned char handling;
     signed char operands;
+    /* the zone pointers by which its operands and its references are points: bits 0, 1 and 2 */
+    unsigned char points, references;
 };
 
 extern const struct opcode opcodes[256];
 
 /* Instructions that are more than their row of the table. */
 enum {
-    SPVTCA = 0x02,
-    SFVTCA = 0x04,
     SRP0 = 0x10,
     SRP1 = 0x11,
     SRP2 = 0x12,
@@ -58,6 +58,7 @@ enum {
     SCFS = 0x48,
     MD = 0x49,
     MD_LAST = 0x4A,
+    SDPVTL_ACROSS = 0x87,
     MIRP = 0xE0
 };
 
@@ -66,8 +67,6 @@ enum { TWILIGHT = 0, GLYPH = 1 };
 /* Why a run can't be held by a sheet. main.c has their names. */
 enum obstacle {
     HELD,
-    OFF_THE_AXES,
-    SETTING_CHANGED,
     COMPATIBILITY_SWITCHED,
     TWILIGHT_POINT_MOVED,
     SHIFT_OFF_THE_AXES,
@@ -78,8 +77,17 @@ enum obstacle {
     OBSTACLES
 };
 
-/* What was put in the place of an instruction, by bits. */
-enum lowering { NONE = 0, MOVED_BY_MSIRP = 1, VALUE_OF_ITS_OWN = 2, AXES = 4, LEFT_OUT = 8 };
+/* What was put in the place of an instruction, by bits; the last is of a line that the replayer does otherwise. */
+enum lowering {
+    NONE = 0,
+    MOVED_BY_MSIRP = 1,
+    VALUE_OF_ITS_OWN = 2,
+    SHIFT_LEFT_OUT = 4,
+    ENDED_BY_ERROR = 8,
+    SHEET_FED = 16,
+    COUNTER_SET_BACK = 32,
+    LINE_OF_ONE_POINT = 64
+};
 
 enum { TWILIGHT_LISTS = 5, PHANTOM_POINTS = 4 };
 
@@ -114,15 +122,18 @@ void write_line(int opcode, size_t count, const int32_t *operands);
 void write_line1(int opcode, int32_t operand);
 
 /* lower.c: lines in the place of what a sheet doesn't take */
-void lower_to_axes(TT_ExecContext exc);
 void lower_move(TT_ExecContext exc, int point, FT_Long by);
 void lower_shift(TT_ExecContext exc, int point, FT_Long dy);
 
 /* record.c: what FreeType starts with and ends with, as a record's words */
 void snapshot(TT_ExecContext exc);
 void name_twilight(TT_ExecContext exc, FT_Long point);
-/* Writes the record, the print that it must come to and all that it must leave; 0 where it has no room. */
-int write_record(TT_ExecContext exc, FILE *records, FILE *prints, FILE *after);
+/* Files of records, of the print that each must come to and of all that it must leave. */
+struct streams {
+    FILE *records, *prints, *after;
+};
+/* Writes a run to the first, or to the second where the record has room only without its sheet; 0 where it has none so either. */
+int write_record(TT_ExecContext exc, const struct streams *whole, const struct streams *fed);
 
 /* follow.c: what the calls in ttinterp.c lead to */
 extern int following;

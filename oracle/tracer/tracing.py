@@ -11,21 +11,25 @@ import opcode_table
 from lib.calls import Bad
 
 MODES = {"35": "version 35", "40": "version 40", "lcd": "version 40, LCD"}
+RULES = "freetype"
 FRAME = struct.Struct("<I")
+# what the tracer says of a run whose record is too long with its sheet, and of one with a line that FreeType does otherwise
+SHEET_FED, LINE_OF_ONE_POINT = 16, 64
 # places in what a run leaves: the answer's four numbers, the state with its zone pointers, and then the points
 NUMBER, PLACE, DETAIL, STATE, POINTERS, POINTS = 0, 1, 3, 4, slice(21, 24), 38
 # places in a record's trailer, counted from its end
-N, M, VALUES, SHEET, TRAILER_WORDS = -8, -6, -5, -4, 8
+N, M, VALUES, SHEET, EDITION, TRAILER_WORDS = -8, -6, -5, -4, -3, 8
 # answers that FreeType hasn't when it isn't pedantic: it goes on (docs/DIFFERENCES.md, Refusals)
 NAMED = {7: "a point outside its zone", 8: "a control value outside the list", 9: "a bad zone", 11: "a range outside"}
+ONE_POINT = "SDPVTL across two points that are one in the original outline: FreeType takes the current ones along their line"
 UNNAMED = "no known reason"
 
 
 class Programs:
-    """The tracer, the proved program for many records, and the program around the proved library; and the sum of all."""
+    """The tracer, the proved programs for many records and for a sheet that is fed, and the program around the proved library; and the sum of all."""
 
-    def __init__(self, tracer, replayer, leaver, total):
-        self.tracer, self.replayer, self.leaver, self.total = tracer, replayer, leaver, total
+    def __init__(self, tracer, replayer, feeder, leaver, total):
+        self.tracer, self.replayer, self.feeder, self.leaver, self.total = tracer, replayer, feeder, leaver, total
 
 
 def sum_of(path):
@@ -35,10 +39,14 @@ def sum_of(path):
 def run(words, path=None):
     """What a program writes, given a file. It has to end with status 0 and say nothing else."""
     with open(path or "/dev/null", "rb") as given:
-        try:
-            ran = subprocess.run(words, stdin=given, stdout=subprocess.PIPE, stderr=subprocess.PIPE)
-        except OSError as bad:
-            raise Bad(f"{words[0]}: {bad.strerror}") from None
+        return output_of(words, stdin=given)
+
+
+def output_of(words, **given):
+    try:
+        ran = subprocess.run(words, **given, stdout=subprocess.PIPE, stderr=subprocess.PIPE)
+    except OSError as bad:
+        raise Bad(f"{words[0]}: {bad.strerror}") from None
     if ran.returncode or ran.stderr:
         raise Bad(f"{words[0]} ended with status {ran.returncode}: {ran.stderr.decode(errors='replace').strip()}")
     return ran.stdout
@@ -57,6 +65,10 @@ def frames(stream):
 
 def words_of(data):
     return struct.unpack(f"<{len(data) // 4}i", data)
+
+
+def packed(words):
+    return struct.pack(f"<{len(words)}I", *(word & 0xFFFFFFFF for word in words))
 
 
 # ---- one font in one mode
@@ -105,10 +117,11 @@ def trace(programs, path, mode, size, out):
     return [(code, int(times), int(held)) for code, times, held in (line.split() for line in said[1:])]
 
 
-def held_runs(out):
-    """The glyphs of the runs that became records, in the records' order."""
+def held_runs(out, fed=False):
+    """The runs that became records, in the records' order, by glyph and means; those whose sheets are fed stand by themselves."""
     rows = [line.split() for line in pathlib.Path(f"{out}.runs").read_text().splitlines()]
-    return [int(row[0]) for row in rows if row[1] == "held"]
+    held = [(int(row[0]), int(row[3])) for row in rows if row[1] == "held"]
+    return [(glyph, means) for glyph, means in held if bool(means & SHEET_FED) == fed]
 
 
 def counted(out, apart):
@@ -131,29 +144,48 @@ def counted(out, apart):
 
 
 def compared(programs, out):
-    """The runs that end otherwise: glyph, record, what FreeType leaves and what the replay leaves."""
+    """The runs that end otherwise: glyph and means, record, what FreeType leaves and what the replay leaves."""
+    records, fed_records = pathlib.Path(f"{out}.records"), pathlib.Path(f"{out}.fed.records")
+    fed = [feed(programs, words_of(record)) for record in frames(fed_records.read_bytes())]
+    whole = apart(programs, out, held_runs(out), run([*programs.replayer, RULES], records))
+    return whole + apart(programs, f"{out}.fed", held_runs(out, fed=True), b"".join(FRAME.pack(len(text)) + text for text in fed))
+
+
+def feed(programs, record):
+    """What is printed of a record that is too long, when its sheet is fed to what it is without it."""
+    end = len(record) - TRAILER_WORDS
+    start = end - record[SHEET]
+    words = [*record[:start], *record[end:SHEET], 0, record[EDITION], 4 * start]
+    data = packed([*words, sum(words)])
+    return output_of([*programs.feeder, RULES], input=FRAME.pack(len(data)) + data + packed(record[start:end]))
+
+
+def apart(programs, out, runs, printed):
+    """What of these runs ends otherwise, by what was printed of them and what the library leaves."""
     records, wanted, prints = (pathlib.Path(f"{out}.{kind}") for kind in ("records", "after", "prints"))
-    left, printed = run([str(programs.leaver)], records), run([*programs.replayer, "freetype"], records)
+    left = run([str(programs.leaver)], records)
     if left == wanted.read_bytes() and printed == prints.read_bytes():
         return []
-    rows = [held_runs(out), *(frames(stream) for stream in (records.read_bytes(), wanted.read_bytes(), left, prints.read_bytes(), printed))]
+    rows = [runs, *(frames(stream) for stream in (records.read_bytes(), wanted.read_bytes(), left, prints.read_bytes(), printed))]
     if len({len(row) for row in rows}) != 1:
         raise Bad("a program didn't answer every record")
-    return [(glyph, record, after, got) for glyph, record, after, got, text, said in zip(*rows) if after != got or text != said]
+    return [(held, record, after, got) for held, record, after, got, text, said in zip(*rows) if after != got or text != said]
 
 
 def kept_difference(folder, path, mode, size, difference):
     """A difference as it is counted; its record is kept for a closer look."""
-    glyph, record, after, got = difference
+    (glyph, means), record, after, got = difference
     kept = folder / "different" / f"{path.stem}.{mode}.{size}.{glyph}.record"
     kept.parent.mkdir(parents=True, exist_ok=True)
     kept.write_bytes(record)
-    return {"size": size, "glyph": glyph, "reason": reason_of(record, after, got), "record": kept.name}
+    return {"size": size, "glyph": glyph, "reason": reason_of(means, record, after, got), "record": kept.name}
 
 
-def reason_of(record, after, got):
+def reason_of(means, record, after, got):
     """Why a replay ends otherwise than FreeType, by the answer; the line is named that was refused."""
     got, held = words_of(got), words_of(record)
+    if got[NUMBER] == 0 and means & LINE_OF_ONE_POINT:
+        return ONE_POINT
     if got[NUMBER] in NAMED and is_outside(held, got):
         sheet = len(held) - TRAILER_WORDS - held[SHEET]
         row = opcode_table.names()[held[sheet + got[PLACE]]]

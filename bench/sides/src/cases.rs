@@ -384,6 +384,55 @@ fn setters(cases: &mut Vec<Case>) {
     ));
 }
 
+/// Points on one vertical line, or anywhere.
+fn placed(straight: bool) -> World {
+    let mut world = world(64, 16);
+    if straight {
+        world.original[0].fill(100);
+        world.current[0].fill(100);
+    }
+    world
+}
+
+const PAIR: Operands = |k| vec![point(k), point(k + 3)];
+
+/// Lines that set a vector, straight and between the axes, and lines that set a size.
+fn settings(cases: &mut Vec<Case>) {
+    let to_line: [(&str, i32); 6] = [
+        ("SPVTL[0]", 0x06),
+        ("SPVTL[1]", 0x07),
+        ("SFVTL[0]", 0x08),
+        ("SFVTL[1]", 0x09),
+        ("SDPVTL[0]", 0x86),
+        ("SDPVTL[1]", 0x87),
+    ];
+    for (name, opcode) in to_line {
+        for (how, straight) in [("straight", true), ("diagonal", false)] {
+            let mut world = placed(straight);
+            lines_of(&mut world, LINE_COUNT, opcode, &PAIR);
+            let name = format!("{name}, {how}");
+            cases.push(case("setter", name, LINE_COUNT, "lines", world));
+        }
+    }
+    let others: [(&str, i32, Operands); 10] = [
+        ("SPVFS, straight", 0x0A, |_| vec![0, 0x4000]),
+        ("SPVFS, diagonal", 0x0A, |k| vec![k as i32 + 1, 0x2000]),
+        ("SFVFS, straight", 0x0B, |_| vec![0x4000, 0]),
+        ("SFVFS, diagonal", 0x0B, |k| vec![0x2000, -1 - k as i32]),
+        ("SFVTPV", 0x0E, |_| vec![]),
+        ("SMD", 0x1A, |k| vec![k as i32]),
+        ("SCVTCI", 0x1D, |k| vec![k as i32]),
+        ("SSWCI", 0x1E, |k| vec![k as i32]),
+        ("SSW", 0x1F, |k| vec![k as i32]),
+        ("FLIPON", 0x4D, |_| vec![]),
+    ];
+    for (name, opcode, operands) in others {
+        let mut world = world(64, 16);
+        lines_of(&mut world, LINE_COUNT, opcode, &operands);
+        cases.push(case("setter", name.into(), LINE_COUNT, "lines", world));
+    }
+}
+
 fn sheets(cases: &mut Vec<Case>) {
     for (name, points, contour) in [
         ("no point", 0, 1),
@@ -558,6 +607,7 @@ pub fn all() -> Vec<Case> {
     lines(&mut cases);
     loops(&mut cases);
     setters(&mut cases);
+    settings(&mut cases);
     sheets(&mut cases);
     cases
 }

@@ -2,7 +2,7 @@
 
 use crate::{
     iup::Stretch,
-    math::{mul, mul14, mul_div},
+    math::{mul, mul14, mul_div, unit},
     round::{RoundMode, RoundState},
     run::{Refusal, Replayer, Rules},
     state::{Point, ZonePointer},
@@ -32,6 +32,22 @@ fn zone_of(operand: i32) -> Result<ZonePointer, Refusal> {
     }
 }
 
+fn unit_vector(x: i32, y: i32) -> Point {
+    let (x, y) = unit(x, y);
+    Point { x, y }
+}
+
+/// Along the line between two points, or for an odd opcode across it; the x axis where they are one.
+fn line_vector(opcode: u8, to: Point, start: Point) -> Point {
+    let x = to.x.wrapping_sub(start.x);
+    let y = to.y.wrapping_sub(start.y);
+    match (x, y) {
+        (0, 0) => Point { x: 0x4000, y: 0 },
+        _ if opcode & 1 == 1 => unit_vector(y.wrapping_neg(), x),
+        _ => unit_vector(x, y),
+    }
+}
+
 /// The operands of a line that takes as many as the loop counter says, each as it is wanted.
 fn each(operands: &[i32], count: u32, mut point: impl FnMut(usize) -> Done) -> Done {
     let count = count as usize;
@@ -48,6 +64,12 @@ impl Replayer<'_> {
     pub fn perform(&mut self, opcode: u8, operands: &[i32]) -> Done {
         match opcode {
             0x00..=0x05 => self.svtca(opcode),
+            0x06..=0x09 => self.svtl(opcode, operands)?,
+            0x0A | 0x0B => self.svfs(opcode, operands)?,
+            0x0E => {
+                self.state.freedom = self.state.projection;
+                self.state.update_projection();
+            }
             0x0F => self.isect(operands)?,
             0x10 => self.state.rp0 = index_of(taken::<1>(operands)?[0]),
             0x11 => self.state.rp1 = index_of(taken::<1>(operands)?[0]),
@@ -64,6 +86,10 @@ impl Replayer<'_> {
             0x17 => self.sloop(operands)?,
             0x18 => self.state.round.mode = RoundMode::Grid,
             0x19 => self.state.round.mode = RoundMode::HalfGrid,
+            0x1A => self.state.minimum_distance = taken::<1>(operands)?[0],
+            0x1D => self.state.cut_in = taken::<1>(operands)?[0],
+            0x1E => self.state.single_width_cut_in = taken::<1>(operands)?[0],
+            0x1F => self.state.single_width = mul(taken::<1>(operands)?[0], self.state.scale),
             0x3D => self.state.round.mode = RoundMode::DoubleGrid,
             0x7D => self.state.round.mode = RoundMode::DownToGrid,
             0x7C => self.state.round.mode = RoundMode::UpToGrid,
@@ -84,9 +110,12 @@ impl Replayer<'_> {
             0x3E | 0x3F => self.miap(opcode, operands)?,
             0x46 | 0x47 => self.gc(opcode, operands)?,
             0x49 | 0x4A => self.md(opcode, operands)?,
+            0x4D => self.state.auto_flip = true,
+            0x4E => self.state.auto_flip = false,
             0x80 => self.flippt(operands)?,
             0x81 => self.fliprg(true, operands)?,
             0x82 => self.fliprg(false, operands)?,
+            0x86 | 0x87 => self.sdpvtl(opcode, operands)?,
             0xC0..=0xDF => self.mdrp(opcode, operands)?,
             0xE0..=0xFF => self.mirp(opcode, operands)?,
             _ => return Err(Refusal::Line),
@@ -106,6 +135,49 @@ impl Replayer<'_> {
             self.state.freedom = axis;
         }
         self.state.update_projection();
+    }
+
+    fn svtl(&mut self, opcode: u8, operands: &[i32]) -> Done {
+        let [second, first] = indices(operands)?;
+        let to = self.point(self.state.zp1, first)?;
+        let vector = line_vector(opcode, to, self.point(self.state.zp2, second)?);
+        if opcode < 8 {
+            self.state.projection = vector;
+            self.state.dual = vector;
+        } else {
+            self.state.freedom = vector;
+        }
+        self.state.update_projection();
+        Ok(())
+    }
+
+    fn sdpvtl(&mut self, opcode: u8, operands: &[i32]) -> Done {
+        let [second, first] = indices(operands)?;
+        let (zp1, zp2) = (self.state.zp1, self.state.zp2);
+        let was = self.original(zp1, first)?;
+        self.state.dual = line_vector(opcode, was, self.original(zp2, second)?);
+        let is = self.point(zp1, first)?;
+        self.state.projection = line_vector(opcode, is, self.point(zp2, second)?);
+        self.state.update_projection();
+        Ok(())
+    }
+
+    fn svfs(&mut self, opcode: u8, operands: &[i32]) -> Done {
+        let [y, x] = taken(operands)?.map(|part| i32::from(part as i16));
+        let of_projection = opcode == 0x0A;
+        let vector = match (x, y) {
+            (0, 0) if of_projection => self.state.projection,
+            (0, 0) => self.state.freedom,
+            _ => unit_vector(x, y),
+        };
+        if of_projection {
+            self.state.projection = vector;
+            self.state.dual = vector;
+        } else {
+            self.state.freedom = vector;
+        }
+        self.state.update_projection();
+        Ok(())
     }
 
     fn sloop(&mut self, operands: &[i32]) -> Done {

@@ -14,6 +14,8 @@ use line_flip::fliprg;
 use line_isect::isect;
 use line_iup::iup;
 use line_set::set_state;
+use line_sizes::set_measure;
+use line_vectors::turn;
 use rules::Rules;
 ghost use mathlib.Core.Path.{_≡_};
 ghost use Rattle.line.specs.World.{Sound, fixed, lined, world};
@@ -29,6 +31,8 @@ pub enum Kind {
     Distance,
     Measure,
     Point,
+    Vector,
+    Size,
     Flippt,
     Fliprg,
     Set,
@@ -44,6 +48,8 @@ fn kind_of(opcode: usize) -> Kind
         0x2E | 0x2F | 0x3A..=0x3C | 0x3E | 0x3F => Kind::Distance,
         0x46 | 0x47 | 0x49 | 0x4A | 0xC0..=0xFF => Kind::Measure,
         0x27 | 0x29 | 0x39 => Kind::Point,
+        0x06..=0x0B | 0x0E | 0x86 | 0x87 => Kind::Vector,
+        0x1A | 0x1D..=0x1F | 0x4D | 0x4E => Kind::Size,
         0x80 => Kind::Flippt,
         0x81 | 0x82 => Kind::Fliprg,
         _ => Kind::Set,
@@ -74,6 +80,8 @@ pub fn perform(
     requires { ⌜ Sound (fixed rules (now controls) (now gux) (now guy) (now gox) (now goy) (now contours)) (world s (now gx) (now gy) (now gflags) (now tox) (now toy) (now tx) (now ty) (now tflags)) ⌝ }
     ensures { λ r. ⌜ lined r (now (gx .exit)) (now (gy .exit)) (now (gflags .exit)) (now (tox .exit)) (now (toy .exit)) (now (tx .exit)) (now (ty .exit)) (now (tflags .exit)) ≡ lineOf (fixed rules (now (controls .entry)) (now (gux .entry)) (now (guy .entry)) (now (gox .entry)) (now (goy .entry)) (now (contours .entry))) opcode (now (operands .entry)) (world s (now (gx .entry)) (now (gy .entry)) (now (gflags .entry)) (now (tox .entry)) (now (toy .entry)) (now (tx .entry)) (now (ty .entry)) (now (tflags .entry))) ⌝ }
 {
+    // Here once, and the compiler knows each yes or no as one of the two at every exit: it then keeps all lines in the run's loop.
+    let s = s.by_words();
     let kind = kind_of(opcode);
     match kind {
         Kind::Isect => isect(s, operands, gx, gy, gflags, tx, ty, tflags),
@@ -146,6 +154,8 @@ pub fn perform(
             ty,
             tflags,
         ),
+        Kind::Vector => turn(s, opcode, operands, gox, goy, gx, gy, tox, toy, tx, ty),
+        Kind::Size => set_measure(s, opcode, operands),
         Kind::Flippt => flippt(s, operands, gflags),
         Kind::Fliprg => fliprg(s, opcode, operands, gflags),
         Kind::Set => set_state(s, opcode, operands),

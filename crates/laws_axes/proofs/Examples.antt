@@ -1,5 +1,5 @@
 -- Demand 3 is about some runs: pairs of starts that meet every premise, on each axis and refused by a line, and a run that moves points along the axis and none
--- across; and runs that show why its premises are asked: an intersection, a vector that is turned across, an interpolation across. All computed. Assumes nothing.
+-- across; and runs that show why its premises are asked: an intersection, a vector along a line of two points, one that is turned across, an interpolation across. All computed. Assumes nothing.
 use mathlib.Core.List.{List, [], _∷_, map}
 use mathlib.Core.Path.{_≡_, ap, refl}
 use Prim.Native.Nat.{ℕ}
@@ -20,6 +20,9 @@ use Rattle.line_distance.specs.Distance.{atLeast, finished, flippedOf, minimumO
 use Rattle.line_distance.specs.Outline.{originalsApart, outlineOf, unscaledApart}
 use Rattle.line_mdrp.specs.Mdrp.{mdrpDistance, mdrpOf}
 use Rattle.line_measure.specs.Measure.{gcOf}
+use Rattle.line_sizes.specs.Sizes.{measureBy, sizeBy, sizedBy, sizesOf}
+use Rattle.line_vectors.specs.Vectors.{alongAt, followed, lineVector, toLineOf, vectorBy, vectorOf}
+use Rattle.normalize.specs.Unit.{unitOf}
 use Rattle.line_mirp.specs.Mirp.{controlBy, mirpDistance, mirpOf}
 use Rattle.line_relative.specs.Relative.{bothThere, relatedBy}
 use Rattle.opcodes.specs.Table.{lineOf, needOf, rowOf}
@@ -34,7 +37,7 @@ use Rattle.laws_axes.specs.Reached.{afterCall, linesReached, none, reach
 use Rattle.flags.specs.declared.Axis.{Axis}
 use Rattle.flags.specs.declared.Axis.the-variants.{X, Y}
 use Rattle.int.specs.Word.{abs32, add32, maxZ, minZ, mul32, neg32, quot32, sub32, wrap32}
-use Rattle.graphics.specs.State.{allAlong, freshState, usableState, vectorInRange, vectorsInRange, withPush, withRounding, withVectors, yAxis}
+use Rattle.graphics.specs.State.{allAlong, freshState, usableState, vectorInRange, vectorsInRange, withPush, withRounding, withVectors, xAxis, yAxis}
 use Rattle.projection.specs.Projection.{alongOf, axisOf, freedomAxisBy, notSmall, rawFdotp}
 use Rattle.moves.specs.Apply.{applyIn, applyOf}
 use Rattle.line_set.specs.Setters.{axisBy, setBy, setOf, vectorsBy}
@@ -160,26 +163,26 @@ unfolding runOf runOnEntry entryOf risingFrom fits glyphFits twilightFits pairFi
 refused-second = ((refl, refl, refl, refl), (refl, refl, refl, refl))
 
 -- ---- a pair that measures
--- MDRP of point 1 from point 0, rounded and no nearer than the minimum distance, MIRP of point 2 by no control value, and GC of point 1
+-- SMD of 128, SFVTPV, MDRP of point 1 from point 0, rounded and no nearer than the minimum distance, MIRP of point 2 by no control value, and GC of point 1
 abbrev measuring : List ℤ
-measuring = pos 0xCC ∷ pos 1 ∷ pos 1 ∷ pos 0xE0 ∷ pos 2 ∷ negsuc 0 ∷ pos 2 ∷ pos 0x46 ∷ pos 1 ∷ pos 1 ∷ []
+measuring = pos 0x1A ∷ pos 1 ∷ pos 128 ∷ pos 0x0E ∷ pos 0 ∷ pos 0xCC ∷ pos 1 ∷ pos 1 ∷ pos 0xE0 ∷ pos 2 ∷ negsuc 0 ∷ pos 2 ∷ pos 0x46 ∷ pos 1 ∷ pos 1 ∷ []
 
-pub reaches-measuring : (a : Axis) → linesReached (glyph a here) measuring 3 0 (begun a here) ≡ 0xCC ∷ 0xE0 ∷ 0x46 ∷ []
-unfolding linesReached reachedOnEntry reachedFrom afterCall entryOf risingFrom fits glyphFits twilightFits pairFits placedFits usableState vectorsInRange vectorInRange stepOf onDecoded decodeOf decodeBy needOf lineOf rowOf setOf one two pointOr fetchIn placeIn madeIn moveIn laidIn applyIn fetchOf applyOf moveOf stepBy freedomAxisBy axisOf rawFdotp notSmall alongOf fromOrigin stepFrom roundedMoveIn withRounding withPush relatedBy bothThere controlBy mdrpOf mdrpDistance mirpOf mirpDistance gcOf outlineOf unscaledApart originalsApart singleOutline singleControl onSideOf flippedOf finished roundedUnless atLeast minimumOf mulDiv halfUp withSign grid inward outward plus negated pastBits multipleBelow add32 sub32 neg32 abs32 wrap32 maxZ minZ
+pub reaches-measuring : (a : Axis) → linesReached (glyph a here) measuring 5 0 (begun a here) ≡ 0x1A ∷ 0x0E ∷ 0xCC ∷ 0xE0 ∷ 0x46 ∷ []
+unfolding linesReached reachedOnEntry reachedFrom afterCall entryOf risingFrom fits glyphFits twilightFits pairFits placedFits usableState vectorsInRange vectorInRange stepOf onDecoded decodeOf decodeBy needOf lineOf rowOf setOf one two pointOr fetchIn placeIn madeIn moveIn laidIn applyIn fetchOf applyOf moveOf stepBy freedomAxisBy axisOf rawFdotp notSmall alongOf fromOrigin stepFrom roundedMoveIn withRounding withPush relatedBy bothThere controlBy mdrpOf mdrpDistance mirpOf mirpDistance gcOf outlineOf unscaledApart originalsApart singleOutline singleControl onSideOf flippedOf finished roundedUnless atLeast minimumOf mulDiv halfUp withSign grid inward outward plus negated pastBits multipleBelow add32 sub32 neg32 abs32 wrap32 maxZ minZ sizesOf measureBy sizeBy sizedBy vectorOf vectorBy followed
 reaches-measuring X = refl
 reaches-measuring Y = refl
 
-pub measure-alike : SameVertically (runOf (glyph Y here) measuring 3 0 (begun Y here)) (runOf (glyph Y there) measuring 3 0 (begun Y there))
+pub measure-alike : SameVertically (runOf (glyph Y here) measuring 5 0 (begun Y here)) (runOf (glyph Y there) measuring 5 0 (begun Y there))
 measure-alike =
-    vertical-runs-agree (glyph Y here) (glyph Y there) measuring 3 0 (begun Y here) (begun Y there) differ-in-x refl (ap (none (mixes Y)) (reaches-measuring Y))
+    vertical-runs-agree (glyph Y here) (glyph Y there) measuring 5 0 (begun Y here) (begun Y there) differ-in-x refl (ap (none (mixes Y)) (reaches-measuring Y))
 
 -- what is pushed is among the state: the same of both, along either axis
 abbrev Measured : Axis → Ran → Type 0
 Measured a r =
-    (coordinates a (r .world) ≡ five (pos 40) (pos 104) (pos 40) (pos 64) (pos 0)) × (r .world .state .tallies .«last_pushed» ≡ pos 104) × (r .world .state .tallies .pushes ≡ 1)
+    (coordinates a (r .world) ≡ five (pos 40) (pos 168) (pos 40) (pos 64) (pos 0)) × (r .world .state .tallies .«last_pushed» ≡ pos 168) × (r .world .state .tallies .pushes ≡ 1)
 
-pub measured : (a : Axis) → Measured a (runOf (glyph a here) measuring 3 0 (begun a here)) × Measured a (runOf (glyph a there) measuring 3 0 (begun a there))
-unfolding runOf runOnEntry replayOf onCall entryOf risingFrom fits glyphFits twilightFits pairFits placedFits usableState vectorsInRange vectorInRange stepOf onDecoded decodeOf decodeBy needOf lineOf rowOf setOf one two pointOr fetchIn placeIn madeIn moveIn laidIn applyIn fetchOf applyOf moveOf stepBy freedomAxisBy axisOf rawFdotp notSmall alongOf fromOrigin stepFrom roundedMoveIn withRounding withPush relatedBy bothThere controlBy mdrpOf mdrpDistance mirpOf mirpDistance gcOf outlineOf unscaledApart originalsApart singleOutline singleControl onSideOf flippedOf finished roundedUnless atLeast minimumOf mulDiv halfUp withSign grid inward outward plus negated pastBits multipleBelow add32 sub32 neg32 abs32 wrap32 maxZ minZ
+pub measured : (a : Axis) → Measured a (runOf (glyph a here) measuring 5 0 (begun a here)) × Measured a (runOf (glyph a there) measuring 5 0 (begun a there))
+unfolding runOf runOnEntry replayOf onCall entryOf risingFrom fits glyphFits twilightFits pairFits placedFits usableState vectorsInRange vectorInRange stepOf onDecoded decodeOf decodeBy needOf lineOf rowOf setOf one two pointOr fetchIn placeIn madeIn moveIn laidIn applyIn fetchOf applyOf moveOf stepBy freedomAxisBy axisOf rawFdotp notSmall alongOf fromOrigin stepFrom roundedMoveIn withRounding withPush relatedBy bothThere controlBy mdrpOf mdrpDistance mirpOf mirpDistance gcOf outlineOf unscaledApart originalsApart singleOutline singleControl onSideOf flippedOf finished roundedUnless atLeast minimumOf mulDiv halfUp withSign grid inward outward plus negated pastBits multipleBelow add32 sub32 neg32 abs32 wrap32 maxZ minZ sizesOf measureBy sizeBy sizedBy vectorOf vectorBy followed
 measured X = ((refl, refl, refl), (refl, refl, refl))
 measured Y = ((refl, refl, refl), (refl, refl, refl))
 
@@ -256,6 +259,22 @@ pub differs-by-isect :
     ≡ five (pos 40) (pos 100) (pos 0) (pos 64) (pos 32) ∷ five (pos 40) (pos 100) (pos 0) (pos 64) (pos 48) ∷ []
 unfolding runOf runOnEntry entryOf risingFrom fits glyphFits twilightFits pairFits placedFits usableState vectorsInRange vectorInRange replayOf stepOf onDecoded onCall decodeOf decodeBy needOf lineOf rowOf setOf one two takeFive controlAt pointOr fetchIn madeIn moveIn laidIn applyIn putTouched outsideMdap isectOf fetchOf crossingOf meet middleBy crossOf dotOf add32 sub32 neg32 abs32 mul32 quot32 mulDiv halfUp withSign wrap32 movedOf
 differs-by-isect = refl
+
+-- ---- a vector along a line
+-- SPVTL[0] from point 4 to point 2, whose heights are the same
+abbrev lining : List ℤ
+lining = pos 6 ∷ pos 2 ∷ pos 4 ∷ pos 2 ∷ []
+
+pub mixed-by-line : none (mixes Y) (linesReached (glyph Y here) lining 1 0 (begun Y here)) ≡ false
+unfolding linesReached reachedOnEntry reachedFrom entryOf risingFrom fits glyphFits twilightFits pairFits placedFits usableState vectorsInRange vectorInRange
+mixed-by-line = refl
+
+-- leftward here, and rightward there
+pub differs-by-line :
+    (runOf (glyph Y here) lining 1 0 (begun Y here) .world .state .vectors .projection ≡ record { x = negsuc 16383; y = pos 0 })
+    × (runOf (glyph Y there) lining 1 0 (begun Y there) .world .state .vectors .projection ≡ xAxis)
+unfolding runOf runOnEntry entryOf risingFrom fits glyphFits twilightFits pairFits placedFits usableState vectorsInRange vectorInRange replayOf stepOf onDecoded onCall decodeOf decodeBy needOf lineOf rowOf two pointOr fetchIn fetchOf toLineOf alongAt lineVector unitOf sub32 neg32 wrap32
+differs-by-line = (refl, refl)
 
 -- ---- a vector that is turned across
 -- SPVTCA[x], then MDAP[1] of point 0: measured along x and moved along y

@@ -1,4 +1,4 @@
--- Only the setters of vectors change them, and with the vectors along an axis no line but an intersection and IUP across leaves a glyph point's coordinate or mark across it
+-- Only the lines that set vectors change them, and with the vectors along an axis no line but an intersection and IUP across leaves a glyph point's coordinate or mark across it
 -- another: so with each thing that a line does. Assumes nothing.
 use Prim.Native.Nat.{_+_, _-_, _≤_, ℕ}
 use native.Mathlib.Omega.{arith}

@@ -8,10 +8,13 @@ use lib.Dec.{eqb}
 use lib.IntN.{ℤ}
 use lib.ListN.{length}
 use Rattle.graphics.specs.declared.GraphicsState.{GraphicsState}
+use Rattle.line.specs.declared.Stepped.{Stepped}
 use Rattle.line.specs.World.{Fixed, Sound, World}
 use Rattle.line_iup.specs.Iup.{iupLineOf}
 use Rattle.line_set.specs.Setters.{setBy, setOf}
+use Rattle.line_sizes.specs.Sizes.{measureBy, sizesOf}
 use Rattle.line_steps.specs.Steps.{into}
+use Rattle.line_vectors.specs.Vectors.{vectorBy, vectorOf}
 use Rattle.opcodes.specs.Table.{Line, lineOf, rowOf}
 use Rattle.laws_iup.specs.Agree.{FixedAgreeBut, LinesAgreeBut, WorldRestStays, WorldsAgreeBut}
 use Rattle.laws_iup.specs.Sheets.{isOneOf, iupAndSetters}
@@ -32,15 +35,16 @@ of-one : (P : ℕ → Type 0) (codes : List ℕ) → Each P codes → (op : ℕ)
 of-one P [] none op e = absurd (true≢false (sym e))
 of-one P (code ∷ codes) (p ▸ ps) op e = here-or P op code (eqb op code) (isOneOf codes op) refl p (of-one P codes ps op) e
 
--- what holds of both kinds of line
-module _ (P : ℕ → Line → Type 0) (i : (op : ℕ) → P op iupLineOf) (s : (op : ℕ) → P op setOf) where
+-- what holds of each kind of line
+module _ (P : ℕ → Line → Type 0) (i : (op : ℕ) → P op iupLineOf) (s : (op : ℕ) → P op setOf) (m : (op : ℕ) → P op sizesOf) (v : (op : ℕ) → P op vectorOf) where
   each : Each (λ op. P op (rowOf op .line)) iupAndSetters
   unfolding rowOf
   each =
       i _ ▸ i _
-      ▸ s _ ▸ s _ ▸ s _ ▸ s _ ▸ s _ ▸ s _
+      ▸ s _ ▸ s _ ▸ s _ ▸ s _ ▸ s _ ▸ s _ ▸ v _ ▸ v _ ▸ v _
       ▸ s _ ▸ s _ ▸ s _ ▸ s _ ▸ s _ ▸ s _ ▸ s _ ▸ s _ ▸ s _ ▸ s _
-      ▸ s _ ▸ s _ ▸ s _ ▸ s _ ▸ s _ ▸ s _
+      ▸ m _ ▸ m _ ▸ m _ ▸ m _
+      ▸ s _ ▸ m _ ▸ m _ ▸ s _ ▸ s _ ▸ s _ ▸ s _ ▸ s _
       ▸ none
 
   by-code : (op : ℕ) → isOneOf iupAndSetters op ≡ true → P op (rowOf op .line)
@@ -51,15 +55,27 @@ module _ (k : ℕ) (f g : Fixed) (h : k < length (f .contours)) (d : FixedAgreeB
   abbrev Agrees : ℕ → Line → Type 0
   Agrees op line = (operands : List ℤ) (w v : World) → Sound f w → WorldsAgreeBut (f .contours) k w v → LinesAgreeBut (f .contours) k (line f op operands w) (line g op operands v)
 
+  -- what is lent no list
+  into-agrees : (r : GraphicsState → Stepped) (w v : World) → WorldsAgreeBut (f .contours) k w v → LinesAgreeBut (f .contours) k (into w (r (w .state))) (into v (r (v .state)))
+  into-agrees r w v e =
+      subst (λ (s : GraphicsState). LinesAgreeBut (f .contours) k (into w (r (w .state))) (into v (r s))) (e .state)
+      (record { call = refl; worlds = in-state-agrees (f .contours) k w v (r (w .state) .state) e })
+
   set-agrees : (op : ℕ) → Agrees op setOf
   unfolding setOf
-  set-agrees op operands w v sound e =
-      subst (λ (s : GraphicsState). LinesAgreeBut (f .contours) k (setOf f op operands w) (into v (setBy s op operands))) (e .state)
-      (record { call = refl; worlds = in-state-agrees (f .contours) k w v (setBy (w .state) op operands .state) e })
+  set-agrees op operands w v sound e = into-agrees (λ (s : GraphicsState). setBy s op operands) w v e
+
+  size-agrees : (op : ℕ) → Agrees op sizesOf
+  unfolding sizesOf
+  size-agrees op operands w v sound e = into-agrees (λ (s : GraphicsState). measureBy s op operands) w v e
+
+  vector-agrees : (op : ℕ) → Agrees op vectorOf
+  unfolding vectorOf
+  vector-agrees op operands w v sound e = into-agrees (λ (s : GraphicsState). vectorBy s op operands) w v e
 
   pub line-agrees : (op : ℕ) → isOneOf iupAndSetters op ≡ true → Agrees op lineOf
   unfolding lineOf
-  line-agrees op e = by-code Agrees (λ o operands. iup-line-agrees k f g h d operands o) set-agrees op e
+  line-agrees op e = by-code Agrees (λ o operands. iup-line-agrees k f g h d operands o) set-agrees size-agrees vector-agrees op e
 
 -- ---- one glyph
 module _ (f : Fixed) where
@@ -70,6 +86,14 @@ module _ (f : Fixed) where
   unfolding setOf
   set-rest op operands w sound = record { gx = λ i h. refl; gy = λ i h. refl; gflags = refl }
 
+  size-rest : (op : ℕ) → Stays op sizesOf
+  unfolding sizesOf
+  size-rest op operands w sound = record { gx = λ i h. refl; gy = λ i h. refl; gflags = refl }
+
+  vector-rest : (op : ℕ) → Stays op vectorOf
+  unfolding vectorOf
+  vector-rest op operands w sound = record { gx = λ i h. refl; gy = λ i h. refl; gflags = refl }
+
   pub line-rest : (op : ℕ) → isOneOf iupAndSetters op ≡ true → Stays op lineOf
   unfolding lineOf
-  line-rest op e = by-code Stays (λ o operands. iup-line-rest f operands o) set-rest op e
+  line-rest op e = by-code Stays (λ o operands. iup-line-rest f operands o) set-rest size-rest vector-rest op e

@@ -1,8 +1,9 @@
 pub mod Measures
 pub mod Stays
+pub mod Rows
+pub mod Sets
 pub mod Lengths
 pub mod Usable
-pub mod Rows
 pub mod Lines
 pub mod Colour
 pub mod Spans

@@ -1,5 +1,5 @@
--- What the things that a line does leave, an opcode's line leaves, if the setters, ISECT and IUP do: over the table of opcodes. And the laws of lengths and of the state test. Assumes
--- nothing.
+-- What the things that a line does leave, an opcode's line leaves, if the lines that set the state, ISECT and IUP do: over the table of opcodes. And the laws of lengths and of the
+-- state test. Assumes nothing.
 use Prim.Native.Nat.{ℕ}
 use mathlib.Core.Bool.{Bool, true}
 use mathlib.Core.List.{List, [], _∷_}
@@ -17,10 +17,12 @@ use Rattle.line_measure.specs.Measure.{gcOf, mdOf}
 use Rattle.line_miap.specs.Miap.{miapOf}
 use Rattle.line_mirp.specs.Mirp.{mirpOf}
 use Rattle.line_msirp.specs.Msirp.{msirpOf}
-use Rattle.line_set.specs.Setters.{setBy, setOf}
+use Rattle.line_set.specs.Setters.{setOf}
 use Rattle.line_shc_shz.specs.Shc.{shcOf, shzOf}
 use Rattle.line_shift.specs.Shift.{shpOf, shpixOf}
+use Rattle.line_sizes.specs.Sizes.{sizesOf}
 use Rattle.line_steps.specs.Steps.{inState}
+use Rattle.line_vectors.specs.Vectors.{vectorOf}
 use Rattle.opcodes.specs.Table.{Line, lineOf, rowOf, rows}
 use Rattle.words.proofs.Widths.{Every}
 use Rattle.words.proofs.Widths.Every.{no-word, one-word}
@@ -28,7 +30,8 @@ use Rattle.line.specs.World.{Alike, Fixed, World}
 use Rattle.laws_lines.proofs.Lengths.{Kept, in-state-kept, isect-kept, iup-kept, kept, stays-kept}
 use Rattle.laws_lines.proofs.Rows.{RowsHave, row-has, within}
 use Rattle.laws_lines.proofs.Rows.RowsHave.{_▸_, elsewhere}
-use Rattle.laws_lines.proofs.Usable.{isect-usable, iup-usable, set-usable, stays-usable}
+use Rattle.laws_lines.proofs.Sets.{Sets, any-state, to-dual-line-stays, to-line-stays}
+use Rattle.laws_lines.proofs.Usable.{isect-usable, iup-usable, sets-usable, stays-usable}
 use Rattle.laws_lines.proofs.Stays.{Stays, alignpts-stays, alignrp-stays, flippt-stays, fliprg-stays, gc-stays, ip-stays, md-stays, mdap-stays, mdrp-stays, miap-stays, mirp-stays, msirp-stays, shc-stays, shp-stays, shpix-stays, shz-stays, utp-stays}
 
 -- what holds of each word holds of each
@@ -43,13 +46,35 @@ module _ (Word : ℤ → Type 0) (Refers : ℕ → Type 0) (refers : (z : ℤ) �
   Has op line = (f : Fixed) (operands : List ℤ) (w : World) → Given op f w → Every Word operands → P w (line f op operands w .world)
 
   module _ (start : (op : ℕ) (f : Fixed) (w : World) → Given op f w → P w w) (stays : (op : ℕ) (f : Fixed) (w : World) → Given op f w → Stays f (w .state) Refers (P w))
-      (set : (op : ℕ) → Has op setOf) (isect : (op : ℕ) → within 0x0F 0x0F op ≡ true → Has op isectOf) (iup : (op : ℕ) → within 0x30 0x31 op ≡ true → Has op iupLineOf) where
+      (sets : (op : ℕ) (f : Fixed) (operands : List ℤ) (w : World) → Given op f w → Every Word operands → Sets op operands w (P w))
+      (isect : (op : ℕ) → within 0x0F 0x0F op ≡ true → Has op isectOf) (iup : (op : ℕ) → within 0x30 0x31 op ≡ true → Has op iupLineOf) where
+    set : (op : ℕ) → Has op setOf
+    unfolding setOf
+    set op f operands w g o = sets op f operands w g o .by-setter
+
+    size : (op : ℕ) → Has op sizesOf
+    unfolding sizesOf
+    size op f operands w g o = sets op f operands w g o .by-size
+
+    from-stack : (op : ℕ) → within 0x0A 0x0B op ≡ true → Has op vectorOf
+    unfolding vectorOf
+    from-stack op h f operands w g o = sets op f operands w g o .from-stack h
+
+    following : (op : ℕ) → within 0x0E 0x0E op ≡ true → Has op vectorOf
+    unfolding vectorOf
+    following op h f operands w g o = sets op f operands w g o .following h
+
     all-rows : RowsHave Has rows
     all-rows =
         (λ op h. set op)
+        ▸ (λ op h f operands w g o. to-line-stays op operands w f (sets op f operands w g o) (start op f w g) o h)
+        ▸ from-stack
+        ▸ following
         ▸ isect
         ▸ (λ op h. set op)
         ▸ (λ op h. set op)
+        ▸ (λ op h. size op)
+        ▸ (λ op h. size op)
         ▸ (λ op h f operands w g o. alignpts-stays f op operands w (stays op f w g) (start op f w g) (every-of refers o))
         ▸ (λ op h f operands w g o. utp-stays f op operands w (stays op f w g) (start op f w g) (every-of refers o))
         ▸ (λ op h f operands w g o. mdap-stays f op operands w (stays op f w g) (start op f w g) (every-of refers o))
@@ -65,11 +90,13 @@ module _ (Word : ℤ → Type 0) (Refers : ℕ → Type 0) (refers : (z : ℤ) �
         ▸ (λ op h f operands w g o. miap-stays f op operands w (stays op f w g) (start op f w g) (every-of refers o))
         ▸ (λ op h f operands w g o. gc-stays f op operands w (stays op f w g) (start op f w g) (every-of refers o))
         ▸ (λ op h f operands w g o. md-stays f op operands w (stays op f w g) (start op f w g) (every-of refers o))
+        ▸ (λ op h. size op)
         ▸ (λ op h. set op)
         ▸ (λ op h. set op)
         ▸ (λ op h. set op)
         ▸ (λ op h f operands w g o. flippt-stays f op operands w (stays op f w g) (start op f w g))
         ▸ (λ op h f operands w g o. fliprg-stays f op operands w (stays op f w g) (start op f w g))
+        ▸ (λ op h f operands w g o. to-dual-line-stays op operands w f (sets op f operands w g o) (start op f w g) o h)
         ▸ (λ op h f operands w g o. mdrp-stays f op operands w (stays op f w g) (start op f w g) (every-of refers o))
         ▸ (λ op h f operands w g o. mirp-stays f op operands w (stays op f w g) (start op f w g) (every-of refers o))
         ▸ elsewhere set
@@ -84,14 +111,10 @@ no-question [] = no-word
 no-question (z ∷ more) = one-word tt (no-question more)
 
 -- ---- lengths
-set-kept : (f : Fixed) (op : ℕ) (operands : List ℤ) (w : World) → Kept w (setOf f op operands w .world)
-unfolding setOf
-set-kept f op operands w = in-state-kept w w (setBy (w .state) op operands .state) (kept w)
-
 pub line-kept : (f : Fixed) (op : ℕ) (operands : List ℤ) (w : World) → Alike f w → Kept w (lineOf f op operands w .world)
 line-kept f op operands w alike =
     line-leaves (λ _. Unit {0}) (λ _. Unit {0}) (λ z u. u) (λ op f w. Alike f w) Kept (λ op f w g. kept w) (λ op f w g. stays-kept w f (w .state))
-    (λ op f operands w g o. set-kept f op operands w)
+    (λ op f operands w g o. any-state op operands w (λ s. in-state-kept w w s (kept w)))
     (λ op h f operands w g o. isect-kept f op operands w)
     (λ op h f operands w g o. iup-kept f op operands w g)
     op f operands w alike (no-question operands)
@@ -101,14 +124,10 @@ line-kept f op operands w alike =
 abbrev pub StillUsable : World → World → Type 0
 StillUsable u w = usableState (u .state) ≡ true → usableState (w .state) ≡ true
 
-set-line-usable : (f : Fixed) (op : ℕ) (operands : List ℤ) (w : World) → StillUsable w (setOf f op operands w .world)
-unfolding setOf
-set-line-usable f op operands w = set-usable (w .state) op operands
-
 pub line-usable : (f : Fixed) (op : ℕ) (operands : List ℤ) (w : World) → StillUsable w (lineOf f op operands w .world)
 line-usable f op operands w =
     line-leaves (λ _. Unit {0}) (λ _. Unit {0}) (λ z u. u) (λ op f w. Unit {0}) StillUsable (λ op f w g h. h) (λ op f w g. stays-usable f w)
-    (λ op f operands w g o. set-line-usable f op operands w)
+    (λ op f operands w g o. sets-usable op operands w)
     (λ op h f operands w g o. isect-usable f op operands w)
     (λ op h f operands w g o. iup-usable f op operands w)
     op f operands w tt (no-question operands)

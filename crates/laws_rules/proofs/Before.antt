@@ -37,6 +37,8 @@ use Rattle.line_shc_shz.specs.Shc.{shcOf, shzOf}
 use Rattle.line_shift.specs.Shift.{shpOf, shpixOf}
 use Rattle.line_utp.specs.Utp.{utpOf}
 use Rattle.line_span.specs.Span.{spanIn}
+use Rattle.line_sizes.specs.Sizes.{sizesOf}
+use Rattle.line_vectors.specs.Vectors.{toDualLineOf, toLineOf, vectorOf}
 use Rattle.line_steps.specs.Steps.{controlAt, doneIn, inState, referenceIn}
 use Rattle.opcodes.specs.Decode.{decodeOf}
 use Rattle.opcodes.specs.Table.{Line, Row, has, lineOf, rowIn, rowOf, rows}
@@ -57,6 +59,22 @@ Unruled line = (rules : Rules) (f : Fixed) (opcode : ℕ) (operands : List ℤ) 
 set-unruled : Unruled setOf
 unfolding setOf
 set-unruled rules f opcode operands w = refl
+
+size-unruled : Unruled sizesOf
+unfolding sizesOf
+size-unruled rules f opcode operands w = refl
+
+to-line-unruled : Unruled toLineOf
+unfolding toLineOf
+to-line-unruled rules f opcode operands w = refl
+
+vector-unruled : Unruled vectorOf
+unfolding vectorOf
+vector-unruled rules f opcode operands w = refl
+
+to-dual-line-unruled : Unruled toDualLineOf
+unfolding toDualLineOf originalOr
+to-dual-line-unruled rules f opcode operands w = refl
 
 isect-unruled : Unruled isectOf
 unfolding isectOf
@@ -165,7 +183,7 @@ module _ (f : Fixed) where
 
   all-as-before : RowsAsBefore rows
   all-as-before =
-      (set-unruled Skrifa f, (isect-unruled Skrifa f, (set-unruled Skrifa f, (set-unruled Skrifa f, (alignpts-unruled Skrifa f, (utp-unruled Skrifa f, (mdap-unruled Skrifa f, (iup-unruled Skrifa f, (shp-unruled Skrifa f, (shc-unruled Skrifa f, (shz-unruled Skrifa f, (shpix-unruled Skrifa f, (ip-unruled Skrifa f, (msirp-as-before f, (alignrp-unruled Skrifa f, (set-unruled Skrifa f, (miap-unruled Skrifa f, (gc-unruled Skrifa f, (md-unruled Skrifa f, (set-unruled Skrifa f, (set-unruled Skrifa f, (set-unruled Skrifa f, (flippt-unruled Skrifa f, (fliprg-unruled Skrifa f, (mdrp-unruled Skrifa f, (mirp-unruled Skrifa f, tt))))))))))))))))))))))))))
+      (set-unruled Skrifa f, (to-line-unruled Skrifa f, (vector-unruled Skrifa f, (vector-unruled Skrifa f, (isect-unruled Skrifa f, (set-unruled Skrifa f, (set-unruled Skrifa f, (size-unruled Skrifa f, (size-unruled Skrifa f, (alignpts-unruled Skrifa f, (utp-unruled Skrifa f, (mdap-unruled Skrifa f, (iup-unruled Skrifa f, (shp-unruled Skrifa f, (shc-unruled Skrifa f, (shz-unruled Skrifa f, (shpix-unruled Skrifa f, (ip-unruled Skrifa f, (msirp-as-before f, (alignrp-unruled Skrifa f, (set-unruled Skrifa f, (miap-unruled Skrifa f, (gc-unruled Skrifa f, (md-unruled Skrifa f, (size-unruled Skrifa f, (set-unruled Skrifa f, (set-unruled Skrifa f, (set-unruled Skrifa f, (flippt-unruled Skrifa f, (fliprg-unruled Skrifa f, (to-dual-line-unruled Skrifa f, (mdrp-unruled Skrifa f, (mirp-unruled Skrifa f, tt)))))))))))))))))))))))))))))))))
 
 -- every line under the rules `skrifa` is the line before, whatever rules are named beside it
 pub lines-as-before : (f : Fixed) (opcode : ℕ) (operands : List ℤ) (w : World) → lineOf (under Skrifa f) opcode operands w ≡ lineBefore f opcode operands w
@@ -187,9 +205,14 @@ module _ (rules : Rules) where
   all-free : RowsHave Free rows
   all-free =
       (λ op h. free _ set-unruled op)
+      ▸ (λ op h. free _ to-line-unruled op)
+      ▸ (λ op h. free _ vector-unruled op)
+      ▸ (λ op h. free _ vector-unruled op)
       ▸ (λ op h. free _ isect-unruled op)
       ▸ (λ op h. free _ set-unruled op)
       ▸ (λ op h. free _ set-unruled op)
+      ▸ (λ op h. free _ size-unruled op)
+      ▸ (λ op h. free _ size-unruled op)
       ▸ (λ op h. free _ alignpts-unruled op)
       ▸ (λ op h. free _ utp-unruled op)
       ▸ (λ op h. free _ mdap-unruled op)
@@ -205,11 +228,13 @@ module _ (rules : Rules) where
       ▸ (λ op h. free _ miap-unruled op)
       ▸ (λ op h. free _ gc-unruled op)
       ▸ (λ op h. free _ md-unruled op)
+      ▸ (λ op h. free _ size-unruled op)
       ▸ (λ op h. free _ set-unruled op)
       ▸ (λ op h. free _ set-unruled op)
       ▸ (λ op h. free _ set-unruled op)
       ▸ (λ op h. free _ flippt-unruled op)
       ▸ (λ op h. free _ fliprg-unruled op)
+      ▸ (λ op h. free _ to-dual-line-unruled op)
       ▸ (λ op h. free _ mdrp-unruled op)
       ▸ (λ op h. free _ mirp-unruled op)
       ▸ elsewhere (free _ set-unruled)

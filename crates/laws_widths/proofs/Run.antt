@@ -12,7 +12,7 @@ use Rattle.answer.specs.declared.Call.{Call}
 use Rattle.graphics.specs.State.{usableState}
 use Rattle.int.proofs.Tests.{either}
 use Rattle.laws_lines.proofs.Lines.{line-leaves}
-use Rattle.line_set.specs.Setters.{setBy, setOf}
+use Rattle.laws_lines.proofs.Sets.{Sets}
 use Rattle.run_lines.specs.Onward.{Ran, onCall, replayOf}
 use Rattle.opcodes.specs.Decode.{decodeOf}
 use Rattle.opcodes.specs.Table.{lineOf}
@@ -25,17 +25,23 @@ use Rattle.words.proofs.Widths.{Numbers, every-drop, every-take}
 use Rattle.line.specs.Sizes.{worldFits}
 use Rattle.line.specs.World.{Fixed, World}
 use Rattle.laws_widths.proofs.Lines.{in-state-fits, isect-in-width, iup-in-width, stays-in-width}
-use Rattle.laws_widths.proofs.Setters.{index-fits, set-within}
+use Rattle.laws_widths.proofs.Setters.{along-within, dual-within, index-fits, measure-within, set-within, vector-within}
 
 -- ---- one line
-set-in-width : (f : Fixed) (op : ℕ) {operands : List ℤ} → Numbers operands → (w : World) → InWidth w → InWidth (setOf f op operands w .world)
-unfolding setOf
-set-in-width f op {operands} o w k = in-state-fits w (setBy (w .state) op operands .state) (set-within (k .state) op o) k
+sets-in-width : (op : ℕ) {operands : List ℤ} → Numbers operands → (w : World) → InWidth w → Sets op operands w InWidth
+sets-in-width op {operands} o w k = let s = k .state in record {
+  by-setter = in-state-fits w _ (set-within s op o) k;
+  by-size = in-state-fits w _ (measure-within s op o) k;
+  along-line = λ at v r. in-state-fits w _ (along-within s op v r) k;
+  along-dual-line = λ at dual v q r. in-state-fits w _ (dual-within s dual v q r) k;
+  from-stack = λ at. in-state-fits w _ (vector-within s op operands) k;
+  following = λ at. in-state-fits w _ (vector-within s op operands) k;
+}
 
 pub line-in-width : (f : Fixed) → FixedInWidth f → (op : ℕ) {operands : List ℤ} → Numbers operands → {w : World} → InWidth w → InWidth (lineOf f op operands w .world)
 line-in-width f x op {operands} o {w} k =
     line-leaves (SFits w32) (λ (at : ℕ). at < 2 ^ 64) (λ z h. index-fits h) (λ op f w. FixedInWidth f × InWidth w) (λ u w. InWidth w) (λ op f w g. g .1) (λ op f w g. stays-in-width f (g .0) (w .state))
-    (λ op f operands w g o. set-in-width f op o w (g .1))
+    (λ op f operands w g o. sets-in-width op o w (g .1))
     (λ op h f operands w g o. isect-in-width f op operands w (g .1))
     (λ op h f operands w g o. iup-in-width f op operands w (g .1))
     op f operands w (x, k) o

@@ -1,21 +1,26 @@
--- A line that sets the state keeps its values in their width: vectors are set to axes, a reference to an operand widened to 64 bits, the loop counter
--- to at most 65,535, and a selector's round state is small. Assumes nothing.
-use mathlib.Core.Bool.{Bool, true, false}
-use mathlib.Core.List.{List}
+-- A line that sets the state keeps its values in their width: vectors are set to such as are in range, a reference to an operand widened to 64 bits, the loop
+-- counter to at most 65,535, a measure to an operand or a scaled one, and a selector's round state is small. Assumes nothing.
+use mathlib.Core.Bool.{Bool, _&&_, true, false}
+use mathlib.Core.List.{List, [], _∷_}
+use mathlib.Core.Path.{_≡_, refl}
 use Prim.Native.Nat.{_%_, _*_, _+_, _/_, _<_, _^_, _≤_, min, ℕ}
 use native.Mathlib.Nat.{le-trans, mul-le-mul}
 use native.Mathlib.Omega.{arith}
-use lib.Dec.{eqb, ltb}
-use lib.IntN.{_*ℤ_, _-ℤ_, natAbs, negℤ, pos, ℤ}
+use borrow.Author.Tests.{leb-true}
+use lib.Dec.{eqb, leb, ltb}
+use lib.IntN.{_*ℤ_, _-ℤ_, natAbs, negsuc, negℤ, pos, ℤ}
 use lib.Signed.{mag, natAbs-le, nonNeg, quotZ}
 use mir.Facts.{fits-ofZ, sfits-lit}
 use mir.Syntax.{w32}
 use mir.Val.{SFits}
-use Rattle.graphics.specs.State.{allAlong, inMode, measuredAlong, movedAlong, rp0At, rp1At, rp2At, withFacts, withLoopCounter, withPointers, withPush, withReferences, withRound, withRounding, withVectors}
+use Rattle.graphics.proofs.Laws.{and-left, x-of, y-of}
+use Rattle.graphics.specs.State.{allAlong, inMode, inRange, measuredAlong, movedAlong, rp0At, rp1At, rp2At, withFacts, withLoopCounter, withPointers, withPush, withReferences, withRound, withRounding, withVectors, vectorInRange}
 use Rattle.graphics.specs.declared.Facts.{Facts}
 use Rattle.graphics.specs.declared.GraphicsState.{GraphicsState}
+use Rattle.graphics.specs.declared.Measures.{Measures}
 use Rattle.graphics.specs.declared.References.{References}
 use Rattle.graphics.specs.declared.Tallies.{Tallies}
+use Rattle.graphics.specs.declared.Vector.{Vector}
 use Rattle.graphics.specs.declared.Vectors.{Vectors}
 use Rattle.graphics.specs.declared.ZonePointer.the-variants.{Glyph, Twilight}
 use Rattle.graphics.specs.declared.ZonePointer.{ZonePointer}
@@ -23,7 +28,10 @@ use Rattle.graphics.specs.declared.ZonePointers.{ZonePointers}
 use Rattle.int.proofs.Ints.{mag-add, mag-mul, mag-neg, mag-quot}
 use Rattle.int.proofs.Tests.{either}
 use Rattle.int.proofs.Words.{shr-fits, wide-fits}
-use Rattle.int.specs.Word.{bitsOf, eqZ, indexOf}
+use Rattle.int.proofs.Wraps.{wrap-fits}
+use Rattle.int.specs.Word.{bitsOf, eqZ, indexOf, mul32}
+use Rattle.laws_lines.proofs.Measures.{mul-fits}
+use Rattle.line.specs.Line.{doneWith}
 use Rattle.line.specs.declared.Stepped.{Stepped}
 use Rattle.line.specs.Operands.{indexAt}
 use Rattle.record_read.proofs.Widths.{StateInWidth}
@@ -31,6 +39,11 @@ use Rattle.round.specs.declared.RoundState.{RoundState}
 use Rattle.super_round.proofs.Facts.{period-most}
 use Rattle.super_round.specs.Selector.{gridPeriod, periodBy, phaseBy, stateBy, superOf, thresholdBy}
 use Rattle.line_set.specs.Setters.{axisBy, loopBy, modeBy, onOperand, operandBy, pointerBy, referenceBy, setBy, takesOperand, vectorsBy, zoneBy}
+use Rattle.line_sizes.specs.Sizes.{cutInAt, flipBy, flippingAt, measureBy, minimumAt, singleCutInAt, singleWidthAt, sizeBy, sizedBy, withMeasures}
+use Rattle.line_vectors.specs.Vectors.{alongAt, dualAt, followed, fromStack, onTwo, short, stackAt, vectorBy}
+use Rattle.math.specs.Fixed.{mulFix}
+use Rattle.normalize.proofs.Laws.{unit-in-range}
+use Rattle.normalize.specs.Unit.{unitOf}
 use Rattle.state_words.proofs.Back.{MeasuresFit, RoundFits, VectorFits, VectorsFit}
 use Rattle.words.proofs.Widths.{Numbers, every-at, no-word, one-word}
 use Rattle.laws_widths.proofs.Steps.{zero-fits}
@@ -85,6 +98,9 @@ module _ {s : GraphicsState} (f : StateInWidth s) where
 
   pub with-loop-fits : (count : ℕ) → count < 2 ^ 32 → StateInWidth (withLoopCounter s count)
   with-loop-fits count h = by-groups (withLoopCounter s count) (f .signed .vectors) (f .signed .round) references-fit h (f .signed .measures) tallies-fit
+
+  pub with-measures-fits : (m : Measures) → MeasuresFit m → StateInWidth (withMeasures s m)
+  with-measures-fits m g = by-groups (withMeasures s m) (f .signed .vectors) (f .signed .round) references-fit (f .loop) g tallies-fit
 
   pub with-pointers-fits : (p : ZonePointers) → StateInWidth (withPointers s p)
   with-pointers-fits p = by-groups (withPointers s p) (f .signed .vectors) (f .signed .round) references-fit (f .loop) (f .signed .measures) tallies-fit
@@ -209,3 +225,91 @@ module _ {s : GraphicsState} (f : StateInWidth s) where
   set-within op k =
       either Within (ltb op 0x06) (vectors-within op)
       (either Within (takesOperand op) (on-operand-within (operandBy s op) (operand-within op) k) (with-round-fits f (inMode (s .round) (modeBy op)) (f .signed .round)))
+
+-- ---- the lines that set a measure
+module _ {m : Measures} (f : MeasuresFit m) where
+  minimum-fits : (word : ℤ) → SFits w32 word → MeasuresFit (minimumAt m word)
+  minimum-fits word h = record { cut-in = f .cut-in; minimum-distance = h; single-width = f .single-width; single-width-cut-in = f .single-width-cut-in; scale = f .scale }
+
+  cut-in-fits : (word : ℤ) → SFits w32 word → MeasuresFit (cutInAt m word)
+  cut-in-fits word h = record { cut-in = h; minimum-distance = f .minimum-distance; single-width = f .single-width; single-width-cut-in = f .single-width-cut-in; scale = f .scale }
+
+  single-cut-in-fits : (word : ℤ) → SFits w32 word → MeasuresFit (singleCutInAt m word)
+  single-cut-in-fits word h = record { cut-in = f .cut-in; minimum-distance = f .minimum-distance; single-width = f .single-width; single-width-cut-in = h; scale = f .scale }
+
+  single-width-fits : (word : ℤ) → SFits w32 word → MeasuresFit (singleWidthAt m word)
+  single-width-fits word h = record { cut-in = f .cut-in; minimum-distance = f .minimum-distance; single-width = h; single-width-cut-in = f .single-width-cut-in; scale = f .scale }
+
+  flipping-fits : (on : Bool) → MeasuresFit (flippingAt m on)
+  flipping-fits on = record { cut-in = f .cut-in; minimum-distance = f .minimum-distance; single-width = f .single-width; single-width-cut-in = f .single-width-cut-in; scale = f .scale }
+
+  sized-fits : (op : ℕ) (word : ℤ) → SFits w32 word → MeasuresFit (sizedBy m op word)
+  unfolding sizedBy
+  sized-fits op word h =
+      either MeasuresFit (eqb op 0x1A) (minimum-fits word h)
+      (either MeasuresFit (eqb op 0x1D) (cut-in-fits word h)
+      (either MeasuresFit (eqb op 0x1E) (single-cut-in-fits word h) (single-width-fits (mulFix word (m .scale)) (mul-fits word (m .scale)))))
+
+module _ {s : GraphicsState} (f : StateInWidth s) where
+  size-within : (op : ℕ) (word : ℤ) → SFits w32 word → StateInWidth (sizeBy s op word)
+  unfolding sizeBy
+  size-within op word h = with-measures-fits f (sizedBy (s .measures) op word) (sized-fits (f .signed .measures) op word h)
+
+  flip-within : (on : Bool) → StateInWidth (flipBy s on)
+  unfolding flipBy
+  flip-within on = with-measures-fits f (flippingAt (s .measures) on) (flipping-fits (f .signed .measures) on)
+
+  pub measure-within : (op : ℕ) {operands : List ℤ} → Numbers operands → StateInWidth (measureBy s op operands .state)
+  unfolding measureBy
+  measure-within op k = either Within (leb 0x4D op) (flip-within (eqb op 0x4D)) (on-operand-within f (λ (word : ℤ). doneWith (sizeBy s op word)) (size-within op) k)
+
+-- ---- the lines that turn a vector
+in-range-fits : (z : ℤ) → inRange z ≡ true → SFits w32 z
+in-range-fits (pos n) e = record { sfits = omega (arith, leb-true n 16384 e) }
+in-range-fits (negsuc n) e = record { sfits = omega (arith, leb-true n 16383 (and-left (leb n 16383) true e)) }
+
+-- a vector in range
+vector-fits : (v : Vector) → vectorInRange v ≡ true → VectorFits v
+vector-fits v r = (in-range-fits (v .x) (x-of v r), in-range-fits (v .y) (y-of v r))
+
+short-fits : (z : ℤ) → SFits w32 (short z)
+unfolding short mul32
+short-fits z = shr-fits _ 65536 (wrap-fits _)
+
+-- from the stack, or what was set
+stack-fits : (kept : Vector) → VectorFits kept → (x y : ℤ) → VectorFits (fromStack kept (short x) (short y))
+unfolding fromStack
+stack-fits kept k x y =
+    either VectorFits (eqZ (short x) (pos 0) && eqZ (short y) (pos 0)) k
+    (vector-fits (unitOf (short x) (short y)) (unit-in-range (short x) (short y) (short-fits x) (short-fits y)))
+
+module _ {s : GraphicsState} (f : StateInWidth s) where
+  -- the projection and the dual vector, and the freedom vector
+  measured-within : (v : Vector) → VectorFits v → StateInWidth (withVectors s (measuredAlong (s .vectors) v))
+  measured-within v g = with-vectors-fits f (measuredAlong (s .vectors) v) (g, g, f .signed .vectors .2)
+
+  moved-within : (v : Vector) → VectorFits v → StateInWidth (withVectors s (movedAlong (s .vectors) v))
+  moved-within v g = with-vectors-fits f (movedAlong (s .vectors) v) (f .signed .vectors .0, f .signed .vectors .1, g)
+
+  pub along-within : (op : ℕ) (v : Vector) → vectorInRange v ≡ true → StateInWidth (alongAt s op v)
+  unfolding alongAt
+  along-within op v r = either StateInWidth (ltb op 0x08) (measured-within v (vector-fits v r)) (moved-within v (vector-fits v r))
+
+  pub dual-within : (dual v : Vector) → vectorInRange dual ≡ true → vectorInRange v ≡ true → StateInWidth (dualAt s dual v)
+  unfolding dualAt
+  dual-within dual v q r = with-vectors-fits f _ (vector-fits v r, vector-fits dual q, f .signed .vectors .2)
+
+  stack-within : (op : ℕ) (x y : ℤ) → StateInWidth (stackAt s op (short x) (short y))
+  unfolding stackAt
+  stack-within op x y =
+      let v = s .vectors in
+      either StateInWidth (eqb op 0x0A) (measured-within _ (stack-fits (v .projection) (f .signed .vectors .0) x y)) (moved-within _ (stack-fits (v .freedom) (f .signed .vectors .2) x y))
+
+  on-two-within : (op : ℕ) (operands : List ℤ) → Within (onTwo s (λ (y : ℤ). λ (x : ℤ). doneWith (stackAt s op (short x) (short y))) operands)
+  on-two-within op [] = f
+  on-two-within op (y ∷ []) = f
+  on-two-within op (y ∷ x ∷ more) = stack-within op x y
+
+  pub vector-within : (op : ℕ) (operands : List ℤ) → StateInWidth (vectorBy s op operands .state)
+  unfolding vectorBy followed
+  vector-within op operands = either Within (eqb op 0x0E) (moved-within (s .vectors .projection) (f .signed .vectors .0)) (on-two-within op operands)

@@ -88,3 +88,7 @@ vectorBy s op operands = cond (eqb op 0x0E) (doneWith (followed s)) (onTwo s (λ
 -- the same of a world, whose lists it leaves
 unfoldable pub vectorOf : Fixed → ℕ → List ℤ → World → Lined
 vectorOf f opcode operands w = into w (vectorBy (w .state) opcode operands)
+
+-- ---- each of them, by its opcode
+unfoldable pub turnOf : Fixed → ℕ → List ℤ → World → Lined
+turnOf f opcode operands w = cond (ltb opcode 0x86) (cond (ltb opcode 0x0A) (toLineOf f opcode operands w) (vectorOf f opcode operands w)) (toDualLineOf f opcode operands w)

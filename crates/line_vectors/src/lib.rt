@@ -7,12 +7,13 @@
 // - SFVTPV[] (0x0E): pops nothing; the freedom vector is the projection vector. Ins_SFVTPV.
 //
 // Refused in this order: a missing operand; zp1's point, zp2's point, pedantic or not; then nothing is changed. Two points in one place give the x axis.
-// `to_line` and `to_dual_line` are one equation each with `toLineOf` and `toDualLineOf`, for every content of the lists that they aren't lent; they ask that
-// the lists of each zone share one length, and nothing else. `set_vector` is lent no list: `vectorOf` says what it does in a world.
+// `turn` does each of them: one equation with `turnOf`, for every content of the lists that it isn't lent. It asks that the lists of each zone share one
+// length, and nothing else.
 use answer::Refusal;
 use graphics::GraphicsState;
 use graphics::Vector;
 use graphics::Vectors;
+use graphics::ZonePointer;
 use int::equal;
 use int::shift_right;
 use int::wrapping_mul;
@@ -33,8 +34,8 @@ ghost use lib.IntN.{ℤ};
 ghost use lib.ListN.{length};
 ghost use Rattle.rules.specs.declared.Rules.{Rules};
 ghost use Rattle.line.specs.World.{fixed, lined, world};
-ghost use Rattle.line_vectors.specs.Vectors.{alongAt, dualAt, followed, fromStack, lineVector, short, stackAt, toDualLineOf, toLineOf, vectorBy};
-ghost use Rattle.line_vectors.specs.Steps.{alongBy, dualBy, lineBy};
+ghost use Rattle.line_vectors.specs.Vectors.{dualAt, fromStack, lineVector, short, turnOf};
+ghost use Rattle.line_vectors.specs.Steps.{dualBy, foundAt, foundBy, isAlong, lineBy, lineFound, setsProjection, settledBy, stackVector};
 
 // ---- along a line of two points
 // From q to p, or across; the x axis where they are in one place.
@@ -65,52 +66,95 @@ fn line_by(across: bool, first: Fetched, second: Fetched) -> Fetched
     }
 }
 
-// SPVTL sets the projection and the dual vector, SFVTL the freedom vector.
-fn set_along(s: GraphicsState, opcode: usize, v: Vector) -> GraphicsState
-    ensures { λ r. ⌜ r ≡ alongAt s opcode v ⌝ }
+// ---- from the stack
+// The low 16 bits, as signed.
+fn short_of(word: i32) -> i32
+    ensures { λ r. ⌜ r ≡ short word ⌝ }
 {
-    if opcode < 0x08 {
-        s.with_projection_vectors(v)
+    shift_right(wrapping_mul(word, 0x10000), 16)
+}
+
+fn from_stack(kept: Vector, x: i32, y: i32) -> Vector
+    ensures { λ r. ⌜ r ≡ fromStack kept x y ⌝ }
+{
+    if equal(x, 0) & equal(y, 0) {
+        kept
     } else {
-        s.with_freedom_vector(v)
+        normalize(x, y)
     }
 }
 
-fn settle_along(s: GraphicsState, opcode: usize, found: Fetched) -> Stepped
-    ensures { λ r. ⌜ r ≡ alongBy s opcode found ⌝ }
+// Which of the two is kept.
+fn stack_vector(opcode: usize, projection: Vector, freedom: Vector, x: i32, y: i32) -> Vector
+    ensures { λ r. ⌜ r ≡ stackVector opcode projection freedom x y ⌝ }
 {
-    match found {
-        Fetched::Refused(why) => refused(s, why),
-        Fetched::At(v) => done(set_along(s, opcode, v)),
+    if opcode == 0x0A {
+        from_stack(projection, x, y)
+    } else {
+        from_stack(freedom, x, y)
     }
 }
 
-// SPVTL, SFVTL: a point of zp2, and one of zp1 that the line goes to.
-pub fn to_line(
-    s: GraphicsState,
-    opcode: usize,
+// ---- the vector that a line finds
+// SPVTL, SFVTL and SDPVTL.
+fn is_along(opcode: usize) -> bool
+    ensures { λ r. ⌜ r ≡ isAlong opcode ⌝ }
+{
+    (opcode < 0x0A) | (0x86 <= opcode)
+}
+
+// Of a point of zp2, and one of zp1 that the line goes to.
+fn line_found(
+    across: bool,
     operands: &[i32],
+    zp1: ZonePointer,
+    zp2: ZonePointer,
     gx: &[i32],
     gy: &[i32],
     tx: &[i32],
     ty: &[i32],
-) -> Stepped
+) -> Fetched
     requires { ⌜ (length (now gy) ≡ length (now gx)) × (length (now ty) ≡ length (now tx)) ⌝ }
-    ensures { λ r. ⌜ ((rules : Rules) (controls gux guy gox goy tox toy : List ℤ) (contours gflags tflags : List ℕ) → lined r (now (gx .entry)) (now (gy .entry)) gflags tox toy (now (tx .entry)) (now (ty .entry)) tflags ≡ toLineOf (fixed rules controls gux guy gox goy contours) opcode (now (operands .entry)) (world s (now (gx .entry)) (now (gy .entry)) gflags tox toy (now (tx .entry)) (now (ty .entry)) tflags)) ⌝ }
+    ensures { λ r. ⌜ r ≡ lineFound across (now (operands .entry)) zp1 zp2 (now (gx .entry)) (now (gy .entry)) (now (tx .entry)) (now (ty .entry)) ⌝ }
 {
-    if operands.len() < 2 {
-        return refused(s, Refusal::Missing);
-    }
     let second = index_at(operands, 0);
     let first = index_at(operands, 1);
-    let pointers = s.pointers;
-    let zp1 = pointers.zp1;
-    let zp2 = pointers.zp2;
     let p = fetch_in(zp1, first, gx, gy, tx, ty);
     let q = fetch_in(zp2, second, gx, gy, tx, ty);
-    settle_along(s, opcode, line_by(is_odd(opcode), p, q))
+    line_by(across, p, q)
 }
 
+// By a line's operands, or why not. It is given no group of the state, and its two calls leave it out of the run's loop.
+fn found_by(
+    opcode: usize,
+    operands: &[i32],
+    projection: Vector,
+    freedom: Vector,
+    zp1: ZonePointer,
+    zp2: ZonePointer,
+    gx: &[i32],
+    gy: &[i32],
+    tx: &[i32],
+    ty: &[i32],
+) -> Fetched
+    requires { ⌜ (length (now gy) ≡ length (now gx)) × (length (now ty) ≡ length (now tx)) ⌝ }
+    ensures { λ r. ⌜ r ≡ foundBy opcode (now (operands .entry)) projection freedom zp1 zp2 (now (gx .entry)) (now (gy .entry)) (now (tx .entry)) (now (ty .entry)) ⌝ }
+{
+    if opcode == 0x0E {
+        return Fetched::At(projection);
+    }
+    if operands.len() < 2 {
+        return Fetched::Refused(Refusal::Missing);
+    }
+    if is_along(opcode) {
+        return line_found(is_odd(opcode), operands, zp1, zp2, gx, gy, tx, ty);
+    }
+    let y = short_of(operands[0]);
+    let x = short_of(operands[1]);
+    Fetched::At(stack_vector(opcode, projection, freedom, x, y))
+}
+
+// ---- the vectors set
 // The projection and the dual vector, each by itself.
 fn set_dual(mut s: GraphicsState, dual: Vector, v: Vector) -> GraphicsState
     ensures { λ r. ⌜ r ≡ dualAt s dual v ⌝ }
@@ -138,8 +182,35 @@ fn settle_dual(s: GraphicsState, old: Fetched, now: Fetched) -> Stepped
     }
 }
 
-// SDPVTL: a point of zp2, and one of zp1 that the line goes to, in the original outline and now.
-pub fn to_dual_line(
+// SPVTL and SPVFS, among the others than SDPVTL.
+fn sets_projection(opcode: usize) -> bool
+    ensures { λ r. ⌜ r ≡ setsProjection opcode ⌝ }
+{
+    (opcode < 0x08) | (opcode == 0x0A)
+}
+
+// SPVTL and SPVFS set the projection and the dual vector, the others the freedom vector.
+fn set_found(s: GraphicsState, opcode: usize, v: Vector) -> GraphicsState
+    ensures { λ r. ⌜ r ≡ foundAt s opcode v ⌝ }
+{
+    if sets_projection(opcode) {
+        s.with_projection_vectors(v)
+    } else {
+        s.with_freedom_vector(v)
+    }
+}
+
+fn settle_found(s: GraphicsState, opcode: usize, found: Fetched) -> Stepped
+    ensures { λ r. ⌜ r ≡ settledBy s opcode found ⌝ }
+{
+    match found {
+        Fetched::Refused(why) => refused(s, why),
+        Fetched::At(v) => done(set_found(s, opcode, v)),
+    }
+}
+
+// A line that turns a vector.
+pub fn turn(
     s: GraphicsState,
     opcode: usize,
     operands: &[i32],
@@ -153,74 +224,39 @@ pub fn to_dual_line(
     ty: &[i32],
 ) -> Stepped
     requires { ⌜ (length (now goy) ≡ length (now gox)) × (length (now gy) ≡ length (now gx)) × (length (now toy) ≡ length (now tox)) × (length (now ty) ≡ length (now tx)) ⌝ }
-    ensures { λ r. ⌜ ((rules : Rules) (controls gux guy : List ℤ) (contours gflags tflags : List ℕ) → lined r (now (gx .entry)) (now (gy .entry)) gflags (now (tox .entry)) (now (toy .entry)) (now (tx .entry)) (now (ty .entry)) tflags ≡ toDualLineOf (fixed rules controls gux guy (now (gox .entry)) (now (goy .entry)) contours) opcode (now (operands .entry)) (world s (now (gx .entry)) (now (gy .entry)) gflags (now (tox .entry)) (now (toy .entry)) (now (tx .entry)) (now (ty .entry)) tflags)) ⌝ }
-{
-    if operands.len() < 2 {
-        return refused(s, Refusal::Missing);
-    }
-    let second = index_at(operands, 0);
-    let first = index_at(operands, 1);
-    let across = is_odd(opcode);
-    let pointers = s.pointers;
-    let zp1 = pointers.zp1;
-    let zp2 = pointers.zp2;
-    let old_p = fetch_in(zp1, first, gox, goy, tox, toy);
-    let old_q = fetch_in(zp2, second, gox, goy, tox, toy);
-    let old = line_by(across, old_p, old_q);
-    let p = fetch_in(zp1, first, gx, gy, tx, ty);
-    let q = fetch_in(zp2, second, gx, gy, tx, ty);
-    settle_dual(s, old, line_by(across, p, q))
-}
-
-// ---- from the stack
-// The low 16 bits, as signed.
-fn short_of(word: i32) -> i32
-    ensures { λ r. ⌜ r ≡ short word ⌝ }
-{
-    shift_right(wrapping_mul(word, 0x10000), 16)
-}
-
-fn from_stack(kept: Vector, x: i32, y: i32) -> Vector
-    ensures { λ r. ⌜ r ≡ fromStack kept x y ⌝ }
-{
-    if equal(x, 0) & equal(y, 0) {
-        kept
-    } else {
-        normalize(x, y)
-    }
-}
-
-// SPVFS, SFVFS.
-fn set_from_stack(s: GraphicsState, opcode: usize, x: i32, y: i32) -> GraphicsState
-    ensures { λ r. ⌜ r ≡ stackAt s opcode x y ⌝ }
+    ensures { λ r. ⌜ ((rules : Rules) (controls gux guy : List ℤ) (contours gflags tflags : List ℕ) → lined r (now (gx .entry)) (now (gy .entry)) gflags (now (tox .entry)) (now (toy .entry)) (now (tx .entry)) (now (ty .entry)) tflags ≡ turnOf (fixed rules controls gux guy (now (gox .entry)) (now (goy .entry)) contours) opcode (now (operands .entry)) (world s (now (gx .entry)) (now (gy .entry)) gflags (now (tox .entry)) (now (toy .entry)) (now (tx .entry)) (now (ty .entry)) tflags)) ⌝ }
 {
     let vectors = s.vectors;
-    if opcode == 0x0A {
-        s.with_projection_vectors(from_stack(vectors.projection, x, y))
-    } else {
-        s.with_freedom_vector(from_stack(vectors.freedom, x, y))
+    let projection = vectors.projection;
+    let freedom = vectors.freedom;
+    let zp1 = s.zp1();
+    let zp2 = s.zp2();
+    let now = found_by(
+        opcode,
+        operands,
+        projection,
+        freedom,
+        zp1,
+        zp2,
+        gx,
+        gy,
+        tx,
+        ty,
+    );
+    if opcode < 0x86 {
+        return settle_found(s, opcode, now);
     }
-}
-
-// SFVTPV.
-fn follow(s: GraphicsState) -> GraphicsState
-    ensures { λ r. ⌜ r ≡ followed s ⌝ }
-{
-    let vectors = s.vectors;
-    s.with_freedom_vector(vectors.projection)
-}
-
-// A line that turns a vector and looks at no point.
-pub fn set_vector(s: GraphicsState, opcode: usize, operands: &[i32]) -> Stepped
-    ensures { λ r. ⌜ r ≡ vectorBy s opcode (now (operands .entry)) ⌝ }
-{
-    if opcode == 0x0E {
-        return done(follow(s));
-    }
-    if operands.len() < 2 {
-        return refused(s, Refusal::Missing);
-    }
-    let y = short_of(operands[0]);
-    let x = short_of(operands[1]);
-    done(set_from_stack(s, opcode, x, y))
+    let old = found_by(
+        opcode,
+        operands,
+        projection,
+        freedom,
+        zp1,
+        zp2,
+        gox,
+        goy,
+        tox,
+        toy,
+    );
+    settle_dual(s, old, now)
 }

@@ -1,5 +1,6 @@
 -- The table of opcodes: what each opcode's line takes, and what it does. Document 01, "A sheet and its lines", and document 02, K1 (0x34 to 0x38, 0x81,
--- 0x82), K2 (0x76, 0x77), K7 (0x46, 0x47, 0x49, 0x4A, from 0xC0 on) and K14 (0x27, 0x29, 0x39). Assumes nothing.
+-- 0x82), K2 (0x76, 0x77), K7 (0x46, 0x47, 0x49, 0x4A, from 0xC0 on) and K14 (0x27, 0x29, 0x39); the lines that turn a vector (0x06 to 0x0B, 0x0E, 0x86,
+-- 0x87) and those that set a measure (0x1A, 0x1D to 0x1F, 0x4D, 0x4E) by the OpenType instruction set. Assumes nothing.
 use Prim.Native.Nat.{ℕ, suc, zero}
 use mathlib.Core.Bool.{Bool, _&&_, cond}
 use mathlib.Core.List.{List, [], _∷_}
@@ -20,7 +21,9 @@ use Rattle.line_msirp.specs.Msirp.{msirpOf}
 use Rattle.line_set.specs.Setters.{setOf}
 use Rattle.line_shc_shz.specs.Shc.{shcOf, shzOf}
 use Rattle.line_shift.specs.Shift.{shpOf, shpixOf}
+use Rattle.line_sizes.specs.Sizes.{sizesOf}
 use Rattle.line_utp.specs.Utp.{utpOf}
+use Rattle.line_vectors.specs.Vectors.{toDualLineOf, toLineOf, vectorOf}
 use Rattle.line.specs.World.{Fixed, Lined, World}
 
 -- ---- how many operands
@@ -64,9 +67,14 @@ row first last takes line = record { first = first; last = last; takes = takes; 
 abbrev pub rows : List Row
 rows =
     row 0x00 0x05 (Exactly 0) setOf  -- SVTCA, SPVTCA, SFVTCA
+    ∷ row 0x06 0x09 (Exactly 2) toLineOf  -- SPVTL, SFVTL
+    ∷ row 0x0A 0x0B (Exactly 2) vectorOf  -- SPVFS, SFVFS
+    ∷ row 0x0E 0x0E (Exactly 0) vectorOf  -- SFVTPV
     ∷ row 0x0F 0x0F (Exactly 5) isectOf  -- ISECT
     ∷ row 0x10 0x17 (Exactly 1) setOf  -- SRP0, SRP1, SRP2, SZP0, SZP1, SZP2, SZPS, SLOOP
     ∷ row 0x18 0x19 (Exactly 0) setOf  -- RTG, RTHG
+    ∷ row 0x1A 0x1A (Exactly 1) sizesOf  -- SMD
+    ∷ row 0x1D 0x1F (Exactly 1) sizesOf  -- SCVTCI, SSWCI, SSW
     ∷ row 0x27 0x27 (Exactly 2) alignptsOf  -- ALIGNPTS
     ∷ row 0x29 0x29 (Exactly 1) utpOf  -- UTP
     ∷ row 0x2E 0x2F (Exactly 1) mdapOf  -- MDAP
@@ -82,11 +90,13 @@ rows =
     ∷ row 0x3E 0x3F (Exactly 2) miapOf  -- MIAP
     ∷ row 0x46 0x47 (Exactly 1) gcOf  -- GC
     ∷ row 0x49 0x4A (Exactly 2) mdOf  -- MD
+    ∷ row 0x4D 0x4E (Exactly 0) sizesOf  -- FLIPON, FLIPOFF
     ∷ row 0x76 0x77 (Exactly 1) setOf  -- SROUND, S45ROUND
     ∷ row 0x7A 0x7A (Exactly 0) setOf  -- ROFF
     ∷ row 0x7C 0x7D (Exactly 0) setOf  -- RUTG, RDTG
     ∷ row 0x80 0x80 AsLooped flipptOf  -- FLIPPT
     ∷ row 0x81 0x82 (Exactly 2) fliprgOf  -- FLIPRGON, FLIPRGOFF
+    ∷ row 0x86 0x87 (Exactly 2) toDualLineOf  -- SDPVTL
     ∷ row 0xC0 0xDF (Exactly 1) mdrpOf  -- MDRP
     ∷ row 0xE0 0xFF (Exactly 2) mirpOf  -- MIRP
     ∷ []

@@ -41,7 +41,8 @@ pub const COORDINATES: [usize; 4] = [UNSCALED_X, ORIGINAL_X, CURRENT_X, TWILIGHT
 /// A 7 whose detail isn't the first outside index in document 01's order, an
 /// operation of a rounding past 32 bits that can't go there, a 14 that isn't for
 /// the ends, is missing, or changes something, an answer that the other rules
-/// don't give, or an IP, ALIGNPTS or UTP that goes by what it may not read.
+/// don't give, an IP, ALIGNPTS or UTP that goes by what it may not read, or a line
+/// that sets a vector or a size and goes by such, or is gone by where it may not be.
 pub const UNEXPLAINED: &str = "UNEXPLAINED: an answer or a wrapped rounding that can't be";
 
 /// The name that a line's instruction is counted under: a setter's codes are

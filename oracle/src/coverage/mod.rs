@@ -10,6 +10,7 @@ mod required;
 mod rows;
 mod rules;
 mod selectors;
+mod settings;
 mod shifts;
 mod singles;
 mod wraps;
@@ -120,6 +121,9 @@ impl Coverage {
             self.add(key);
         }
         for key in singles::keys(case, outcome) {
+            self.add(key);
+        }
+        for key in settings::keys(case, outcome) {
             self.add(key);
         }
     }
@@ -294,7 +298,12 @@ impl Coverage {
     /// Names what must come up more often than it did; true if there is none.
     fn often_enough(&self) -> bool {
         let mut enough = true;
-        let fewest = [distances::fewest(), rules::fewest(), singles::fewest()];
+        let fewest = [
+            distances::fewest(),
+            rules::fewest(),
+            singles::fewest(),
+            settings::fewest(),
+        ];
         for (key, fewest) in fewest.into_iter().flatten() {
             let count = self.counts.get(&key).copied().unwrap_or_default();
             if count < fewest {

@@ -1,8 +1,8 @@
 //! What must come up in a run of the generator and in the sample.
 
 use super::{
-    branches, distances, ends, keys::*, largest, lengths, rows, rules, selectors, shifts, singles,
-    wraps,
+    branches, distances, ends, keys::*, largest, lengths, rows, rules, selectors, settings, shifts,
+    singles, wraps,
 };
 use crate::{
     answer,
@@ -35,6 +35,7 @@ pub fn required() -> Vec<String> {
     keys.extend(ends::required());
     keys.extend(rules::required());
     keys.extend(singles::required());
+    keys.extend(settings::required());
     keys
 }
 

@@ -5,7 +5,7 @@ use super::{
     operands::line,
     runs::{run_of, setter_or, ALL_MOVERS},
     spoil,
-    states::{calm_state, make_unsound},
+    states::calm_state,
     worlds::{bring_references_inside, fill_glyph, fill_twilight, small_world},
 };
 use crate::{
@@ -70,25 +70,10 @@ pub fn set_words(random: &mut Random, state: &mut State) {
 pub fn distance_case(random: &mut Random, row: &Row) -> Case {
     let opcode = random.pick(&row.picked_codes());
     let mut world = distance_world(random);
-    let mut line = line(random, &world, opcode);
+    let line = line(random, &world, opcode);
     bring_near(random, &mut world, &line);
-    if random.once_in(90) {
-        spoil::line(random, &mut line);
-    }
-    world.lists[SHEET] = line.into_iter().map(|word| word as u32).collect();
-    if random.once_in(90) {
-        spoil::some_length(random, &mut world);
-    }
-    if random.once_in(90) {
-        make_unsound(random, &mut world.state);
-    }
-    let start = u64::from(random.once_in(90));
-    let budget = match random.weighted(&[60, 10, 5, 1]) {
-        0 => 1,
-        1 => 2,
-        2 => u64::MAX,
-        _ => 0,
-    };
+    let start = spoil::seldom(random, &mut world, line, 90);
+    let budget = spoil::budget_for_one(random);
     Case {
         call: Call::run(start, budget),
         world,

@@ -109,7 +109,7 @@ fn far_reference(line: &[i32], zones: [u32; 3], place: usize) -> Case {
 
 /// Those of document 01 from the table's last to its first, then the others.
 fn older_rows() -> Vec<&'static Row> {
-    let is_older = |row: &&Row| !matches!(row.family, Family::Distances | Family::Single);
+    let is_older = |row: &&Row| row.family != Family::Distances && !row.family.is_later();
     let older = TABLE.iter().filter(is_older);
     let (mut rows, later): (Vec<&Row>, Vec<&Row>) = older.partition(|row| row.family.is_of_01());
     rows.reverse();

@@ -13,6 +13,8 @@ mod operands;
 mod rules;
 mod runs;
 mod selectors;
+mod setting_grid;
+mod settings;
 mod shift_grid;
 mod shifts;
 mod single_grid;
@@ -38,7 +40,9 @@ pub use runs::{
     whole_run_of_01,
 };
 pub use selectors::{every_selector, rounds_by_every_selector, selector_counts};
-pub use shift_grid::every_shift;
+pub use setting_grid::every_setting;
+pub use settings::{setting_case, setting_rows, setting_run_case};
+pub use shift_grid::{every_shift, shifts_of_nothing};
 pub use shifts::shift_case;
 pub use single_grid::every_single;
 pub use singles::{single_case, single_run_case};
@@ -54,6 +58,7 @@ use crate::{
     wraps::count,
 };
 use distances::any_distance;
+use settings::any_setting;
 use singles::any_single;
 
 /// The ends of the others are mended.
@@ -62,12 +67,15 @@ const SLOPPY_ONCE_IN: usize = 8;
 const RULES_ONCE_IN: usize = 20;
 /// And those that are made of IP, ALIGNPTS and UTP.
 const SINGLES_ONCE_IN: usize = 5;
+/// And of the others those that are made of lines that set vectors and sizes.
+const SETTINGS_ONCE_IN: usize = 4;
 
 /// What no chance is left to: document 01's runs, the scenes of note, each
 /// opcode, each setter, each shift, each selector and lines that round by it, the
 /// limits, lists that don't fit, far indices, what one rule alone decides, each
 /// kind of wrapped rounding, the largest faces, the distances, contour ends, what
-/// tells the rules apart, and IP, ALIGNPTS and UTP where they turn.
+/// tells the rules apart, IP, ALIGNPTS and UTP where they turn, and the lines that
+/// set vectors and sizes where they do.
 pub fn fixed_cases(random: &mut Random) -> Vec<Case> {
     let mut cases = runs_of_01().to_vec();
     cases.extend(notable::lines());
@@ -91,14 +99,17 @@ pub fn fixed_cases(random: &mut Random) -> Vec<Case> {
     cases.extend(every_end());
     cases.extend(every_rule());
     cases.extend(every_single());
+    cases.extend(every_setting());
+    cases.extend(shifts_of_nothing());
     cases
 }
 
 /// Any case at all, for comparisons, coverage and searches. Its contour ends may
 /// be sloppy, but seldom: such a case is refused before anything is done. Half of
 /// the runs go by FreeType's rules, now and then one is rich in what tells them
-/// apart, and one of five is of IP, ALIGNPTS and UTP. That is drawn aside, so that
-/// the others ask what they asked before.
+/// apart, one of five is of IP, ALIGNPTS and UTP, and one of four of the rest is of
+/// lines that set vectors and sizes. That is drawn aside, so that the others ask
+/// what they asked before.
 pub fn any_case(random: &mut Random) -> Case {
     let case = case_of_any_ends(random);
     let case = match random.once_in(SLOPPY_ONCE_IN) {
@@ -110,8 +121,11 @@ pub fn any_case(random: &mut Random) -> Case {
     if aside.once_in(RULES_ONCE_IN) {
         return mended(rules_run_case(&mut aside)).under(chosen);
     }
-    match aside.once_in(SINGLES_ONCE_IN) {
-        true => any_single(&mut aside),
+    if aside.once_in(SINGLES_ONCE_IN) {
+        return any_single(&mut aside);
+    }
+    match aside.once_in(SETTINGS_ONCE_IN) {
+        true => any_setting(&mut aside),
         false => case.under(chosen),
     }
 }

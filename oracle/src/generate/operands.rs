@@ -5,6 +5,7 @@ use crate::{
     numbers::{any_word, mixed, near_corner},
     opcodes::{row_of, Operand},
     random::Random,
+    vectors::ONE,
     world::*,
 };
 
@@ -59,6 +60,8 @@ fn operand(random: &mut Random, world: &World, kind: Operand) -> i32 {
         Operand::LoopCount => loop_operand(random),
         Operand::Distance => mixed(random),
         Operand::Amount => amount(random),
+        Operand::Component => component(random),
+        Operand::FontUnits => mixed(random),
         Operand::ControlValue => point_operand(random, world.lists[CONTROL_VALUES].len()),
         Operand::ControlValueOrNone => {
             control_value_or_none(random, world.lists[CONTROL_VALUES].len())
@@ -152,6 +155,22 @@ fn amount(random: &mut Random) -> i32 {
         return random.pick(&[i32::MIN, i32::MIN + 1, i32::MAX, i32::MAX - 1, 0, 1, -1]);
     }
     mixed(random)
+}
+
+/// A component of a vector: of 2.14 mostly, of every size and sign, often 0, often
+/// with something above the 16 bits that count.
+fn component(random: &mut Random) -> i32 {
+    let low = match random.weighted(&[3, 4, 4, 4, 2]) {
+        0 => 0,
+        1 => random.between(-ONE, ONE),
+        2 => any_word(random) >> 16,
+        3 => random.pick(&[1, -1, 2, -64, 64, ONE, -ONE, 11585, 0x7FFF, -0x8000]),
+        _ => return any_word(random),
+    };
+    if random.once_in(6) {
+        return low & 0xFFFF | any_word(random) << 16;
+    }
+    low
 }
 
 /// The high point and the low one of a range flip, around where it turns.

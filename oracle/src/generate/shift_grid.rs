@@ -40,6 +40,21 @@ pub fn every_shift() -> Vec<Case> {
     scenes.iter().map(|scene| scene.case(run)).collect()
 }
 
+/// SHC of twilight's contour where twilight has no points, with freedom (0, 0), which
+/// chance seldom makes.
+pub fn shifts_of_nothing() -> Vec<Case> {
+    let scenes = [0x34, 0x35].map(|opcode| {
+        Scene::new(&[(5, 7)])
+            .contours(&[0])
+            .state(|state| {
+                state.zones = [1, 1, 0];
+                state.vectors = along(X, X, NOWHERE);
+            })
+            .sheet(&[opcode, 1, 0])
+    });
+    scenes.map(|scene| scene.case(Call::run(0, 1))).to_vec()
+}
+
 /// Two contours of three points and a point after them; three twilight points.
 /// Reference point 1 and 4, and twilight point 1, have been moved.
 fn scene() -> Scene {

@@ -6,7 +6,7 @@ use super::{
     operands::line,
     runs::{run_of, setter_or, ALL_MOVERS},
     spoil,
-    states::{calm_state, make_unsound},
+    states::calm_state,
     worlds::{bring_references_inside, fill_glyph, fill_twilight, small_world},
 };
 use crate::{
@@ -34,23 +34,17 @@ pub fn any_single(random: &mut Random) -> Case {
     case.under(random.pick(&ALL_RULES))
 }
 
-/// A sheet of one line of the instruction; seldom spoilt, so that mostly the
-/// line's own rule decides.
+/// A sheet of one line of the instruction.
 pub fn single_case(random: &mut Random, row: &Row) -> Case {
     let opcode = random.pick(&row.picked_codes());
-    let mut world = single_world(random);
-    let mut line = line(random, &world, opcode);
-    if random.once_in(90) {
-        spoil::line(random, &mut line);
-    }
-    world.lists[SHEET] = line.into_iter().map(|word| word as u32).collect();
-    if random.once_in(90) {
-        spoil::some_length(random, &mut world);
-    }
-    if random.once_in(90) {
-        make_unsound(random, &mut world.state);
-    }
-    let start = u64::from(random.once_in(90));
+    let world = single_world(random);
+    alone(random, world, opcode)
+}
+
+/// A sheet of one line; seldom spoilt, so that mostly the line's own rule decides.
+pub fn alone(random: &mut Random, mut world: World, opcode: u8) -> Case {
+    let line = line(random, &world, opcode);
+    let start = spoil::seldom(random, &mut world, line, 90);
     let budget = random.pick(&[1, 1, 1, 1, 1, 1, 2, u64::MAX]);
     let call = Call::run(start, budget);
     let case = Case { call, world };
@@ -78,31 +72,51 @@ pub fn single_run_case(random: &mut Random) -> Case {
     mended(case)
 }
 
-/// Some points in each zone, or whatever a small world has.
+/// Some points in each zone, or whatever a small world has; of some the coordinates are level.
 fn single_world(random: &mut Random) -> World {
     let state = calm_state(random, 3);
-    let mut world = small_world(random, state);
+    let world = small_world(random, state);
+    peopled(
+        random,
+        world,
+        MOST_POINTS_EACH,
+        UNSCALED_X,
+        |random, world| {
+            if random.once_in(6) {
+                make_level(random, world);
+            }
+        },
+    )
+}
+
+/// Up to so many points in each zone, now and then with coordinates at the ends from a list on, then
+/// bent; once in a while the world as it is.
+pub fn peopled(
+    random: &mut Random,
+    mut world: World,
+    most: usize,
+    first: usize,
+    bend: impl FnOnce(&mut Random, &mut World),
+) -> World {
     if random.once_in(8) {
         return world;
     }
-    let points = 1 + random.below(MOST_POINTS_EACH);
-    let twilight_points = 1 + random.below(MOST_POINTS_EACH);
+    let points = 1 + random.below(most);
+    let twilight_points = 1 + random.below(most);
     fill_glyph(random, &mut world, points);
     fill_twilight(random, &mut world, twilight_points);
     if random.once_in(4) {
-        make_wild(random, &mut world);
+        make_wild(random, &mut world, first);
     }
-    if random.once_in(6) {
-        make_level(random, &mut world);
-    }
+    bend(random, &mut world);
     bring_references_inside(random, &mut world);
     world
 }
 
-/// Coordinates at the ends, so that what is measured wraps.
-fn make_wild(random: &mut Random, world: &mut World) {
+/// Coordinates at the ends, from this list of the glyph on, so that what is measured wraps.
+fn make_wild(random: &mut Random, world: &mut World, first: usize) {
     let twilight = TWILIGHT_ORIGINAL_X..TWILIGHT_FLAGS;
-    for list in (UNSCALED_X..FLAGS).chain(twilight) {
+    for list in (first..FLAGS).chain(twilight) {
         if random.flip() {
             for word in &mut world.lists[list] {
                 *word = wild(random) as u32;

@@ -1,5 +1,6 @@
 //! Ways to spoil what a call is given.
 
+use super::states::make_unsound;
 use crate::{opcodes::row_of, random::Random, world::*};
 use std::ops::RangeInclusive;
 
@@ -14,6 +15,32 @@ pub fn line(random: &mut Random, line: &mut Vec<i32>) {
         _ => {
             line.pop();
         }
+    }
+}
+
+/// The line as the world's sheet, and the start of a run of it. Line, lengths, state and start are each
+/// spoilt once in so many times, so that mostly the line's own rule decides.
+pub fn seldom(random: &mut Random, world: &mut World, mut words: Vec<i32>, times: usize) -> u64 {
+    if random.once_in(times) {
+        line(random, &mut words);
+    }
+    world.lists[SHEET] = words.into_iter().map(|word| word as u32).collect();
+    if random.once_in(times) {
+        some_length(random, world);
+    }
+    if random.once_in(times) {
+        make_unsound(random, &mut world.state);
+    }
+    u64::from(random.once_in(times))
+}
+
+/// A budget for one line: mostly it is enough.
+pub fn budget_for_one(random: &mut Random) -> u64 {
+    match random.weighted(&[60, 10, 5, 1]) {
+        0 => 1,
+        1 => 2,
+        2 => u64::MAX,
+        _ => 0,
     }
 }
 
