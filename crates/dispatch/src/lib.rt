@@ -80,8 +80,6 @@ pub fn perform(
     requires { ⌜ Sound (fixed rules (now controls) (now gux) (now guy) (now gox) (now goy) (now contours)) (world s (now gx) (now gy) (now gflags) (now tox) (now toy) (now tx) (now ty) (now tflags)) ⌝ }
     ensures { λ r. ⌜ lined r (now (gx .exit)) (now (gy .exit)) (now (gflags .exit)) (now (tox .exit)) (now (toy .exit)) (now (tx .exit)) (now (ty .exit)) (now (tflags .exit)) ≡ lineOf (fixed rules (now (controls .entry)) (now (gux .entry)) (now (guy .entry)) (now (gox .entry)) (now (goy .entry)) (now (contours .entry))) opcode (now (operands .entry)) (world s (now (gx .entry)) (now (gy .entry)) (now (gflags .entry)) (now (tox .entry)) (now (toy .entry)) (now (tx .entry)) (now (ty .entry)) (now (tflags .entry))) ⌝ }
 {
-    // Here once, and the compiler knows each yes or no as one of the two at every exit: it then keeps all lines in the run's loop.
-    let s = s.by_words();
     let kind = kind_of(opcode);
     match kind {
         Kind::Isect => isect(s, operands, gx, gy, gflags, tx, ty, tflags),

@@ -60,11 +60,33 @@ fn flip_points(held: bool, count: u32, operands: &[i32], gflags: &mut [u8]) -> C
     }
 }
 
+// One point, as most lines have it: no loop.
+fn flip_one(held: bool, operands: &[i32], gflags: &mut [u8]) -> Call
+    ensures { λ r. ⌜ ended r (now (gflags .exit)) ≡ each (flipUnless held) 1 (now (operands .entry)) (now (gflags .entry)) ⌝ }
+{
+    if operands.len() == 0 {
+        Call::Refused(Refusal::Missing)
+    } else if held {
+        Call::Done
+    } else {
+        flip_on_curve(gflags, as_index(operands[0]))
+    }
+}
+
 pub fn flippt(s: GraphicsState, operands: &[i32], gflags: &mut [u8]) -> Stepped
     ensures { λ r. ⌜ ((f : Fixed) (opcode : ℕ) (gx gy tox toy tx ty : List ℤ) (tflags : List ℕ) → lined r gx gy (now (gflags .exit)) tox toy tx ty tflags ≡ flipptOf f opcode (now (operands .entry)) (world s gx gy (now (gflags .entry)) tox toy tx ty tflags)) ⌝ }
 {
     let facts = s.facts;
-    let call = flip_points(facts.past_both_iups(), s.loop_counter, operands, gflags);
+    let held = facts.past_both_iups();
+    let count = s.loop_counter;
+    if count == 1 {
+        let call = flip_one(held, operands, gflags);
+        return Stepped {
+            call,
+            state: s.reset_loop_counter().by_words(),
+        };
+    }
+    let call = flip_points(held, count, operands, gflags);
     Stepped {
         call,
         state: s.reset_loop_counter().by_words(),

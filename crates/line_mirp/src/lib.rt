@@ -28,6 +28,7 @@ use line_distance::originals_apart;
 use line_distance::rounds;
 use line_distance::sets_rp0;
 use line_distance::single_control;
+use line_relative::place_alike_in;
 use line_relative::reach;
 use line_relative::relate_or;
 use line_relative::settle_relative;
@@ -195,10 +196,11 @@ fn currents_apart(
     tx: &[i32],
     ty: &[i32],
 ) -> i32
+    requires { ⌜ (length (now gy) ≡ length (now gx)) × (length (now ty) ≡ length (now tx)) ⌝ }
     ensures { λ r. ⌜ r ≡ projectOf v (placeIn a (now (gx .entry)) (now (gy .entry)) (now (tx .entry)) (now (ty .entry)) p) (placeIn b (now (gx .entry)) (now (gy .entry)) (now (tx .entry)) (now (ty .entry)) q) ⌝ }
 {
-    let here = place_in(p, a, gx, gy, tx, ty);
-    let there = place_in(q, b, gx, gy, tx, ty);
+    let here = place_alike_in(p, a, gx, gy, tx, ty);
+    let there = place_alike_in(q, b, gx, gy, tx, ty);
     project(v, here, there)
 }
 

@@ -20,6 +20,7 @@ use line::place_at;
 use line::place_in;
 use line::put_at;
 use line::refused;
+use line_relative::place_alike_in;
 use line_relative::reach;
 use line_relative::settle_relative;
 use moves::apply_in;
@@ -179,8 +180,8 @@ pub fn msirp(
                 tx,
                 ty,
             );
-            let place = place_in(zp1, at, gx, gy, tx, ty);
-            let reference = place_in(zp0, rp0, gx, gy, tx, ty);
+            let place = place_alike_in(zp1, at, gx, gy, tx, ty);
+            let reference = place_alike_in(zp0, rp0, gx, gy, tx, ty);
             let by = distance_left(vectors, distance, place, reference);
             let m = move_of(vectors, s.facts, by);
             let call = apply_in(zp1, m, at, gx, gy, gflags, tx, ty, tflags);

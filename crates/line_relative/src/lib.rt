@@ -1,16 +1,20 @@
 // The steps of the lines that bring a point of zp1 to a distance from rp0 of zp0: MSIRP, MDRP and MIRP, of engine/outline.rs.
 //
-// `reach` says whether the two points are there, `relate` sets the references, `relate_or` is what MDRP and MIRP come to where a point is outside, and
-// `settle_relative` what any of the three comes to once the point was moved. Each is one equation, in any world; nothing is asked.
+// `reach` says whether the two points are there, `place_alike_in` where one is, `relate` sets the references, `relate_or` is what MDRP and MIRP come to where a point is outside, and
+// `settle_relative` what any of the three comes to once the point was moved. Each is one equation, in any world; but that a zone's lists share one length where a place is read, nothing is asked.
 use answer::Call;
 use answer::Refusal;
 use graphics::GraphicsState;
+use graphics::Vector;
 use graphics::ZonePointer;
 use line::Stepped;
 use line::done;
 use line::refused;
 use line::size_of;
 ghost use mathlib.Core.Path.{_≡_};
+ghost use lib.ListN.{length};
+ghost use Rattle.line.specs.Places.{placeIn};
+ghost use Rattle.zone.specs.Zone.{placeOf};
 ghost use Rattle.line.specs.World.{World};
 ghost use Rattle.line_steps.specs.Steps.{byCall, doneIn, inState, into, roundedIn};
 ghost use Rattle.line_relative.specs.Relative.{related, relatedBy, relatedOr};
@@ -47,6 +51,38 @@ pub fn reach(
     match zone {
         ZonePointer::Glyph => both_inside(at, glyph, reference, others),
         ZonePointer::Twilight => both_inside(reference, others, at, twilight),
+    }
+}
+
+// ---- where a point is
+// A point's place, (0, 0) outside: one test for both lists.
+fn place_alike(xs: &[i32], ys: &[i32], at: u64) -> Vector
+    requires { ⌜ length (now ys) ≡ length (now xs) ⌝ }
+    ensures { λ r. ⌜ r ≡ placeOf (now (xs .entry)) (now (ys .entry)) at ⌝ }
+{
+    let i = at as usize;
+    if i < xs.len() {
+        Vector { x: xs[i], y: ys[i] }
+    } else {
+        Vector { x: 0, y: 0 }
+    }
+}
+
+// In the zone that a pointer names.
+pub fn place_alike_in(
+    zone: ZonePointer,
+    at: u64,
+    gx: &[i32],
+    gy: &[i32],
+    tx: &[i32],
+    ty: &[i32],
+) -> Vector
+    requires { ⌜ (length (now gy) ≡ length (now gx)) × (length (now ty) ≡ length (now tx)) ⌝ }
+    ensures { λ r. ⌜ r ≡ placeIn at (now (gx .entry)) (now (gy .entry)) (now (tx .entry)) (now (ty .entry)) zone ⌝ }
+{
+    match zone {
+        ZonePointer::Glyph => place_alike(gx, gy, at),
+        ZonePointer::Twilight => place_alike(tx, ty, at),
     }
 }
 

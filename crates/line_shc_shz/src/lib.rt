@@ -76,21 +76,24 @@ pub fn shc(
     requires { ⌜ (length (now goy) ≡ length (now gox)) × (length (now gy) ≡ length (now gx)) × (length (now gflags) ≡ length (now gx)) × (length (now toy) ≡ length (now tox)) × (length (now ty) ≡ length (now tx)) × (length (now tflags) ≡ length (now tx)) ⌝ }
     ensures { λ r. ⌜ ((rules : Rules) (controls gux guy : List ℤ) → lined r (now (gx .exit)) (now (gy .exit)) (now (gflags .exit)) (now (tox .entry)) (now (toy .entry)) (now (tx .exit)) (now (ty .exit)) (now (tflags .exit)) ≡ shcOf (fixed rules controls gux guy (now (gox .entry)) (now (goy .entry)) (now (contours .entry))) opcode (now (operands .entry)) (world s (now (gx .entry)) (now (gy .entry)) (now (gflags .entry)) (now (tox .entry)) (now (toy .entry)) (now (tx .entry)) (now (ty .entry)) (now (tflags .entry)))) ⌝ }
 {
+    // Read before the first way out, so that the state need not be laid down in memory for it.
+    let vectors = s.vectors;
+    let facts = s.facts;
+    let zp2 = s.zp2();
+    let reference = reference_of(s, opcode);
     if operands.len() < 1 {
         return refused(s, Refusal::Missing);
     }
     let at = index_at(operands, 0);
     let index = at as usize;
-    let zp2 = s.zp2();
     if size_of(zp2, contours.len(), 1) <= index {
         return no_contour(s, at);
     }
     let start = point_after(contours, index);
     let end = size_of(zp2, point_after(contours, index + 1), tx.len());
-    let reference = reference_of(s, opcode);
     let call = shift_span_of(
-        s.vectors,
-        s.facts,
+        vectors,
+        facts,
         zp2,
         reference,
         true,
@@ -134,6 +137,11 @@ pub fn shz(
     requires { ⌜ (length (now goy) ≡ length (now gox)) × (length (now gy) ≡ length (now gx)) × (length (now gflags) ≡ length (now gx)) × (length (now toy) ≡ length (now tox)) × (length (now ty) ≡ length (now tx)) × (length (now tflags) ≡ length (now tx)) ⌝ }
     ensures { λ r. ⌜ ((rules : Rules) (controls gux guy : List ℤ) → lined r (now (gx .exit)) (now (gy .exit)) (now (gflags .exit)) (now (tox .entry)) (now (toy .entry)) (now (tx .exit)) (now (ty .exit)) (now (tflags .exit)) ≡ shzOf (fixed rules controls gux guy (now (gox .entry)) (now (goy .entry)) (now (contours .entry))) opcode (now (operands .entry)) (world s (now (gx .entry)) (now (gy .entry)) (now (gflags .entry)) (now (tox .entry)) (now (toy .entry)) (now (tx .entry)) (now (ty .entry)) (now (tflags .entry)))) ⌝ }
 {
+    // Read before the first way out, so that the state need not be laid down in memory for it.
+    let vectors = s.vectors;
+    let facts = s.facts;
+    let zp2 = s.zp2();
+    let reference = reference_of(s, opcode);
     if operands.len() < 1 {
         return refused(s, Refusal::Missing);
     }
@@ -141,12 +149,10 @@ pub fn shz(
     if 1 < zone {
         return refused(s, Refusal::ZonePointer(zone));
     }
-    let zp2 = s.zp2();
     let end = size_of(zp2, point_after(contours, contours.len()), tx.len());
-    let reference = reference_of(s, opcode);
     let call = shift_span_of(
-        s.vectors,
-        s.facts,
+        vectors,
+        facts,
         zp2,
         reference,
         false,

@@ -23,6 +23,7 @@ use moves::Displacement;
 use moves::Move;
 use moves::Reference;
 use moves::apply;
+use moves::apply_in;
 use moves::displacement_by;
 use moves::reference_of;
 use moves::zp2_move_of;
@@ -107,6 +108,40 @@ fn shift_in(
     }
 }
 
+// One point, as most lines have it: no loop, and no call.
+fn shift_one_in(
+    zone: ZonePointer,
+    m: Move,
+    operands: &[i32],
+    gx: &mut [i32],
+    gy: &mut [i32],
+    gflags: &mut [u8],
+    tx: &mut [i32],
+    ty: &mut [i32],
+    tflags: &mut [u8],
+) -> Call
+    requires { ⌜ (length (now gy) ≡ length (now gx)) × (length (now gflags) ≡ length (now gx)) × (length (now ty) ≡ length (now tx)) × (length (now tflags) ≡ length (now tx)) ⌝ }
+    ensures { λ r. ⌜ ended r (zones (now (gx .exit)) (now (gy .exit)) (now (gflags .exit)) (now (tx .exit)) (now (ty .exit)) (now (tflags .exit))) ≡ inZone (each (shiftUnlessIdle m) 1 (now (operands .entry))) (zones (now (gx .entry)) (now (gy .entry)) (now (gflags .entry)) (now (tx .entry)) (now (ty .entry)) (now (tflags .entry))) zone ⌝ }
+{
+    if operands.len() == 0 {
+        return Call::Refused(Refusal::Missing);
+    }
+    if m.is_idle() {
+        return Call::Done;
+    }
+    apply_in(
+        zone,
+        m,
+        as_index(operands[0]),
+        gx,
+        gy,
+        gflags,
+        tx,
+        ty,
+        tflags,
+    )
+}
+
 // ---- SHP
 // `displaced_in` of the crate moves, but that the zone is chosen at each place that is read: called there, both zones' lists would go through memory.
 fn displaced(
@@ -184,6 +219,13 @@ pub fn shp(
         Displaced::Refused(why) => refused(s, why),
         Displaced::By(d) => {
             let m = zp2_move_of(vectors, facts, d.dx, d.dy, true);
+            if count == 1 {
+                let call = shift_one_in(zp2, m, operands, gx, gy, gflags, tx, ty, tflags);
+                return Stepped {
+                    call,
+                    state: s.reset_loop_counter().by_words(),
+                };
+            }
             let call = shift_in(zp2, m, count, operands, gx, gy, gflags, tx, ty, tflags);
             Stepped {
                 call,
@@ -228,6 +270,13 @@ pub fn shpix(
         return refused(s, Refusal::Missing);
     }
     let m = pixel_move(vectors, facts, operands[0]);
+    if count == 1 {
+        let call = shift_one_in(zp2, m, &operands[1..], gx, gy, gflags, tx, ty, tflags);
+        return Stepped {
+            call,
+            state: s.reset_loop_counter().by_words(),
+        };
+    }
     let call = shift_in(
         zp2,
         m,

@@ -40,6 +40,23 @@ module _ {S : Type 0} (f : ℕ → S → Ended S) where
   one-step zero z rest s h = absurd (omega arith)
   one-step (suc n) z rest s h = let e : suc n - 1 ≡ n = omega arith in rw e
 
+-- ---- a loop of one step is the step
+module _ {S : Type 0} (f : ℕ → S → Ended S) where
+  last : (rest : List ℤ) (call : Call) (left : S) → onward (each f 0 rest) left call ≡ ended call left
+  unfolding onward each
+  last rest Done left = refl
+  last rest (Refused why) left = refl
+
+  pub once-missing : (operands : List ℤ) (s : S) → length operands ≡ 0 → ended (Refused Missing) s ≡ each f 1 operands s
+  unfolding each
+  once-missing [] s e = refl
+  once-missing (z ∷ rest) s e = absurd (omega arith)
+
+  pub once-there : (operands : List ℤ) (s : S) → (length operands ≡ 0 → ⊥) → f (indexOf (getD operands 0 (pos 0))) s ≡ each f 1 operands s
+  unfolding each
+  once-there [] s n = absurd (n refl)
+  once-there (z ∷ rest) s n = sym (last rest (f (indexOf z) s .call) (f (indexOf z) s .left))
+
 -- ---- the cases of the loop
 module _ {S : Type 0} (f : ℕ → S → Ended S) (count : ℕ) (operands : List ℤ) (k : ℕ) (s : S) where
   -- the counter is used up

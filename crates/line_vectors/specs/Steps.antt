@@ -3,21 +3,19 @@
 use Prim.Native.Nat.{ℕ}
 use mathlib.Core.Bool.{Bool, cond, _||_}
 use mathlib.Core.List.{List}
-use lib.Dec.{eqb, leb, ltb}
-use lib.IntN.{ℤ, pos}
-use lib.ListN.{getD, length}
+use lib.Dec.{leb, ltb}
+use lib.IntN.{ℤ}
+use lib.ListN.{length}
 use Rattle.answer.specs.declared.Refusal.the-variants.{Missing}
-use Rattle.graphics.specs.State.{measuredAlong, movedAlong, withVectors}
 use Rattle.graphics.specs.declared.GraphicsState.{GraphicsState}
-use Rattle.graphics.specs.declared.Vector.{Vector}
 use Rattle.graphics.specs.declared.ZonePointer.{ZonePointer}
 use Rattle.line.specs.Line.{doneWith, refusedWith}
-use Rattle.line.specs.Operands.{indexAt, isOdd}
+use Rattle.line.specs.Operands.{indexAt}
 use Rattle.line.specs.Places.{fetchIn}
 use Rattle.line.specs.declared.Stepped.{Stepped}
 use Rattle.zone.specs.declared.Fetched.the-variants.{At, Refused}
 use Rattle.zone.specs.declared.Fetched.{Fetched}
-use Rattle.line_vectors.specs.Vectors.{dualAt, fromStack, lineVector, short}
+use Rattle.line_vectors.specs.Vectors.{alongAt, dualAt, lineVector}
 
 -- ---- the vector that a line finds
 -- the vector of two places, or the first refusal
@@ -26,34 +24,19 @@ lineBy across (Refused why) second = Refused why
 lineBy across (At p) (Refused why) = Refused why
 lineBy across (At p) (At q) = At (lineVector across p q)
 
--- of two operands, the points' lists and the zones that they are in
+-- of two operands, the points' lists and the zones that they are in; 6 where an operand is missing
 unfoldable pub lineFound : Bool → List ℤ → ZonePointer → ZonePointer → List ℤ → List ℤ → List ℤ → List ℤ → Fetched
-lineFound across operands zp1 zp2 gx gy tx ty = lineBy across (fetchIn (indexAt operands 1) gx gy tx ty zp1) (fetchIn (indexAt operands 0) gx gy tx ty zp2)
-
-unfoldable pub stackVector : ℕ → Vector → Vector → ℤ → ℤ → Vector
-stackVector op projection freedom x y = cond (eqb op 0x0A) (fromStack projection x y) (fromStack freedom x y)
+lineFound across operands zp1 zp2 gx gy tx ty =
+    cond (ltb (length operands) 2) (Refused Missing)
+    (lineBy across (fetchIn (indexAt operands 1) gx gy tx ty zp1) (fetchIn (indexAt operands 0) gx gy tx ty zp2))
 
 abbrev pub isAlong : ℕ → Bool
 isAlong op = ltb op 0x0A || leb 0x86 op
 
--- by the opcode, from the projection and the freedom vector
-unfoldable pub foundBy : ℕ → List ℤ → Vector → Vector → ZonePointer → ZonePointer → List ℤ → List ℤ → List ℤ → List ℤ → Fetched
-foundBy op operands projection freedom zp1 zp2 gx gy tx ty =
-    cond (eqb op 0x0E) (At projection)
-    (cond (ltb (length operands) 2) (Refused Missing)
-    (cond (isAlong op) (lineFound (isOdd op) operands zp1 zp2 gx gy tx ty)
-    (At (stackVector op projection freedom (short (getD operands 1 (pos 0))) (short (getD operands 0 (pos 0)))))))
-
 -- ---- the vectors set
-abbrev pub setsProjection : ℕ → Bool
-setsProjection op = ltb op 0x08 || eqb op 0x0A
-
-unfoldable pub foundAt : GraphicsState → ℕ → Vector → GraphicsState
-foundAt s op v = cond (setsProjection op) (withVectors s (measuredAlong (s .vectors) v)) (withVectors s (movedAlong (s .vectors) v))
-
 unfoldable pub settledBy : GraphicsState → ℕ → Fetched → Stepped
 settledBy s op (Refused why) = refusedWith s why
-settledBy s op (At v) = doneWith (foundAt s op v)
+settledBy s op (At v) = doneWith (alongAt s op v)
 
 unfoldable pub dualBy : GraphicsState → Fetched → Fetched → Stepped
 dualBy s (Refused why) now = refusedWith s why

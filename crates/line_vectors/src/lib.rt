@@ -34,8 +34,8 @@ ghost use lib.IntN.{ℤ};
 ghost use lib.ListN.{length};
 ghost use Rattle.rules.specs.declared.Rules.{Rules};
 ghost use Rattle.line.specs.World.{fixed, lined, world};
-ghost use Rattle.line_vectors.specs.Vectors.{dualAt, fromStack, lineVector, short, turnOf};
-ghost use Rattle.line_vectors.specs.Steps.{dualBy, foundAt, foundBy, isAlong, lineBy, lineFound, setsProjection, settledBy, stackVector};
+ghost use Rattle.line_vectors.specs.Vectors.{alongAt, dualAt, fromStack, lineVector, short, turnOf, vectorBy};
+ghost use Rattle.line_vectors.specs.Steps.{dualBy, isAlong, lineBy, lineFound, settledBy};
 
 // ---- along a line of two points
 // From q to p, or across; the x axis where they are in one place.
@@ -84,14 +84,25 @@ fn from_stack(kept: Vector, x: i32, y: i32) -> Vector
     }
 }
 
-// Which of the two is kept.
-fn stack_vector(opcode: usize, projection: Vector, freedom: Vector, x: i32, y: i32) -> Vector
-    ensures { λ r. ⌜ r ≡ stackVector opcode projection freedom x y ⌝ }
+// SPVFS, SFVFS and SFVTPV, which look at no point.
+fn vector_by(s: GraphicsState, opcode: usize, operands: &[i32]) -> Stepped
+    ensures { λ r. ⌜ r ≡ vectorBy s opcode (now (operands .entry)) ⌝ }
 {
+    let vectors = s.vectors;
+    let projection = vectors.projection;
+    let freedom = vectors.freedom;
+    if opcode == 0x0E {
+        return done(s.with_freedom_vector(projection));
+    }
+    if operands.len() < 2 {
+        return refused(s, Refusal::Missing);
+    }
+    let y = short_of(operands[0]);
+    let x = short_of(operands[1]);
     if opcode == 0x0A {
-        from_stack(projection, x, y)
+        done(s.with_projection_vectors(from_stack(projection, x, y)))
     } else {
-        from_stack(freedom, x, y)
+        done(s.with_freedom_vector(from_stack(freedom, x, y)))
     }
 }
 
@@ -117,41 +128,14 @@ fn line_found(
     requires { ⌜ (length (now gy) ≡ length (now gx)) × (length (now ty) ≡ length (now tx)) ⌝ }
     ensures { λ r. ⌜ r ≡ lineFound across (now (operands .entry)) zp1 zp2 (now (gx .entry)) (now (gy .entry)) (now (tx .entry)) (now (ty .entry)) ⌝ }
 {
+    if operands.len() < 2 {
+        return Fetched::Refused(Refusal::Missing);
+    }
     let second = index_at(operands, 0);
     let first = index_at(operands, 1);
     let p = fetch_in(zp1, first, gx, gy, tx, ty);
     let q = fetch_in(zp2, second, gx, gy, tx, ty);
     line_by(across, p, q)
-}
-
-// By a line's operands, or why not. It is given no group of the state, and its two calls leave it out of the run's loop.
-fn found_by(
-    opcode: usize,
-    operands: &[i32],
-    projection: Vector,
-    freedom: Vector,
-    zp1: ZonePointer,
-    zp2: ZonePointer,
-    gx: &[i32],
-    gy: &[i32],
-    tx: &[i32],
-    ty: &[i32],
-) -> Fetched
-    requires { ⌜ (length (now gy) ≡ length (now gx)) × (length (now ty) ≡ length (now tx)) ⌝ }
-    ensures { λ r. ⌜ r ≡ foundBy opcode (now (operands .entry)) projection freedom zp1 zp2 (now (gx .entry)) (now (gy .entry)) (now (tx .entry)) (now (ty .entry)) ⌝ }
-{
-    if opcode == 0x0E {
-        return Fetched::At(projection);
-    }
-    if operands.len() < 2 {
-        return Fetched::Refused(Refusal::Missing);
-    }
-    if is_along(opcode) {
-        return line_found(is_odd(opcode), operands, zp1, zp2, gx, gy, tx, ty);
-    }
-    let y = short_of(operands[0]);
-    let x = short_of(operands[1]);
-    Fetched::At(stack_vector(opcode, projection, freedom, x, y))
 }
 
 // ---- the vectors set
@@ -182,30 +166,23 @@ fn settle_dual(s: GraphicsState, old: Fetched, now: Fetched) -> Stepped
     }
 }
 
-// SPVTL and SPVFS, among the others than SDPVTL.
-fn sets_projection(opcode: usize) -> bool
-    ensures { λ r. ⌜ r ≡ setsProjection opcode ⌝ }
+// SPVTL sets the projection and the dual vector, SFVTL the freedom vector.
+fn set_along(s: GraphicsState, opcode: usize, v: Vector) -> GraphicsState
+    ensures { λ r. ⌜ r ≡ alongAt s opcode v ⌝ }
 {
-    (opcode < 0x08) | (opcode == 0x0A)
-}
-
-// SPVTL and SPVFS set the projection and the dual vector, the others the freedom vector.
-fn set_found(s: GraphicsState, opcode: usize, v: Vector) -> GraphicsState
-    ensures { λ r. ⌜ r ≡ foundAt s opcode v ⌝ }
-{
-    if sets_projection(opcode) {
+    if opcode < 0x08 {
         s.with_projection_vectors(v)
     } else {
         s.with_freedom_vector(v)
     }
 }
 
-fn settle_found(s: GraphicsState, opcode: usize, found: Fetched) -> Stepped
+fn settle_along(s: GraphicsState, opcode: usize, found: Fetched) -> Stepped
     ensures { λ r. ⌜ r ≡ settledBy s opcode found ⌝ }
 {
     match found {
         Fetched::Refused(why) => refused(s, why),
-        Fetched::At(v) => done(set_found(s, opcode, v)),
+        Fetched::At(v) => done(set_along(s, opcode, v)),
     }
 }
 
@@ -226,37 +203,16 @@ pub fn turn(
     requires { ⌜ (length (now goy) ≡ length (now gox)) × (length (now gy) ≡ length (now gx)) × (length (now toy) ≡ length (now tox)) × (length (now ty) ≡ length (now tx)) ⌝ }
     ensures { λ r. ⌜ ((rules : Rules) (controls gux guy : List ℤ) (contours gflags tflags : List ℕ) → lined r (now (gx .entry)) (now (gy .entry)) gflags (now (tox .entry)) (now (toy .entry)) (now (tx .entry)) (now (ty .entry)) tflags ≡ turnOf (fixed rules controls gux guy (now (gox .entry)) (now (goy .entry)) contours) opcode (now (operands .entry)) (world s (now (gx .entry)) (now (gy .entry)) gflags (now (tox .entry)) (now (toy .entry)) (now (tx .entry)) (now (ty .entry)) tflags)) ⌝ }
 {
-    let vectors = s.vectors;
-    let projection = vectors.projection;
-    let freedom = vectors.freedom;
+    if !is_along(opcode) {
+        return vector_by(s, opcode, operands);
+    }
+    let across = is_odd(opcode);
     let zp1 = s.zp1();
     let zp2 = s.zp2();
-    let now = found_by(
-        opcode,
-        operands,
-        projection,
-        freedom,
-        zp1,
-        zp2,
-        gx,
-        gy,
-        tx,
-        ty,
-    );
+    let now = line_found(across, operands, zp1, zp2, gx, gy, tx, ty);
     if opcode < 0x86 {
-        return settle_found(s, opcode, now);
+        return settle_along(s, opcode, now);
     }
-    let old = found_by(
-        opcode,
-        operands,
-        projection,
-        freedom,
-        zp1,
-        zp2,
-        gox,
-        goy,
-        tox,
-        toy,
-    );
+    let old = line_found(across, operands, zp1, zp2, gox, goy, tox, toy);
     settle_dual(s, old, now)
 }

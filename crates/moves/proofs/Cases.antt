@@ -17,11 +17,11 @@ use Rattle.int.specs.Word.{add32, eqZ}
 use Rattle.math.specs.Fixed.{mulDiv}
 use Rattle.moves.specs.Apply.{shifted, shiftOf, moved, applyOf}
 use Rattle.moves.specs.Displacement.{displacementOf, displacement, displacedFrom, displacedAt}
-use Rattle.moves.specs.Move.{bitsFor, stepBy, stepAlong, heldBack, isSlanted, isExempt, moveOf, untouching, originalMoveOf, zp2MoveOf, movedAt}
+use Rattle.moves.specs.Move.{bitsFor, stepAlong, heldBack, untouching, originalMoveOf, zp2MoveOf, movedAt}
 use Rattle.moves.specs.declared.Displacement.{Displacement}
 use Rattle.moves.specs.declared.Move.{Move}
 use Rattle.moves.specs.declared.Reference.{Reference}
-use Rattle.projection.specs.Projection.{freedomAxisOf, derivedOf, projectOf}
+use Rattle.projection.specs.Projection.{derivedOf, projectOf}
 use Rattle.projection.specs.declared.Derived.{Derived}
 use Rattle.zone.specs.Zone.{fetchOf, orAt}
 use Rattle.zone.specs.declared.Fetched.{Fetched}
@@ -66,19 +66,12 @@ module _ (v : Vectors) (p : Reference) (ox oy cx cy : List ℤ) where
   both-are {h = h} e q f r = ap (λ (o : Fetched). displacedFrom v p o h) (sym r ∙ f) ∙ current-is e q
 
 -- ---- what a call works out from `derive` and its kin
-pub step-from : (v : Vectors) (distance : ℤ) {d : Derived} {fdotp read : ℤ} → d ≡ derivedOf v → fdotp ≡ d .fdotp → read ≡ distance → stepBy (v .freedom) fdotp read (d .«freedom_axis») ≡ stepAlong v distance
-step-from v distance e p q = rw (p, q, e)
-
 abbrev untouchedBy : Move → ℤ → ℤ → Move
 untouchedBy m x y = record { «moves_x» = m .«moves_x»; dx = x; «moves_y» = m .«moves_y»; dy = y; touch = 0 }
 
 pub original-from : (v : Vectors) (distance : ℤ) {m : Move} {x y : ℤ} → m ≡ stepAlong v distance → x ≡ m .dx → y ≡ m .dy → untouchedBy m x y ≡ originalMoveOf v distance
 unfolding originalMoveOf
 original-from v distance e p q = rw (p, q) (ap untouching e)
-
-pub move-from : (v : Vectors) (f : Facts) (distance : ℤ) {m : Move} {slanted level past : Bool} → m ≡ stepAlong v distance → slanted ≡ isSlanted (freedomAxisOf v) → level ≡ eqZ (v .projection .y) (pos 0) → past ≡ pastBothIups f → heldBack m (f .«backward_compatibility» && not (slanted && level)) (past && not (slanted && level)) ≡ moveOf v f distance
-unfolding moveOf
-move-from v f distance e s l p = rw (s, l, p) (ap (λ (m : Move). heldBack m (f .«backward_compatibility» && not (isExempt v)) (pastBothIups f && not (isExempt v))) e)
 
 pub zp2-from :
     (v : Vectors) (f : Facts) (dx dy : ℤ) (touches : Bool) {fx fy dx′ dy′ : ℤ} {ex ey past : Bool} {t : ℕ} {m : Move} → fx ≡ v .freedom .x → fy ≡ v .freedom .y → dx′ ≡ dx → dy′ ≡ dy →

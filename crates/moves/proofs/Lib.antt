@@ -1,2 +1,3 @@
+pub mod Axis
 pub mod Cases
 pub mod Keeps

@@ -11,6 +11,7 @@ use flags::CoordAxis;
 use flags::with_bits;
 use graphics::Facts;
 use graphics::GraphicsState;
+use graphics::ONE;
 use graphics::Vector;
 use graphics::Vectors;
 use graphics::ZonePointer;
@@ -24,7 +25,11 @@ use zone::fetch;
 ghost use mathlib.Core.Path.{_≡_};
 ghost use Prim.Native.Nat.{_<_};
 ghost use lib.ListN.{length};
-ghost use Rattle.moves.specs.Move.{bitsFor, stepBy, stepAlong, isSlanted, heldBack, moveOf, originalMoveOf, zp2MoveOf, isIdle, movedAt};
+ghost use lib.IntN.{ℤ};
+ghost use Rattle.flags.specs.declared.CoordAxis.the-variants.{Both, X, Y};
+ghost use Rattle.graphics.specs.declared.Vector.{Vector};
+ghost use Rattle.projection.specs.Projection.{fdotpOf, freedomAxisOf};
+ghost use Rattle.moves.specs.Move.{bitsFor, stepBy, stepAlong, heldBack, moveOf, originalMoveOf, zp2MoveOf, isIdle, movedAt};
 ghost use Rattle.moves.specs.Apply.{shifted, shiftOf, moved, applyOf, shiftIn, bothShifted, applyIn, bothMoved};
 ghost use Rattle.zone.specs.Zone.{orAt};
 ghost use Rattle.moves.specs.Displacement.{referenceOf, displacementOf, displacedAt, displacedIn, saidOfDisplaced};
@@ -50,41 +55,77 @@ fn bits_for(x: bool, y: bool) -> u8
     }
 }
 
-// A distance measured along the projection vector, as a step along the freedom vector.
-fn step_by(freedom: Vector, axis: CoordAxis, fdotp: i32, distance: i32) -> Move
-    ensures { λ r. ⌜ r ≡ stepBy freedom fdotp distance axis ⌝ }
+// The axis that both vectors lie on, along which a distance is the step itself.
+fn freedom_axis(v: Vectors) -> CoordAxis
+    ensures { λ r. ⌜ r ≡ freedomAxisOf v ⌝ }
 {
-    let fx = freedom.x;
-    let fy = freedom.y;
-    match axis {
-        CoordAxis::X => Move {
-            moves_x: true,
-            dx: distance,
-            moves_y: false,
-            dy: 0,
-            touch: 2,
-        },
-        CoordAxis::Y => Move {
-            moves_x: false,
-            dx: 0,
-            moves_y: true,
-            dy: distance,
-            touch: 4,
-        },
-        CoordAxis::Both => {
-            let has_x = !equal(fx, 0);
-            let has_y = !equal(fy, 0);
-            let dx = mul_div(distance, fx, fdotp);
-            let dy = mul_div(distance, fy, fdotp);
-            let touch = bits_for(has_x, has_y);
-            Move {
-                moves_x: has_x,
-                dx,
-                moves_y: has_y,
-                dy,
-                touch,
-            }
+    let p = v.projection;
+    let f = v.freedom;
+    if equal(f.x, ONE) {
+        if equal(p.x, ONE) {
+            CoordAxis::X
+        } else {
+            CoordAxis::Both
         }
+    } else if equal(f.y, ONE) {
+        if equal(p.y, ONE) {
+            CoordAxis::Y
+        } else {
+            CoordAxis::Both
+        }
+    } else {
+        CoordAxis::Both
+    }
+}
+
+fn step_x(distance: i32) -> Move
+    ensures { λ r. ⌜ ((f : Vector) (fdotp : ℤ) → r ≡ stepBy f fdotp distance X) ⌝ }
+{
+    Move {
+        moves_x: true,
+        dx: distance,
+        moves_y: false,
+        dy: 0,
+        touch: 2,
+    }
+}
+
+fn step_y(distance: i32) -> Move
+    ensures { λ r. ⌜ ((f : Vector) (fdotp : ℤ) → r ≡ stepBy f fdotp distance Y) ⌝ }
+{
+    Move {
+        moves_x: false,
+        dx: 0,
+        moves_y: true,
+        dy: distance,
+        touch: 4,
+    }
+}
+
+// A distance measured along the projection vector, as a step along a freedom vector off that axis. By numbers, and with two callers, so that it stays out of the run's loop.
+fn step_slanted(px: i32, py: i32, fx: i32, fy: i32, distance: i32) -> Move
+    ensures { λ r. ⌜ r ≡ stepBy (record { x = fx; y = fy }) (fdotpOf (record { projection = record { x = px; y = py }; dual = record { x = px; y = py }; freedom = record { x = fx; y = fy } })) distance Both ⌝ }
+{
+    let projection = Vector { x: px, y: py };
+    let freedom = Vector { x: fx, y: fy };
+    let v = Vectors {
+        projection,
+        dual: projection,
+        freedom,
+    };
+    let derived = derive(v);
+    let fdotp = derived.fdotp;
+    let has_x = !equal(fx, 0);
+    let has_y = !equal(fy, 0);
+    let dx = mul_div(distance, fx, fdotp);
+    let dy = mul_div(distance, fy, fdotp);
+    let touch = bits_for(has_x, has_y);
+    Move {
+        moves_x: has_x,
+        dx,
+        moves_y: has_y,
+        dy,
+        touch,
     }
 }
 
@@ -92,20 +133,13 @@ fn step_by(freedom: Vector, axis: CoordAxis, fdotp: i32, distance: i32) -> Move
 pub fn step_of(v: Vectors, distance: i32) -> Move
     ensures { λ r. ⌜ r ≡ stepAlong v distance ⌝ }
 {
-    let freedom = v.freedom;
-    let derived = derive(v);
-    let axis = derived.freedom_axis;
-    step_by(freedom, axis, derived.fdotp, distance)
-}
-
-// Whether points move along neither axis.
-fn is_slanted(axis: CoordAxis) -> bool
-    ensures { λ r. ⌜ r ≡ isSlanted axis ⌝ }
-{
+    let p = v.projection;
+    let f = v.freedom;
+    let axis = freedom_axis(v);
     match axis {
-        CoordAxis::X => false,
-        CoordAxis::Y => false,
-        CoordAxis::Both => true,
+        CoordAxis::X => step_x(distance),
+        CoordAxis::Y => step_y(distance),
+        CoordAxis::Both => step_slanted(p.x, p.y, f.x, f.y, distance),
     }
 }
 
@@ -137,11 +171,21 @@ pub fn move_of(v: Vectors, f: Facts, distance: i32) -> Move
 {
     let projection = v.projection;
     let freedom = v.freedom;
-    let derived = derive(v);
-    let axis = derived.freedom_axis;
-    let step = step_by(freedom, axis, derived.fdotp, distance);
-    let bound = !(is_slanted(axis) & equal(projection.y, 0));
-    step.held(f.backward_compatibility & bound, f.past_both_iups() & bound)
+    let px = projection.x;
+    let py = projection.y;
+    let fx = freedom.x;
+    let fy = freedom.y;
+    let compatible = f.backward_compatibility;
+    let past = f.past_both_iups();
+    let axis = freedom_axis(v);
+    match axis {
+        CoordAxis::X => step_x(distance).held(compatible, past),
+        CoordAxis::Y => step_y(distance).held(compatible, past),
+        CoordAxis::Both => {
+            let bound = !equal(py, 0);
+            step_slanted(px, py, fx, fy, distance).held(compatible & bound, past & bound)
+        }
+    }
 }
 
 // move_original: the original outline is never held fast and never touched.

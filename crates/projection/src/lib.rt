@@ -153,17 +153,20 @@ pub fn derive(v: Vectors) -> Derived
     }
 }
 
-// How far a lies from b along v.
+// How far a lies from b along v. The axis is tested and not named: a name would be laid down as a number at every place that measures, and tested again.
 pub fn along(v: Vector, a: Vector, b: Vector) -> i32
     ensures { λ r. ⌜ r ≡ alongOf v a b ⌝ }
 {
-    let axis = axis_of(v);
+    let vx = v.x;
+    let vy = v.y;
     let dx = wrapping_sub(a.x, b.x);
     let dy = wrapping_sub(a.y, b.y);
-    match axis {
-        CoordAxis::X => dx,
-        CoordAxis::Y => dy,
-        CoordAxis::Both => dot14(dx, dy, v.x, v.y),
+    if equal(vx, ONE) {
+        dx
+    } else if equal(vy, ONE) {
+        dy
+    } else {
+        dot14(dx, dy, vx, vy)
     }
 }
 

@@ -1,12 +1,10 @@
 -- `dispatch::perform` meets its contract: each arm's line says it of the lists lent, for every content of the others. Assumes nothing.
 use mathlib.Core.Path.{_≡_, ap, refl, subst, sym, _∙_}
 use denote.Ref.{now}
-use Rattle.graphics.specs.declared.GraphicsState.{GraphicsState}
 use Rattle.line_set.specs.Setters.{setOf}
 use Rattle.line_sizes.specs.Sizes.{sizesOf}
 use Rattle.line_steps.specs.Steps.{into}
 use Rattle.line.specs.World.{Fixed, World, fixed, world}
-use Rattle.opcodes.specs.Table.{lineOf}
 use Rattle.dispatch.specs.Steps.{Named}
 use Rattle.dispatch.specs.declared.Kind.{Kind}
 use Rattle.dispatch.proofs.perform.Statement.{statement}
@@ -20,15 +18,6 @@ entry s = let a = s .args in world (a .s) (now (a .gx)) (now (a .gy)) (now (a .g
 
 abbrev start : tie.After-kind-of → tie.Start
 start k = search
-
--- the world with the state put together by its words, which is the same
-abbrev within : tie.After-kind-of → World
-within k = let a = start k .args in
-    world (k .before .by-words .result) (now (a .gx)) (now (a .gy)) (now (a .gflags)) (now (a .tox)) (now (a .toy)) (now (a .tx)) (now (a .ty)) (now (a .tflags))
-
-in-words : (k : tie.After-kind-of) → let s = start k in lineOf (read s) (s .args .opcode) (now (s .args .operands)) (within k) ≡ lineOf (read s) (s .args .opcode) (now (s .args .operands)) (entry s)
-in-words k = let s = start k in let a = s .args in
-    ap (λ (t : GraphicsState). lineOf (read s) (a .opcode) (now (a .operands)) (world t (now (a .gx)) (now (a .gy)) (now (a .gflags)) (now (a .tox)) (now (a .toy)) (now (a .tx)) (now (a .ty)) (now (a .tflags)))) (k .before .by-words .ensures)
 
 -- what the kind says of the opcode
 named : (k : tie.After-kind-of) {kind : Kind} → k .kind-of .result ≡ kind → Named (start k .args .opcode) kind
@@ -82,9 +71,6 @@ after-fliprg c = search
 
 abbrev to-fliprg : tie.After-fliprg-arg → tie.After-enum-told10
 to-fliprg c = c .before
-
-by-words-requires : tie.Need-by-words-requires
-by-words-requires c κs = tt
 
 kind-of-requires : tie.Need-kind-of-requires
 kind-of-requires c κs = tt
@@ -182,7 +168,7 @@ same-length-6 c = search (after-isect c .isect .kept)
 returns : tie.Need-returns
 unfolding Named
 returns c = let a = after-isect c in let e = to-isect (a .before) in let k = e .before .before in let s = start k in
-    a .isect .ensures (read s) (s .args .opcode) (now (s .args .tox)) (now (s .args .toy)) ∙ named k (e .enum-told .given .1) (read s) (now (s .args .operands)) (within k) ∙ in-words k
+    a .isect .ensures (read s) (s .args .opcode) (now (s .args .tox)) (now (s .args .toy)) ∙ named k (e .enum-told .given .1) (read s) (now (s .args .operands)) (entry s)
 
 same-length-7 : tie.Need-same-length-7
 same-length-7 c = search (after-iup c .iup .kept)
@@ -196,7 +182,7 @@ same-length-9 c = refl
 returns-2 : tie.Need-returns-2
 unfolding Named
 returns-2 c = let a = after-iup c in let e = to-iup (a .before) in let k = e .before .before in let s = start k in let w = entry s in
-    a .iup .ensures (s .args .rules) (now (s .args .controls)) (now (s .args .operands)) (w .tox) (w .toy) (w .tx) (w .ty) (w .tflags) ∙ named k (e .enum-told2 .given .1) (read s) (now (s .args .operands)) (within k) ∙ in-words k
+    a .iup .ensures (s .args .rules) (now (s .args .controls)) (now (s .args .operands)) (w .tox) (w .toy) (w .tx) (w .ty) (w .tflags) ∙ named k (e .enum-told2 .given .1) (read s) (now (s .args .operands)) (entry s)
 
 same-length-10 : tie.Need-same-length-10
 same-length-10 c = search (after-shift c .perform-shift .kept)
@@ -223,7 +209,7 @@ same-length-17 : tie.Need-same-length-17
 same-length-17 c = search (after-shift c .perform-shift .kept)
 
 returns-3 : tie.Need-returns-3
-returns-3 c = let a = after-shift c in let k = to-shift (a .before) .before .before in let s = start k .args in a .perform-shift .ensures (s .rules) (now (s .controls)) (now (s .gux)) (now (s .guy)) ∙ in-words k
+returns-3 c = let a = after-shift c in let k = to-shift (a .before) .before .before in let s = start k .args in a .perform-shift .ensures (s .rules) (now (s .controls)) (now (s .gux)) (now (s .guy))
 
 same-length-18 : tie.Need-same-length-18
 same-length-18 c = search (after-distance c .perform-distance .kept)
@@ -250,7 +236,7 @@ same-length-25 : tie.Need-same-length-25
 same-length-25 c = search (after-distance c .perform-distance .kept)
 
 returns-4 : tie.Need-returns-4
-returns-4 c = let a = after-distance c in let k = to-distance (a .before) .before .before in let s = start k .args in a .perform-distance .ensures (now (s .gux)) (now (s .guy)) (now (s .contours)) ∙ in-words k
+returns-4 c = let a = after-distance c in let k = to-distance (a .before) .before .before in let s = start k .args in a .perform-distance .ensures (now (s .gux)) (now (s .guy)) (now (s .contours))
 
 same-length-26 : tie.Need-same-length-26
 same-length-26 c = search (after-measure c .perform-measure .kept)
@@ -277,7 +263,7 @@ same-length-33 : tie.Need-same-length-33
 same-length-33 c = search (after-measure c .perform-measure .kept)
 
 returns-5 : tie.Need-returns-5
-returns-5 c = let a = after-measure c in let k = to-measure (a .before) .before .before in let s = start k .args in a .perform-measure .ensures (s .rules) (now (s .contours)) ∙ in-words k
+returns-5 c = let a = after-measure c in let k = to-measure (a .before) .before .before in let s = start k .args in a .perform-measure .ensures (s .rules) (now (s .contours))
 
 same-length-34 : tie.Need-same-length-34
 same-length-34 c = search (after-point c .perform-point .kept)
@@ -304,7 +290,7 @@ same-length-41 : tie.Need-same-length-41
 same-length-41 c = search (after-point c .perform-point .kept)
 
 returns-6 : tie.Need-returns-6
-returns-6 c = let a = after-point c in let k = to-point (a .before) .before .before in let s = start k .args in a .perform-point .ensures (s .rules) (now (s .controls)) (now (s .contours)) ∙ in-words k
+returns-6 c = let a = after-point c in let k = to-point (a .before) .before .before in let s = start k .args in a .perform-point .ensures (s .rules) (now (s .controls)) (now (s .contours))
 
 same-length-42 : tie.Need-same-length-42
 same-length-42 c = refl
@@ -327,12 +313,12 @@ same-length-47 c = refl
 returns-7 : tie.Need-returns-7
 unfolding Named
 returns-7 c = let a : tie.After-turn = search in let e : tie.After-enum-told7 = search in let k = e .before .before in let s = start k in let f = read s in let w = entry s in
-    a .turn .ensures (f .rules) (f .controls) (f .gux) (f .guy) (f .contours) (w .gflags) (w .tflags) ∙ named k (e .enum-told7 .given .1) f (now (s .args .operands)) (within k) ∙ in-words k
+    a .turn .ensures (f .rules) (f .controls) (f .gux) (f .guy) (f .contours) (w .gflags) (w .tflags) ∙ named k (e .enum-told7 .given .1) f (now (s .args .operands)) (entry s)
 
 returns-8 : tie.Need-returns-8
 unfolding Named sizesOf
 returns-8 c = let e = c .before in let k = e .before .before in let s = start k in
-    ap (into (within k)) (c .set-measure .ensures) ∙ named k (e .enum-told8 .given .1) (read s) (now (s .args .operands)) (within k) ∙ in-words k
+    ap (into (entry s)) (c .set-measure .ensures) ∙ named k (e .enum-told8 .given .1) (read s) (now (s .args .operands)) (entry s)
 
 same-length-48 : tie.Need-same-length-48
 same-length-48 c = search (after-flippt c .flippt .kept)
@@ -340,7 +326,7 @@ same-length-48 c = search (after-flippt c .flippt .kept)
 returns-9 : tie.Need-returns-9
 unfolding Named
 returns-9 c = let a = after-flippt c in let e = to-flippt (a .before) in let k = e .before .before in let s = start k in let w = entry s in
-    a .flippt .ensures (read s) (s .args .opcode) (w .gx) (w .gy) (w .tox) (w .toy) (w .tx) (w .ty) (w .tflags) ∙ named k (e .enum-told9 .given .1) (read s) (now (s .args .operands)) (within k) ∙ in-words k
+    a .flippt .ensures (read s) (s .args .opcode) (w .gx) (w .gy) (w .tox) (w .toy) (w .tx) (w .ty) (w .tflags) ∙ named k (e .enum-told9 .given .1) (read s) (now (s .args .operands)) (entry s)
 
 same-length-49 : tie.Need-same-length-49
 same-length-49 c = search (after-fliprg c .fliprg .kept)
@@ -348,18 +334,17 @@ same-length-49 c = search (after-fliprg c .fliprg .kept)
 returns-10 : tie.Need-returns-10
 unfolding Named
 returns-10 c = let a = after-fliprg c in let e = to-fliprg (a .before) in let k = e .before .before in let s = start k in let w = entry s in
-    a .fliprg .ensures (read s) (w .gx) (w .gy) (w .tox) (w .toy) (w .tx) (w .ty) (w .tflags) ∙ named k (e .enum-told10 .given .1) (read s) (now (s .args .operands)) (within k) ∙ in-words k
+    a .fliprg .ensures (read s) (w .gx) (w .gy) (w .tox) (w .toy) (w .tx) (w .ty) (w .tflags) ∙ named k (e .enum-told10 .given .1) (read s) (now (s .args .operands)) (entry s)
 
 returns-11 : tie.Need-returns-11
 unfolding Named setOf
 returns-11 c = let e = c .before in let k = e .before .before in let s = start k in
-    ap (into (within k)) (c .set-state .ensures) ∙ named k (e .enum-told11 .given .1) (read s) (now (s .args .operands)) (within k) ∙ in-words k
+    ap (into (entry s)) (c .set-state .ensures) ∙ named k (e .enum-told11 .given .1) (read s) (now (s .args .operands)) (entry s)
 
 pub perform-spec : {M : Type 1} → statement M
 perform-spec =
     tie.close
     (tie.spec
-    by-words-requires
     kind-of-requires
     enum-told
     isect-requires

@@ -52,13 +52,13 @@ looked o = search
 abbrev measured : tie.After-mdrp-distance → tie.After-outline-apart
 measured d = search
 
-abbrev wanted : tie.After-place-in → tie.After-mdrp-distance
+abbrev wanted : tie.After-place-alike-in → tie.After-mdrp-distance
 wanted p = search
 
-abbrev placed : tie.After-place-in2 → tie.After-place-in
+abbrev placed : tie.After-place-alike-in2 → tie.After-place-alike-in
 placed p = search
 
-abbrev referred : tie.After-project → tie.After-place-in2
+abbrev referred : tie.After-project → tie.After-place-alike-in2
 referred p = search
 
 abbrev projected : tie.After-step-from → tie.After-project
@@ -119,11 +119,11 @@ outline-apart-requires c κs = tt
 mdrp-distance-requires : tie.Need-mdrp-distance-requires
 mdrp-distance-requires c κs = tt
 
-place-in-requires : tie.Need-place-in-requires
-place-in-requires c κs = tt
+place-alike-in-requires : tie.Need-place-alike-in-requires
+place-alike-in-requires c κs = let d : tie.After-mdrp-distance = search in let p = start (looked (measured d)) .pre in (p .0, p .2)
 
-place-in-requires-2 : tie.Need-place-in-requires-2
-place-in-requires-2 c κs = tt
+place-alike-in-requires-2 : tie.Need-place-alike-in-requires-2
+place-alike-in-requires-2 c κs = let d : tie.After-mdrp-distance = search in let p = start (looked (measured d)) .pre in (p .0, p .2)
 
 project-requires : tie.Need-project-requires
 project-requires c κs = tt
@@ -186,8 +186,8 @@ returns-3 c = let a = applying c in let m = moving (a .before) in let t = steppe
     (back32 (s .args .s .measures .scale) (omega (arith, o .before .struct-told .given)))
     (back32 (o .outline-apart .result) (o .outline-apart .ok) ∙ o .outline-apart .ensures)
     (d .mdrp-distance .ensures)
-    (p .place-in .ensures)
-    (u .place-in2 .ensures)
+    (p .place-alike-in .ensures)
+    (u .place-alike-in2 .ensures)
     (back32 (y .project .result) (y .project .ok) ∙ y .project .ensures)
     (t .step-from .ensures)
     (back32 (t .step-from .result .word) (omega (arith, m .before .struct-told2 .given)))
@@ -213,8 +213,8 @@ mdrp-spec =
     enum-told
     outline-apart-requires
     mdrp-distance-requires
-    place-in-requires
-    place-in-requires-2
+    place-alike-in-requires
+    place-alike-in-requires-2
     project-requires
     step-from-requires
     move-of-requires

@@ -110,7 +110,9 @@ make-in-requires : tie.Need-make-in-requires
 make-in-requires c κs = tt
 
 currents-apart-requires : tie.Need-currents-apart-requires
-currents-apart-requires c κs = tt
+currents-apart-requires c κs = let m : tie.After-make-in = search in let p = start (looked m) .pre in
+    let twilight = m .make-in .kept .1 .1 .1 .1 .1 .1 .1 .1 in let tx = twilight .1 .1 .0 in
+    (p .0, twilight .1 .1 .1 .0 ∙ p .2 ∙ sym tx)
 
 originals-apart-requires : tie.Need-originals-apart-requires
 originals-apart-requires c κs = tt

@@ -29,10 +29,10 @@ started i = search
 abbrev reached : tie.After-make-in → tie.After-reach
 reached m = search
 
-abbrev making : tie.After-place-in → tie.After-make-in
+abbrev making : tie.After-place-alike-in → tie.After-make-in
 making p = search
 
-abbrev placing : tie.After-move-of → tie.After-place-in
+abbrev placing : tie.After-move-of → tie.After-place-alike-in
 placing n = search
 
 abbrev moving : tie.After-apply-in-arg6 → tie.After-move-of
@@ -80,11 +80,15 @@ enum-told c = c .match .keys2
 make-in-requires : tie.Need-make-in-requires
 make-in-requires c κs = tt
 
-place-in-requires : tie.Need-place-in-requires
-place-in-requires c κs = tt
+place-alike-in-requires : tie.Need-place-alike-in-requires
+place-alike-in-requires c κs = let m : tie.After-make-in = search in let p = started (indexed (reached m)) .pre in
+    let twilight = m .make-in .kept .1 .1 .1 .1 .1 .1 .1 .1 .1 in let tx = twilight .1 .1 .0 in
+    (p .0, twilight .1 .1 .1 .0 ∙ p .2 ∙ sym tx)
 
-place-in-requires-2 : tie.Need-place-in-requires-2
-place-in-requires-2 c κs = tt
+place-alike-in-requires-2 : tie.Need-place-alike-in-requires-2
+place-alike-in-requires-2 c κs = let m : tie.After-make-in = search in let p = started (indexed (reached m)) .pre in
+    let twilight = m .make-in .kept .1 .1 .1 .1 .1 .1 .1 .1 .1 in let tx = twilight .1 .1 .0 in
+    (p .0, twilight .1 .1 .1 .0 ∙ p .2 ∙ sym tx)
 
 distance-left-requires : tie.Need-distance-left-requires
 distance-left-requires c κs = tt
@@ -147,8 +151,8 @@ returns-3 c = let a = applying c in let n = moving (a .before) in let l = n .bef
     (madeWorld m)
     (e .enum-told .given .1)
     (m .make-in .ensures (s .args .s) (now (s .args .gx)) (now (s .args .gy)) (now (s .args .gflags)) (now (s .args .tflags)))
-    (p .place-in .ensures)
-    (o .place-in2 .ensures)
+    (p .place-alike-in .ensures)
+    (o .place-alike-in2 .ensures)
     (back32 (l .distance-left .result) (l .distance-left .ok) ∙ l .distance-left .ensures)
     (n .move-of .ensures)
     (a .apply-in .ensures)
@@ -168,8 +172,8 @@ msirp-spec =
     pass-over-requires
     enum-told
     make-in-requires
-    place-in-requires
-    place-in-requires-2
+    place-alike-in-requires
+    place-alike-in-requires-2
     distance-left-requires
     move-of-requires
     apply-in-requires

@@ -47,6 +47,9 @@ indexed t = search
 abbrev referring : tie.After-shift-span-of → tie.After-reference-of
 referring t = search
 
+abbrev sized : tie.After-shift-span-of → tie.After-size-of2
+sized t = search
+
 abbrev shifted : tie.After-by-words → tie.After-shift-span-of
 shifted c = search
 
@@ -54,7 +57,7 @@ refused-requires : tie.Need-refused-requires
 refused-requires c κs = tt
 
 returns : tie.Need-returns
-returns c = let b = c .before .before .before .before .before in
+returns c = let b : tie.Start = search in
     λ rules controls gux guy. shc-missing (lent b rules controls gux guy) (b .args .opcode) (now (b .args .operands)) (entry b) (c .before .if1 .taken) (ap (into (entry b)) (c .refused .ensures))
 
 index-at-requires : tie.Need-index-at-requires
@@ -70,7 +73,7 @@ no-contour-requires : tie.Need-no-contour-requires
 no-contour-requires c κs = tt
 
 returns-2 : tie.Need-returns-2
-returns-2 c = let n = c .before .before in let i = pointed n .before in let b = started i in
+returns-2 c = let n = c .before .before in let i : tie.After-index-at = search in let b = started i in
     λ rules controls gux guy. no-such-contour (lent b rules controls gux guy) (b .args .opcode) (now (b .args .operands)) (entry b) (i .before .if1 .left) (i .index-at .ensures) (n .size-of .ensures ∙ ap (sizeOf _ _) (pointed n .zp2 .ensures)) (c .before .if2 .taken) (c .no-contour .ensures (entry b))
 
 point-after-requires : tie.Need-point-after-requires
@@ -113,7 +116,7 @@ same-length-6 : tie.Need-same-length-6
 same-length-6 c = search (shifted c .shift-span-of .kept)
 
 returns-3 : tie.Need-returns-3
-returns-3 c = let t = shifted c in let p = referring t in let e = p .before in let q = e .before in let a = q .before in let n = a .before .before in let i = indexed t in let b = started i in
+returns-3 c = let t = shifted c in let p = referring t in let e = sized t in let q = e .before in let a = q .before in let n = a .before .before in let i = indexed t in let b = started i in
     λ rules controls gux guy. in-words (c .by-words .ensures) (contour-shifted (lent b rules controls gux guy) (b .args .opcode) (now (b .args .operands)) (entry b) (i .before .if1 .left) (i .index-at .ensures) (n .size-of .ensures ∙ ap (sizeOf _ _) (pointed n .zp2 .ensures)) (a .before .if2 .left) (a .point-after .ensures) (q .point-after2 .ensures) (e .size-of2 .ensures ∙ ap (sizeOf _ _) (pointed n .zp2 .ensures))
     (span-is (lent b rules controls gux guy) (b .args .opcode) true (a .point-after .result) (e .size-of2 .result) (entry b) (p .reference-of .ensures) (t .shift-span-of .ensures ∙ ap (spanIn b (p .reference-of .result) (a .point-after .result) (e .size-of2 .result)) (pointed n .zp2 .ensures))))
 
@@ -121,10 +124,11 @@ pub shc-spec : {M : Type 1} → statement M
 shc-spec =
     tie.close
     (tie.spec
+    zp2-requires
+    reference-of-requires
     refused-requires
     returns
     index-at-requires
-    zp2-requires
     size-of-requires
     no-contour-requires
     returns-2
@@ -132,7 +136,6 @@ shc-spec =
     add-point-after
     point-after-requires-2
     size-of-requires-2
-    reference-of-requires
     shift-span-of-requires
     by-words-requires
     same-length

@@ -46,6 +46,9 @@ indexed t = search
 abbrev referring : tie.After-shift-span-of → tie.After-reference-of
 referring t = search
 
+abbrev sized : tie.After-shift-span-of → tie.After-size-of
+sized t = search
+
 abbrev shifted : tie.After-by-words → tie.After-shift-span-of
 shifted c = search
 
@@ -53,7 +56,7 @@ refused-requires : tie.Need-refused-requires
 refused-requires c κs = tt
 
 returns : tie.Need-returns
-returns c = let b = c .before .before .before .before .before in
+returns c = let b : tie.Start = search in
     λ rules controls gux guy. shz-missing (lent b rules controls gux guy) (b .args .opcode) (now (b .args .operands)) (entry b) (c .before .if1 .taken) (ap (into (entry b)) (c .refused .ensures))
 
 index-at-requires : tie.Need-index-at-requires
@@ -103,23 +106,23 @@ same-length-6 : tie.Need-same-length-6
 same-length-6 c = search (shifted c .shift-span-of .kept)
 
 returns-3 : tie.Need-returns-3
-returns-3 c = let t = shifted c in let p = referring t in let e = p .before in let a = e .before in let i = indexed t in let b = started i in
-    λ rules controls gux guy. in-words (c .by-words .ensures) (zone-shifted (lent b rules controls gux guy) (b .args .opcode) (now (b .args .operands)) (entry b) (i .before .if1 .left) (i .index-at .ensures) (pointed a .before .if2 .left) (a .point-after .ensures) (e .size-of .ensures ∙ ap (sizeOf _ _) (pointed a .zp2 .ensures))
+returns-3 c = let t = shifted c in let p = referring t in let e = sized t in let a = e .before in let i = indexed t in let b = started i in
+    λ rules controls gux guy. in-words (c .by-words .ensures) (zone-shifted (lent b rules controls gux guy) (b .args .opcode) (now (b .args .operands)) (entry b) (i .before .if1 .left) (i .index-at .ensures) (a .before .if2 .left) (a .point-after .ensures) (e .size-of .ensures ∙ ap (sizeOf _ _) (pointed a .zp2 .ensures))
     (span-is (lent b rules controls gux guy) (b .args .opcode) false 0 (e .size-of .result) (entry b) (p .reference-of .ensures) (t .shift-span-of .ensures ∙ ap (spanIn b (p .reference-of .result) 0 (e .size-of .result)) (pointed a .zp2 .ensures))))
 
 pub shz-spec : {M : Type 1} → statement M
 shz-spec =
     tie.close
     (tie.spec
+    zp2-requires
+    reference-of-requires
     refused-requires
     returns
     index-at-requires
     refused-requires-2
     returns-2
-    zp2-requires
     point-after-requires
     size-of-requires
-    reference-of-requires
     shift-span-of-requires
     by-words-requires
     same-length

@@ -8,6 +8,7 @@ use borrow.Author.Needs.{needs as all-needs}
 use denote.Ref.{now}
 use lib.IntN.{ℤ}
 use lib.ListN.{length}
+use Rattle.graphics.specs.declared.GraphicsState.{GraphicsState}
 use Rattle.line.specs.World.{Fixed, World, fixed, world}
 use Rattle.run_lines.specs.Onward.{replayOf}
 use Rattle.run_lines.proofs.Loop.{Sizes, at-end, goes-on, same-sizes, sizes, still-sound, stops, used}
@@ -48,13 +49,27 @@ started l = search
 abbrev held : tie.Start Inv-loop μ-loop → Fixed
 held s = fixed (s .args .rules) (now (s .args .controls)) (now (s .args .gux)) (now (s .args .guy)) (now (s .args .gox)) (now (s .args .goy)) (now (s .args .contours))
 
+abbrev stated : tie.Start Inv-loop μ-loop → GraphicsState → World
+stated s t =
+    world t (now (s .args .gx)) (now (s .args .gy)) (now (s .args .gflags)) (now (s .args .tox)) (now (s .args .toy)) (now (s .args .tx)) (now (s .args .ty)) (now (s .args .tflags))
+
 abbrev entry : tie.Start Inv-loop μ-loop → World
-entry s =
-    world (s .args .s) (now (s .args .gx)) (now (s .args .gy)) (now (s .args .gflags)) (now (s .args .tox)) (now (s .args .toy)) (now (s .args .tx)) (now (s .args .ty)) (now (s .args .tflags))
+entry s = stated s (s .args .s)
+
+abbrev worded : tie.At-loop Inv-loop μ-loop → World
+worded l = stated (started l) (l .before .by-words .result)
 
 -- the world at the loop's head
 abbrev head : tie.At-loop Inv-loop μ-loop → World
 head l = world (l .loop .state) (l .loop .gx) (l .loop .gy) (l .loop .gflags) (l .loop .tox) (l .loop .toy) (l .loop .tx) (l .loop .ty) (l .loop .tflags)
+
+-- the run from the state put together by its words, which is the same
+in-words : (l : tie.At-loop Inv-loop μ-loop) → let s = started l in replayOf (held s) (now (s .args .sheet)) (s .args .budget) 0 (s .args .start) (worded l) ≡ replayOf (held s) (now (s .args .sheet)) (s .args .budget) 0 (s .args .start) (entry s)
+in-words l = let s = started l in
+    ap (λ (t : GraphicsState). replayOf (held s) (now (s .args .sheet)) (s .args .budget) 0 (s .args .start) (stated s t)) (l .before .by-words .ensures)
+
+by-words-requires : tie.Need-by-words-requires Inv-loop μ-loop
+by-words-requires c κs = tt
 
 loop-holds : tie.Need-loop-holds Inv-loop μ-loop
 loop-holds c = record { run = refl; same = refl; sum = omega arith }
@@ -85,7 +100,7 @@ same-length-8 c = let l = c .before .before in ap (λ (z : Sizes). z .tflags) (l
 
 returns : tie.Need-returns Inv-loop μ-loop
 returns c = let t = c .before in let l = t .before in let s = started l in
-    used (held s) (now (s .args .sheet)) _ _ _ (head l) (c .if1 .taken) (t .loop-test .taken) ∙ l .loop .inv .run
+    used (held s) (now (s .args .sheet)) _ _ _ (head l) (c .if1 .taken) (t .loop-test .taken) ∙ l .loop .inv .run ∙ in-words l
 
 step-requires : tie.Need-step-requires Inv-loop μ-loop
 step-requires c κs = let l : tie.At-loop Inv-loop μ-loop = search in let s = started l in (s .pre .0, still-sound (held s) (entry s) (head l) (l .loop .inv .same) (s .pre .1))
@@ -119,7 +134,7 @@ same-length-16 c = _∙_ {b = length (turn (refused c) .loop .tflags)} (search) 
 
 returns-2 : tie.Need-returns-2 Inv-loop μ-loop
 returns-2 c = let m = c .before in let k = refused c in let i = going k in let t = i .before in let l = t .before in let s = started l in
-    stops (held s) (now (s .args .sheet)) _ _ _ (head l) _ (k .step .ensures) (t .loop-test .taken) (i .if1 .left) (m .call .given .1) ∙ l .loop .inv .run
+    stops (held s) (now (s .args .sheet)) _ _ _ (head l) _ (k .step .ensures) (t .loop-test .taken) (i .if1 .left) (m .call .given .1) ∙ l .loop .inv .run ∙ in-words l
 
 enum-told : tie.Need-enum-told Inv-loop μ-loop
 enum-told c = search all-needs
@@ -173,7 +188,7 @@ same-length-24 c = let l = c .before in ap (λ (z : Sizes). z .tflags) (l .loop 
 
 returns-3 : tie.Need-returns-3 Inv-loop μ-loop
 returns-3 c = let l = c .before in let s = started l in
-    at-end (held s) (now (s .args .sheet)) _ _ _ (head l) (c .loop-test .left) ∙ l .loop .inv .run
+    at-end (held s) (now (s .args .sheet)) _ _ _ (head l) (c .loop-test .left) ∙ l .loop .inv .run ∙ in-words l
 
 pub onward-spec : {M : Type 1} → statement M
 onward-spec =
@@ -181,6 +196,7 @@ onward-spec =
     (tie.spec
     Inv-loop
     μ-loop
+    by-words-requires
     loop-holds
     same-length
     same-length-2
