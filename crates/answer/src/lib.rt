@@ -3,10 +3,12 @@
 // Each reason is a case of `Refusal`; specs/Answer.antt gives its number and its detail, and every promise on refusals goes
 // through these two definitions. What a direct call says is `Said` there: number, place, lines and detail. What a refusal leaves in
 // coordinates, flags and state is said where it is given.
+#![tactic(auto)]
+
 ghost use Rattle.std.specs.Prelude.{◌≡◌};
 ghost use Rattle.answer.specs.Answer.{number_of, detail_of, said_of_call};
 
-#[derive(Drop)]
+#[derive(Clone, Copy)]
 pub enum Refusal {
     // Unequal lengths, or a size above its limit.
     Sizes,
@@ -83,7 +85,7 @@ impl Refusal {
 }
 
 // What a direct call that returns nothing says. Its place and its line count are 0.
-#[derive(Drop)]
+#[derive(Clone, Copy)]
 pub enum Call {
     Done,
     Refused(Refusal),

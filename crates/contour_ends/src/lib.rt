@@ -2,6 +2,8 @@
 //
 // `ends_rise` is one equation with `ends_rise` of specs/Ends.antt, for every list and number. Every entry that is given contours asks it once, and answers 14 where it says
 // no; what walks over contours afterwards takes them as they are.
+#![tactic(auto)]
+
 ghost use Rattle.std.specs.Prelude.{◌≡◌};
 ghost use Rattle.contour_ends.specs.Ends.{ends_rise};
 

@@ -1,6 +1,8 @@
 // The arithmetic of ISECT: where two lines meet, in 32-bit words that wrap, as engine/outline.rs has it.
 //
 // `crossing` answers for every four points; it looks at no zone. Near-parallel lines have the middle of their four ends for an answer.
+#![tactic(auto)]
+
 ghost use Rattle.std.specs.Prelude.{◌≡◌};
 ghost use Rattle.crossing.specs.Crossing.{from_to, cross_of, dot_of, meet, moved_of, middle_by, crossing_of};
 

@@ -3,6 +3,8 @@
 // Nothing is asked of a caller. Each call tests in document 01's order: the sizes (answer 2), the state (3), then the point (7); its
 // contract is one equation with a definition of specs/Direct.antt, which says what is answered and what every list holds afterwards,
 // refused or not. A call is given the lists that it works on, and tests those. The direct calls over one zone are in the crate zone.
+#![tactic(auto)]
+
 ghost use Rattle.std.specs.Prelude.{◌≡◌};
 ghost use Rattle.graphics.specs.State.{usable_state};
 ghost use Rattle.moves.specs.Apply.{both_shifted, both_moved};

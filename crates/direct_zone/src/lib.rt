@@ -2,6 +2,8 @@
 //
 // Nothing is asked of a caller: the sizes are tested first (answer 2) and then the point or the range (7 or 11). Each contract is one equation with a
 // definition of specs/Direct.antt, which says what is answered and what the lent list holds afterwards, refused or not.
+#![tactic(auto)]
+
 ghost use Rattle.std.specs.Prelude.{◌≡◌};
 ghost use Rattle.zone.specs.Zone.{marked};
 ghost use Rattle.direct_zone.specs.Direct.{try_fetch_of, try_unscaled_of, try_touch_of, try_untouch_of, try_flip_of, try_touched_of, try_set_on_curve_of};

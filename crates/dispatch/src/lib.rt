@@ -3,6 +3,8 @@
 // `perform` is one equation with `line_of` of the crate opcodes: what the line says, the state, and every list that it may change, refused or not. It asks
 // that the lists of each zone share one length and the contours' ends rise, which the run tests once at its entry, and nothing else. That an opcode is known and the operands
 // aren't too many is tested by `opcodes::decode` before.
+#![tactic(auto)]
+
 ghost use Rattle.std.specs.Prelude.{◌≡◌};
 ghost use Rattle.line.specs.World.{Sound, fixed, lined, world};
 ghost use Rattle.opcodes.specs.Table.{line_of};
@@ -24,7 +26,7 @@ use rules::Rules;
 
 // The call that does an opcode's line. `perform` matches these, and not the numbers: down a chain of ranges the compiler takes the last calls for rare and
 // leaves them out of line, and then the state goes through memory at every line.
-#[derive(Drop)]
+#[derive(Clone, Copy)]
 pub enum Kind {
     Isect,
     Iup,

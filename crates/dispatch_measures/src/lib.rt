@@ -3,6 +3,8 @@
 //
 // `perform_measure` is one equation with `line_of` of the crate opcodes, for every content of the contours' ends, which none of these is lent. It asks that the opcode
 // is one of these, and that the lists of each zone share one length.
+#![tactic(auto)]
+
 ghost use Rattle.std.specs.Prelude.{List, ◌⊎◌, ◌≡◌, ℕ, ◌≤◌, ◌<◌, length};
 ghost use Rattle.rules.specs.declared.Rules.{Rules};
 ghost use Rattle.line.specs.World.{fixed, lined, world};

@@ -3,6 +3,8 @@
 //
 // `perform_shift` is one equation with `line_of` of the crate opcodes, for every content of the lists that no shift is lent. It asks that the opcode is one of
 // these, and that the lists of each zone share one length.
+#![tactic(auto)]
+
 ghost use Rattle.std.specs.Prelude.{List, ◌≡◌, ◌≤◌, ◌<◌, ℤ, length};
 ghost use Rattle.rules.specs.declared.Rules.{Rules};
 ghost use Rattle.line.specs.World.{fixed, lined, world};

@@ -5,6 +5,8 @@
 // (crate rules); then nothing changes but the answer.
 // The calls for a feed are those of the crates feed_reader, which holds the piece, and feed_calls, under their names for C, and the calls for an outline those of
 // the crate outline_calls, each with its definitions.
+#![tactic(auto)]
+
 ghost use Rattle.std.specs.Prelude.{◌≡◌};
 ghost use Rattle.graphics.specs.declared.GraphicsState.{GraphicsState};
 ghost use Rattle.line.specs.World.{fixed, world};

@@ -11,6 +11,8 @@
 //
 // `c.base` is the place of the next line, the unfinished or the refused one, counted from the feed's first word, and `c.lines` how many lines were
 // finished in this call. After a refusal or the end every call says the same and changes nothing.
+#![tactic(auto)]
+
 ghost use Rattle.std.specs.Prelude.{true, [], ◌≡◌, ◌+◌, ◌≤◌, drop, length};
 ghost use Rattle.feed_carry.specs.Carry.{carry_has_room};
 ghost use Rattle.feed_carry.specs.Steps.{kept};

@@ -4,6 +4,8 @@
 // blocks that were read, which no contract of the system tells, what is said and left is one equation with `fed_shelf` of specs/Arriving.antt.
 //
 // This serves the crate feed_record and is no call for users.
+#![tactic(auto)]
+
 ghost use Rattle.std.specs.Prelude.{false, ◌&&◌, ◌≡◌, ℕ, ◌<◌, ◌≤◌, List, ltb, length, take};
 ghost use Rattle.rules.specs.declared.Rules.{Rules};
 ghost use Rattle.rules.specs.declared.Rules.TheVariants.{FreeType};
@@ -26,7 +28,7 @@ use record_write::write;
 use rules::Rules;
 
 // What is said at the end, and whether the input could not be read to its end: then nothing else is promised.
-#[derive(Drop)]
+#[derive(Clone, Copy)]
 pub struct Told {
     pub said: Replayed,
     pub failed: bool,

@@ -3,6 +3,8 @@
 // A block ends where the system's read ends, so it may end within a word: its bytes, three at most, stay at the front of the block until the next one
 // is read behind them. `next_words` leaves the words of what arrived at the front of `words`: they are `words_in` of specs/Blocks.antt for some block,
 // of whose bytes nothing is promised by the system's read.
+#![tactic(auto)]
+
 ghost use Rattle.std.specs.Prelude.{false, true, ◌≡◌, ◌*◌, ◌+◌, ◌/◌, ◌%◌, ◌≤◌, drop, length, take};
 ghost use Rattle.feed_blocks.specs.Blocks.{Came, begun_in, words_in};
 ghost use Rattle.feed_blocks.specs.Steps.{Kept};
@@ -16,7 +18,7 @@ pub const BLOCK_ROOM: usize = 65536;
 pub const WORDS_ROOM: usize = 16384;
 
 // What is there of the input: bytes of a word that is begun, words, and whether more may come; `failed` says that it could not be read.
-#[derive(Drop)]
+#[derive(Clone, Copy)]
 pub struct Next {
     pub begun: usize,
     pub count: usize,
@@ -25,7 +27,7 @@ pub struct Next {
 }
 
 // How many bytes the block then has, and whether a read failed.
-#[derive(Drop)]
+#[derive(Clone, Copy)]
 struct Filled {
     size: usize,
     failed: bool,

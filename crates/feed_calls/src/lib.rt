@@ -3,6 +3,8 @@
 // `feed_call` and `feed_end_call` answer for every input, and what they return and leave in each list is one equation with specs/Feed.antt. The piece is fed from
 // a place in it on. They are what the reader (crate feed_reader) and C (crate exports) have in common. specs/Left.antt is what a call leaves that has a
 // state's words: a run's has the same parts.
+#![tactic(auto)]
+
 ghost use Rattle.std.specs.Prelude.{◌≡◌, drop};
 ghost use Rattle.feed_carry.specs.Carry.{detail_of_said, number_of_said};
 ghost use Rattle.graphics.specs.declared.GraphicsState.{GraphicsState};

@@ -2,6 +2,8 @@
 //
 // `Fed` goes in by value and is handed back. The carry holds the words of the unfinished line from its front on, `held` of them; `has_room` asks of every
 // call that they are the beginning of a line. `first` brings words that came to those that wait, and `rest` puts words away for the next call.
+#![tactic(auto)]
+
 ghost use Rattle.std.specs.Prelude.{true, ◌++◌, ◌≡◌, ◌+◌, ◌≤◌, length, take};
 ghost use Rattle.feed_look.specs.Look.{look_of, most_line};
 ghost use Rattle.feed_look.specs.declared.Seen.TheVariants.{Waits};
@@ -16,7 +18,7 @@ use graphics::GraphicsState;
 use limits::WORDS;
 
 // ---- what a feed says
-#[derive(Drop)]
+#[derive(Clone, Copy)]
 pub enum Said {
     // Words may follow.
     Open,
@@ -63,7 +65,7 @@ impl Said {
 }
 
 // What a call says, and what is kept for the next: the place of the unfinished line, how many of its words the carry holds, and the state.
-#[derive(Drop)]
+#[derive(Clone, Copy)]
 pub struct Fed {
     pub said: Said,
     pub base: usize,
@@ -167,7 +169,7 @@ pub fn rest(
 }
 
 // What a call begins with: the feed is settled without a line, or so many words stand in `line` and are to be run first.
-#[derive(Drop)]
+#[derive(Clone, Copy)]
 pub enum Begins {
     Settled(Fed),
     Run(usize),

@@ -2,6 +2,8 @@
 //
 // `look` answers for every list of words, by the tests of `opcodes::decode` in their order; what is too long to wait for is told from what is no line.
 // Nothing here reads the glyph or the state.
+#![tactic(auto)]
+
 ghost use Rattle.std.specs.Prelude.{◌≡◌, ◌+◌, ◌≤◌, length, drop};
 ghost use Rattle.opcodes.specs.Table.{needs_table};
 ghost use Rattle.feed_look.specs.Look.{long_by, look_of};
@@ -17,7 +19,7 @@ pub const LINE: usize = 4098;
 
 const UNKNOWN: u8 = 255;
 
-#[derive(Drop)]
+#[derive(Clone, Copy)]
 pub enum Seen {
     // No word yet, or not all of the line's.
     Waits,
@@ -90,7 +92,7 @@ fn whole_at(sheet: &[i32], at: usize, needs: &[u8]) -> usize
 }
 
 // Whole lines from a place on, and the place after them.
-#[derive(Drop)]
+#[derive(Clone, Copy)]
 pub struct Ahead {
     pub lines: u64,
     pub end: usize,

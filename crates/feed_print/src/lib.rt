@@ -2,6 +2,8 @@
 //
 // `print_fed` reads standard input until it ends or the feed is refused. Where it could be read, the text that it leaves at the front of `text` is
 // `fed_print` of specs/Print.antt, for the blocks that were read, and the bytes behind it stay as they were.
+#![tactic(auto)]
+
 ghost use Rattle.std.specs.Prelude.{false, ◌≡◌};
 ghost use Rattle.record_print.specs.Print.{Front};
 ghost use Rattle.feed_print.specs.Print.{FedPrint};
@@ -11,7 +13,7 @@ use record_print::{RECORD_ROOM, TEXT_ROOM, put_answer, put_points};
 use rules::Rules;
 
 // How many bytes are printed, and whether the input could not be read to its end: then none are.
-#[derive(Drop)]
+#[derive(Clone, Copy)]
 pub struct Printed {
     pub size: usize,
     pub failed: bool,

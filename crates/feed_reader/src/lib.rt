@@ -4,6 +4,8 @@
 // `over` reads a piece from its first word on, `moved` goes to a place, `left` counts the words from there on, and `fed` feeds them: it is `feed_call` of the crate
 // feed_calls. A struct that holds a slice can be passed on only by functions whose proofs are walks; `feed_from` is for all others: it takes a plain slice and a
 // place, and is how the crate exports feeds a piece.
+#![tactic(auto)]
+
 ghost use Rattle.std.specs.Prelude.{◌≡◌, ◌-◌, drop, length};
 ghost use Rattle.line.specs.World.{fixed};
 ghost use Rattle.rules.specs.Rules.{by_number};
@@ -13,7 +15,7 @@ ghost use Rattle.feed_calls.specs.Left.{left as leaves};
 
 use feed_calls::feed_call;
 
-#[derive(Drop)]
+#[derive(Clone, Copy)]
 pub struct Piece<'a> {
     pub words: &'a [i32],
     pub at: usize,

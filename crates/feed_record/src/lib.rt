@@ -3,6 +3,8 @@
 // `feed_within` reads standard input until it ends or the feed is refused. What it says, and the record that it leaves at the front of `out`, are one
 // equation with `fed_record` of specs/Fed.antt, for the blocks that were read. The record's own sheet is the first piece. A byte string that is no record
 // is refused by its number, and nothing is read.
+#![tactic(auto)]
+
 ghost use Rattle.std.specs.Prelude.{false, ◌≡◌, ◌≤◌};
 ghost use Rattle.line.specs.World.{fixed};
 ghost use Rattle.rules.specs.declared.Rules.TheVariants.{FreeType};

@@ -6,6 +6,8 @@
 //
 // What is printed is `feed_print::print_fed`, one equation with its definition for every record and for the blocks that are read. Input that ends within
 // the frame, or within a word, is 16 and three zeros. Input that cannot be read prints nothing, nor does an argument that names no rules.
+#![tactic(auto)]
+
 ghost use Rattle.std.specs.Prelude.{◌≤◌};
 
 use feed_print::print_fed;

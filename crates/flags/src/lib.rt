@@ -2,6 +2,8 @@
 //
 // Each function changes the bits of its mask and no other: proofs/Bits.antt says so of every byte. An axis is a mask of touch bits,
 // so x and y are one function, and both axes at once are the mask with both bits. What goes along one axis alone takes an `Axis`.
+#![tactic(auto)]
+
 ghost use Rattle.std.specs.Prelude.{◌≡◌};
 ghost use Rattle.std.specs.Int.Bits.{bit_and, bit_or, bit_xor};
 ghost use Rattle.flags.specs.Axis.{touch_bit};
@@ -14,7 +16,7 @@ const X_TOUCHED: u8 = 2;
 const Y_TOUCHED: u8 = 4;
 
 // One axis of the two.
-#[derive(Drop)]
+#[derive(Clone, Copy)]
 pub enum Axis {
     X,
     Y,
@@ -32,7 +34,7 @@ impl Axis {
 }
 
 // What a measurement or a movement goes along.
-#[derive(Drop)]
+#[derive(Clone, Copy)]
 pub enum CoordAxis {
     Both,
     X,

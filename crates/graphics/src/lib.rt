@@ -3,6 +3,8 @@
 // A step takes the state by value and hands it back; each method here says which one group of fields it changes, and its contract is an
 // equation with a definition of specs/State.antt, so every other field stays. `is_usable` is the test behind answer 3, for any state that
 // a caller brings. What is worked out from the vectors (axes, fdotp) is no part of the state: see the crate projection.
+#![tactic(auto)]
+
 ghost use Rattle.std.specs.Prelude.{◌≡◌};
 ghost use Rattle.graphics.specs.State.{x_axis, y_axis, all_along, measured_along, moved_along, in_mode, rp0_at, rp1_at, rp2_at, is_twilight, all_zones, zp0_in, zp1_in, zp2_in, all_no, marked_x, marked_y, past_both_iups, vector_in_range, vectors_in_range, usable_state, fresh_state, with_vectors, with_round, with_references, with_loop_counter, with_pointers, with_facts, one_more, counted_in, with_rounding, fresh_measures, pushed_on, with_push};
 
@@ -13,7 +15,7 @@ use round::{RoundMode, RoundState};
 pub const ONE: i32 = 0x4000;
 
 // Two words: a direction, its components 2.14 numbers, or the place of a point.
-#[derive(Drop)]
+#[derive(Clone, Copy)]
 pub struct Vector {
     pub x: i32,
     pub y: i32,
@@ -42,7 +44,7 @@ impl Vector {
 }
 
 // What distances are measured along, now and in the original outline, and what points move along.
-#[derive(Drop)]
+#[derive(Clone, Copy)]
 pub struct Vectors {
     pub projection: Vector,
     pub dual: Vector,
@@ -84,7 +86,7 @@ impl Vectors {
 }
 
 // Which zone a pointer names.
-#[derive(Drop)]
+#[derive(Clone, Copy)]
 pub enum ZonePointer {
     Twilight,
     Glyph,
@@ -102,14 +104,14 @@ impl ZonePointer {
 }
 
 // The reference points: numbers of points, which need not lie in any zone.
-#[derive(Drop)]
+#[derive(Clone, Copy)]
 pub struct References {
     pub rp0: u64,
     pub rp1: u64,
     pub rp2: u64,
 }
 
-#[derive(Drop)]
+#[derive(Clone, Copy)]
 pub struct ZonePointers {
     pub zp0: ZonePointer,
     pub zp1: ZonePointer,
@@ -165,7 +167,7 @@ impl ZonePointers {
 }
 
 // The five yes/no facts, in document 01's order.
-#[derive(Drop)]
+#[derive(Clone, Copy)]
 pub struct Facts {
     pub backward_compatibility: bool,
     pub pedantic: bool,
@@ -197,7 +199,7 @@ impl Facts {
 }
 
 // The distances that lines measure by.
-#[derive(Drop)]
+#[derive(Clone, Copy)]
 pub struct Measures {
     // Control value cut-in.
     pub cut_in: i32,
@@ -225,7 +227,7 @@ impl Measures {
 }
 
 // What is counted since the state was made.
-#[derive(Drop)]
+#[derive(Clone, Copy)]
 pub struct Tallies {
     // Roundings in which some operation went past 32 bits.
     pub wrapped_roundings: u32,
@@ -270,7 +272,7 @@ impl Tallies {
 }
 
 // What a later line needs goes to a group, so that what doesn't read it stays as it is.
-#[derive(Drop)]
+#[derive(Clone, Copy)]
 pub struct GraphicsState {
     pub vectors: Vectors,
     pub round: RoundState,

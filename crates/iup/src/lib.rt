@@ -7,6 +7,8 @@
 // work is linear in points and contours. proofs/Facts.antt has what is left alone: touched points, points outside the contours, and what
 // one contour cannot see of another.
 // Not here: IUP's two marks, the other axis and the flags.
+#![tactic(auto)]
+
 ghost use Rattle.std.specs.Prelude.{◌≡◌, cond, true, map, ◌+◌, length, drop};
 ghost use Rattle.std.specs.Int.Signed.{le_z};
 ghost use Rattle.contour_ends.specs.Ends.{ends_rise};
@@ -23,7 +25,7 @@ use limits::{contours_fit, points_fit};
 use math::{div, mul};
 
 // A point on the axis: in font units, scaled, and where it stands now.
-#[derive(Drop)]
+#[derive(Clone, Copy)]
 pub struct Place {
     pub unscaled: i32,
     pub original: i32,

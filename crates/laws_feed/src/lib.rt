@@ -4,3 +4,4 @@
 //
 // proofs/Whole.antt has the theorem and that any two cuttings end alike, proofs/Calls.antt what each call keeps and repeats, proofs/Kept.antt what the words of a
 // feed leave as it was, proofs/Run.antt that the feed of a sheet's words is the run of its lines. proofs/Examples.antt has computed feeds.
+#![tactic(auto)]

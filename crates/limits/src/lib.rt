@@ -1,6 +1,8 @@
 // How large a glyph, its zones, its control values and a sheet may be: document 01, "Sizes", and document 02, K6. Above these, every entry answers 2.
 //
 // Each size stands here once, as a constant and as a definition of specs/Limits.antt, and a change of it moves these two lines.
+#![tactic(auto)]
+
 ghost use Rattle.std.specs.Prelude.{◌≡◌, leb};
 ghost use Rattle.limits.specs.Limits.{most_points, most_contours, most_control_values, most_words};
 

@@ -4,6 +4,8 @@
 // a run holds are lent, so this crate has them as definitions: specs/World.antt says what lines change and what they only read. `sizes_fit` is the test of
 // every entry that takes both zones, and of whoever puts them into a record; proofs/Alike.antt says what it tells of the lists' lengths. `fetch_in` asks
 // that a zone's two lists share one length; nothing else is asked.
+#![tactic(auto)]
+
 ghost use Rattle.std.specs.Prelude.{◌≡◌, length, set};
 ghost use Rattle.line.specs.Line.{done_with, refused_with};
 ghost use Rattle.line.specs.Operands.{is_odd, index_at};
@@ -20,7 +22,7 @@ use limits::{control_values_fit, words_fit};
 use zone::{Fetched, coordinate_or_0, fetch, glyph_fits, twilight_fits};
 
 // ---- what a line comes to
-#[derive(Drop)]
+#[derive(Clone, Copy)]
 pub struct Stepped {
     pub call: Call,
     pub state: GraphicsState,

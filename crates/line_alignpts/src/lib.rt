@@ -5,6 +5,8 @@
 // zp0's back by as much, and touches both. Refused in this order: a missing operand, zp0's point, zp1's point, pedantic or not; then nothing is
 // changed. `alignpts` is one equation with `alignpts_of`, for every content of the lists that it isn't lent; it asks that the lists of each zone share
 // one length, and nothing else.
+#![tactic(auto)]
+
 ghost use Rattle.std.specs.Prelude.{◌≡◌, List, ℕ, ℤ, length};
 ghost use Rattle.line.specs.World.{Fixed, lined, world};
 ghost use Rattle.line_alignpts.specs.Alignpts.{alignpts_of, both_moved_by};

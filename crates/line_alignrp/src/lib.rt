@@ -5,6 +5,8 @@
 // stay moved. `alignrp` is one equation with `alignrp_of` of specs/Alignrp.antt, for every content of the lists that it isn't lent; that each zone's lists share one
 // length is asked of the caller, and nothing of operands, references or the state. More operands than the counter says are left alone: refusing such a line (answer 5) is
 // the crate opcodes'.
+#![tactic(auto)]
+
 ghost use Rattle.std.specs.Prelude.{◌≡◌, List, ℕ, ℤ, length};
 ghost use Rattle.line_steps.specs.Loop.{each, ended, zones};
 ghost use Rattle.line_alignrp.specs.Loop.{aligning_of, align_at};
@@ -20,7 +22,7 @@ use projection::project;
 use zone::Fetched;
 
 // What brings a point into line with rp0.
-#[derive(Drop)]
+#[derive(Clone, Copy)]
 pub enum Aligning {
     Along(Move),
     Refused(Refusal),

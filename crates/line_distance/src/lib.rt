@@ -3,6 +3,8 @@
 //
 // Each function is one equation with a definition of specs/Distance.antt, for every number. What MDRP and MIRP share is here once: the bits of their
 // opcodes, rounding, the minimum distance.
+#![tactic(auto)]
+
 ghost use Rattle.std.specs.Prelude.{cond, ◌≡◌};
 ghost use Rattle.line.specs.Places.{place_in};
 ghost use Rattle.math.specs.Fixed.{mul_fix};

@@ -6,6 +6,8 @@
 // this order: where an operand is missing, at the range. Past both IUPs none of them looks at a point. Each reads the glyph's flags and sets those of its points, whatever the
 // zone pointers are. `flippt` and `fliprg` are each one equation with a definition of specs/Flip.antt, for every content of the lists that they aren't lent. Nothing is
 // asked of operands, flags or state. More operands than are popped are left alone: refusing such a line (answer 5) is the crate opcodes'.
+#![tactic(auto)]
+
 ghost use Rattle.std.specs.Prelude.{ℕ, List, ◌≡◌, ℤ};
 ghost use Rattle.line_steps.specs.Loop.{each, ended};
 ghost use Rattle.line.specs.World.{Fixed, lined, world};

@@ -8,6 +8,8 @@
 // is taken, and a point outside is passed over. `ip` is one equation with `ip_of` of specs/Ip.antt, for every content of the lists that it isn't lent;
 // that each zone's lists share one length is asked of the caller, and nothing of operands, references or the state. More operands than the counter
 // says are left alone: refusing such a line (answer 5) is the crate opcodes'.
+#![tactic(auto)]
+
 ghost use Rattle.std.specs.Prelude.{◌≡◌, List, ℕ, ℤ, length};
 ghost use Rattle.rules.specs.declared.Rules.{Rules};
 ghost use Rattle.line.specs.World.{fixed, lined, world};
@@ -58,7 +60,7 @@ fn outline_place(
 
 // ---- the stretch from rp1 to rp2
 // Where rp1 lay and where it is, and how far rp2 lay and lies from it.
-#[derive(Drop)]
+#[derive(Clone, Copy)]
 pub struct Stretch {
     pub original: Vector,
     pub current: Vector,

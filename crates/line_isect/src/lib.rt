@@ -4,6 +4,8 @@
 // a missing operand, a0, a1, b0, b1, the point, pedantic or not; then nothing is changed. OpenType's ISECT, FreeType's Ins_ISECT. `isect` is one
 // equation with `isect_of`, for every content of the lists that it isn't lent; it asks that each zone's coordinates share one length, and
 // nothing else. The opcode isn't looked at.
+#![tactic(auto)]
+
 ghost use Rattle.std.specs.Prelude.{◌≡◌, List, ℕ, ℤ, length};
 ghost use Rattle.graphics.specs.declared.GraphicsState.{GraphicsState};
 ghost use Rattle.graphics.specs.declared.Vector.{Vector};

@@ -5,6 +5,8 @@
 //
 // `iup` is one equation with `iup_line_of`, for every content of the lists that it isn't lent; it asks that the glyph's lists share one length, and that the contour ends
 // rise strictly and lie below it. Of the opcode only whether it is odd is looked at. The walk over the contours is the crate iup's.
+#![tactic(auto)]
+
 ghost use Rattle.std.specs.Prelude.{true, List, ◌≡◌, ℕ, ℤ, length};
 ghost use Rattle.contour_ends.specs.Ends.{ends_rise};
 ghost use Rattle.graphics.specs.declared.GraphicsState.{GraphicsState};

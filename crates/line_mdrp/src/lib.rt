@@ -4,6 +4,8 @@
 // touches it, sets rp1 and rp2, and rp0 by the opcode's bit a. By b it keeps the minimum distance, by c it rounds; d and e change nothing. Refused in this order: a
 // missing operand; where the state is pedantic, the point, then rp0, outside, and else the references are set all the same. `mdrp` is one equation with
 // `mdrp_of`, for every content of the lists that it isn't lent; it asks that the lists of each zone share one length, and nothing else.
+#![tactic(auto)]
+
 ghost use Rattle.std.specs.Prelude.{◌≡◌, List, ℕ, ℤ, length};
 ghost use Rattle.rules.specs.declared.Rules.{Rules};
 ghost use Rattle.line.specs.World.{fixed, lined, world};

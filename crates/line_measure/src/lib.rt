@@ -6,6 +6,8 @@
 // zp0's first; else 0 is pushed. MD of the original outline looks at unscaled points where both zones are the glyph's, and refuses none of these. `gc` and `md`
 // are one equation each with `gc_of` and `md_of`, for every content of the lists that they aren't lent; they ask that the lists of each zone share one
 // length, and nothing else.
+#![tactic(auto)]
+
 ghost use Rattle.std.specs.Prelude.{◌≡◌, List, ℕ, ltb, ℤ, length};
 ghost use Rattle.rules.specs.declared.Rules.{Rules};
 ghost use Rattle.line.specs.World.{World, fixed, lined, world};

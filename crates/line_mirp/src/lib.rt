@@ -6,6 +6,8 @@
 // is pedantic, the control value, then the first of the two points that is outside, and else the references are set all the same; either way nothing else is
 // changed. `mirp` is one equation with `mirp_of`, for every content of the lists that it isn't lent; it asks that the lists of each zone share one length, and
 // nothing else.
+#![tactic(auto)]
+
 ghost use Rattle.std.specs.Prelude.{◌≡◌, cond, List, ℕ, ℤ, pos, get_or, length};
 ghost use Rattle.graphics.specs.declared.GraphicsState.{GraphicsState};
 ghost use Rattle.int.specs.Word.{add32, index_of};

@@ -4,6 +4,8 @@
 // the state is pedantic, the first of the two points that is outside: rp0 before a twilight point, a glyph point before rp0. Where it isn't the line is
 // passed over. Either way nothing is changed. A twilight point is made first, by the run's rules. OpenType's MSIRP, FreeType's Ins_MSIRP. `msirp` is
 // one equation with `msirp_of`, for every content of the lists that it isn't lent; it asks that the lists of each zone share one length, and nothing else.
+#![tactic(auto)]
+
 ghost use Rattle.std.specs.Prelude.{◌≡◌, cond, List, ℕ, ℤ, length};
 ghost use Rattle.graphics.specs.declared.GraphicsState.{GraphicsState};
 ghost use Rattle.int.specs.Word.{add32, sub32};

@@ -2,6 +2,8 @@
 //
 // `reach` says whether the two points are there, `place_alike_in` where one is, `relate` sets the references, `relate_or` is what MDRP and MIRP come to where a point is outside, and
 // `settle_relative` what any of the three comes to once the point was moved. Each is one equation, in any world; but that a zone's lists share one length where a place is read, nothing is asked.
+#![tactic(auto)]
+
 ghost use Rattle.std.specs.Prelude.{◌≡◌, length};
 ghost use Rattle.line.specs.Places.{place_in};
 ghost use Rattle.zone.specs.Zone.{place_of};

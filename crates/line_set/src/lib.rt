@@ -9,6 +9,8 @@
 // - SROUND[], S45ROUND[] (0x76, 0x77): pop the selector of the round state. Ins_SROUND, Ins_S45ROUND.
 //
 // A missing operand is refused (answer 6) before the operand is looked at. No line is lent a list: `set_of` says what one does in a world.
+#![tactic(auto)]
+
 ghost use Rattle.std.specs.Prelude.{◌≡◌, min};
 ghost use Rattle.line_set.specs.Setters.{axis_by, vectors_by, reference_by, pointer_by, zone_by, loop_by, mode_by, takes_operand, operand_by, set_by};
 

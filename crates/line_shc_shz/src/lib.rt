@@ -6,6 +6,8 @@
 //
 // `shc` and `shz` are each one equation with a definition of specs/Shc.antt, for every content of the lists that they aren't lent. That each zone's lists share one length is asked of the
 // caller; nothing is asked of operands, contour ends, references or the state. More operands than one are left alone: refusing such a line (answer 5) is the crate opcodes'.
+#![tactic(auto)]
+
 ghost use Rattle.std.specs.Prelude.{List, ◌≡◌, ℤ, get_or, length};
 ghost use Rattle.answer.specs.declared.Refusal.TheVariants.{Contour};
 ghost use Rattle.line_steps.specs.Steps.{in_state, into, passed_over};

@@ -6,6 +6,8 @@
 // operand is missing, at the point; the points before it stay moved, and the counter is 1. `shp` and `shpix` are each one equation with a definition of
 // specs/Shift.antt, for every content of the lists that they aren't lent. That each zone's lists share one length is asked of the caller, and nothing of operands, references
 // or the state. More operands than are popped are left alone: refusing such a line (answer 5) is the crate opcodes'.
+#![tactic(auto)]
+
 ghost use Rattle.std.specs.Prelude.{ℕ, List, ◌≡◌, ℤ, length};
 ghost use Rattle.line_steps.specs.Loop.{each, ended, in_zone, points, shift_at, shift_unless_idle, zones};
 ghost use Rattle.rules.specs.declared.Rules.{Rules};

@@ -6,6 +6,8 @@
 // - FLIPON[], FLIPOFF[] (0x4D, 0x4E): pop nothing; set auto flip. Ins_FLIPON, Ins_FLIPOFF.
 //
 // A missing operand is refused (answer 6). Every word is taken, below 0 too. No line is lent a list: `sizes_of` says what one does in a world.
+#![tactic(auto)]
+
 ghost use Rattle.std.specs.Prelude.{◌≡◌};
 ghost use Rattle.line_sizes.specs.Sizes.{minimum_at, cut_in_at, single_cut_in_at, single_width_at, flipping_at, sized_by, size_by, flip_by, measure_by};
 

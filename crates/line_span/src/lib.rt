@@ -3,6 +3,8 @@
 // `shift_span_of` is one equation with `span_of` of specs/Steps.antt, over the lists that it is lent; proofs/Bridge.antt says that in any world it is `span_in` of specs/Span.antt, which the
 // lines are held to. The reference point comes first; refused there, nothing moves. A point beyond the zone is refused in its turn, and the points before it
 // stay shifted. That a zone's lists share one length is asked of the caller; nothing is asked of the span, the reference or the state's numbers.
+#![tactic(auto)]
+
 ghost use Rattle.std.specs.Prelude.{◌≤◌, false, true, ◌≡◌, length};
 ghost use Rattle.line_steps.specs.Loop.{ended, in_zone, points, shift_at, zones};
 ghost use Rattle.moves.specs.Move.{is_idle};

@@ -2,6 +2,8 @@
 //
 // A function that isn't lent all the lists of a run says its equation for every content of the others: `(w : World)` where it is lent none, a
 // variable for each list that it isn't lent. Its caller puts its own in. Nothing is asked.
+#![tactic(auto)]
+
 ghost use Rattle.std.specs.Prelude.{◌≡◌};
 ghost use Rattle.line.specs.World.{World};
 ghost use Rattle.line_steps.specs.Loop.{take_of};

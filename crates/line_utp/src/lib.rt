@@ -4,6 +4,8 @@
 // Pops the point. Reads zp0, the freedom vector and the zone's flags; clears touch bits of the point's flag. Refused in this order: a missing
 // operand; a point outside its zone, pedantic or not. Where the freedom vector is (0, 0) the point isn't looked at. `utp` is one equation with
 // `utp_of`, for every content of the lists that it isn't lent. Nothing is asked of operands, flags or state.
+#![tactic(auto)]
+
 ghost use Rattle.std.specs.Prelude.{ℕ, List, ◌≡◌, ℤ};
 ghost use Rattle.line.specs.World.{Fixed, lined, world};
 ghost use Rattle.zone.specs.Zone.{marked};

@@ -9,6 +9,8 @@
 // Refused in this order: a missing operand; zp1's point, zp2's point, pedantic or not; then nothing is changed. Two points in one place give the x axis.
 // `turn` does each of them: one equation with `turn_of`, for every content of the lists that it isn't lent. It asks that the lists of each zone share one
 // length, and nothing else.
+#![tactic(auto)]
+
 ghost use Rattle.std.specs.Prelude.{◌≡◌, List, ℕ, ℤ, length};
 ghost use Rattle.rules.specs.declared.Rules.{Rules};
 ghost use Rattle.line.specs.World.{fixed, lined, world};

@@ -3,6 +3,8 @@
 // Every function answers for every input and refuses none; each equals a definition of specs/Fixed.antt, which is written from
 // FreeType. 26.6 numbers are 64ths of a pixel, 2.14 numbers 16,384ths, 16.16 numbers 65,536ths. Left out of math.rs: normalize14 and
 // mul_div_no_round, which nothing here uses.
+#![tactic(auto)]
+
 ghost use Rattle.std.specs.Prelude.{◌≡◌, ◌≤◌, ◌<◌, ◌^◌, ◌*◌, pos, nat_abs, ◌*ℤ◌};
 ghost use Rattle.math.specs.Fixed.{pix_floor, pix_round, pix_ceil, pad_floor, pad_round, half_away14, mul_fix14, dot_fix14, half_up, odd_signs, with_sign, mul_div, mul_fix, div_fix};
 

@@ -5,6 +5,8 @@
 // every list holds afterwards, refused or not. A function that is given several lists of a zone asks that they share one length, and nothing
 // else; the direct calls stand above, in the crate direct_moves. `apply_in`, `apply_coords_in` and `displaced_in` are given both
 // zones and choose by cases, and the zone that isn't chosen is left alone.
+#![tactic(auto)]
+
 ghost use Rattle.std.specs.Prelude.{◌≡◌, ◌<◌, length, ℤ};
 ghost use Rattle.flags.specs.declared.CoordAxis.TheVariants.{Both, X, Y};
 ghost use Rattle.graphics.specs.declared.Vector.{Vector};
@@ -23,7 +25,7 @@ use projection::{derive, project};
 use zone::{Fetched, fetch};
 
 // What is done to one point: which coordinates move, by how much, and the bits that its flag is given.
-#[derive(Drop)]
+#[derive(Clone, Copy)]
 pub struct Move {
     pub moves_x: bool,
     pub dx: i32,
@@ -298,14 +300,14 @@ pub fn apply_in(
 
 // ---- how far the reference point was moved
 // Which point a shift goes by.
-#[derive(Drop)]
+#[derive(Clone, Copy)]
 pub struct Reference {
     pub zone: ZonePointer,
     pub at: u64,
 }
 
 // The reference point, and how far it was moved along the freedom vector.
-#[derive(Drop)]
+#[derive(Clone, Copy)]
 pub struct Displacement {
     pub zone: ZonePointer,
     pub at: u64,
@@ -313,7 +315,7 @@ pub struct Displacement {
     pub dy: i32,
 }
 
-#[derive(Drop)]
+#[derive(Clone, Copy)]
 pub enum Displaced {
     By(Displacement),
     Refused(Refusal),

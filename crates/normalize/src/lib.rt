@@ -2,6 +2,8 @@
 //
 // `normalize` answers for every two words and refuses none; it equals a definition of specs/Unit.antt. Newton's steps go on as long as the
 // correction is above 0; the code counts them, and proofs/Settles.antt shows that the count never runs out.
+#![tactic(auto)]
+
 ghost use Rattle.std.specs.Prelude.{◌≡◌, ◌≤◌, ◌<◌, ◌^◌, ◌-◌};
 ghost use Rattle.normalize.specs.Unit.{estimate, zeros, past, shifted, near_length, start_at, start_by, start_of, grown, lacking, correction, settled, rounds, component, aimed, aimed_from, unit_by, unit_of};
 
@@ -12,7 +14,7 @@ use int::{
 };
 
 // Both numbers brought near length 1, and the first guess at what the reciprocal length has beyond 1: all 16.16 numbers.
-#[derive(Drop)]
+#[derive(Clone, Copy)]
 struct Start {
     x: i32,
     y: i32,

@@ -2,6 +2,8 @@
 //
 // `decode` answers for every sheet, place and loop counter. A line is refused as document 01 orders it: 4 before 5, and both before any step of the line.
 // It asks that the table that it is lent is `needs_table`'s. The table has one entry for each of the 256 opcodes; its rule is proved once, over the whole table.
+#![tactic(auto)]
+
 ghost use Rattle.std.specs.Prelude.{◌≡◌};
 ghost use Rattle.opcodes.specs.Table.{needs_table};
 ghost use Rattle.opcodes.specs.Steps.{takes_by};
@@ -34,7 +36,7 @@ const NEEDS: [u8; 256] = [
 ];
 
 // A line taken apart: its opcode, and where its operands start and end.
-#[derive(Drop)]
+#[derive(Clone, Copy)]
 pub enum Decoded {
     Operands {
         opcode: usize,

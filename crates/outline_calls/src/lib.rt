@@ -3,6 +3,8 @@
 // The pen goes in and comes back as nine words, and the box around what was drawn as four floats; a step comes as its number and four floats, each in lent
 // slots. `begin_call` and `next_call` answer for every input, and what they return and leave in each slot is one equation with specs/Slots.antt.
 // proofs/Back.antt says that the pen which is read back is the one that was written, so that calls one after the other are asks one after the other.
+#![tactic(auto)]
+
 ghost use Rattle.std.specs.Prelude.{◌≡◌, true, [], ◌∷◌, length};
 ghost use Rattle.outline_steps.specs.Outline.{glyph};
 ghost use Rattle.outline_calls.specs.Slots.{begin_call_of, bounds_in, boxed_number, edges_left, is_call, is_pen, left, left_by, next_call_of, numbers_of, pen_in, stage_in, stage_number, started, step_number, waiting_number, walk_in, words_of};

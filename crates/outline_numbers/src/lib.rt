@@ -3,6 +3,8 @@
 // `of_128ths` is h / 128 with nothing lost: the bits of what it returns stand for that fraction (`StandsFor` of specs/Fraction.antt), zero as +0. A
 // step is held in whole 128ths (`Stroke`) until it is known to be near enough for that (`is_near`), and becomes floats at one place (`step_of`). The
 // box grows by comparing floats; proofs/Bounded.antt says that this is comparing their numbers, and what each edge is.
+#![tactic(auto)]
+
 ghost use Rattle.std.specs.Prelude.{◌≡◌, cond, true};
 ghost use Rattle.std.specs.Float.{binary32};
 ghost use Rattle.std.specs.Float.Ieee.{to_bits, lt};
@@ -15,14 +17,14 @@ const MOST: i64 = 8388608;
 const LEAST: i64 = -8388608;
 
 // A place in 128ths of a pixel.
-#[derive(Drop)]
+#[derive(Clone, Copy)]
 pub struct Spot {
     pub x: i64,
     pub y: i64,
 }
 
 // A drawing step in 128ths of a pixel; a curve has its control point first.
-#[derive(Drop)]
+#[derive(Clone, Copy)]
 pub enum Stroke {
     Move(i64, i64),
     Line(i64, i64),
@@ -31,7 +33,7 @@ pub enum Stroke {
 }
 
 // A drawing step in pixels.
-#[derive(Drop)]
+#[derive(Clone, Copy)]
 pub enum Step {
     Move(f32, f32),
     Line(f32, f32),
@@ -40,7 +42,7 @@ pub enum Step {
 }
 
 // The edges of a box, in pixels, y upward.
-#[derive(Drop)]
+#[derive(Clone, Copy)]
 pub struct Edges {
     pub left: f32,
     pub bottom: f32,
@@ -48,7 +50,7 @@ pub struct Edges {
     pub top: f32,
 }
 
-#[derive(Drop)]
+#[derive(Clone, Copy)]
 pub enum Bounds {
     Nothing,
     Around(Edges),

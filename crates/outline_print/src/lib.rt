@@ -4,6 +4,8 @@
 // exact decimals of pixels, and the box, or the number that refuses the outline. What it leaves at the front of `text` is `outline_of` of specs/Print.antt, and the
 // bytes behind it stay as they were. There is always room: no outline of a record is longer than TEXT_ROOM. Numbers are printed from whole 128ths, of which the
 // floats of `outline_steps::next` are proved to be exact.
+#![tactic(auto)]
+
 ghost use Rattle.std.specs.Prelude.{◌≡◌, true, ◌&&◌, [], ◌∷◌, ◌++◌, ◌+◌, ◌≤◌, ◌<◌, nat_abs, drop, length};
 ghost use Rattle.outline_numbers.specs.Drawing.{greater_z, is_near, lesser_z, near, spots_of, with_point, with_spots};
 ghost use Rattle.outline_steps.specs.Outline.{drawable, entry_of, glyph};
@@ -161,7 +163,7 @@ fn put_stroke(d: Stroke, text: &mut [u8], at: usize) -> usize
 }
 
 // ---- the box
-#[derive(Drop)]
+#[derive(Clone, Copy)]
 pub struct Frame {
     pub left: i64,
     pub bottom: i64,
@@ -169,7 +171,7 @@ pub struct Frame {
     pub top: i64,
 }
 
-#[derive(Drop)]
+#[derive(Clone, Copy)]
 pub enum Framed {
     Nothing,
     Around(Frame),

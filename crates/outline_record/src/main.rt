@@ -4,6 +4,8 @@
 //
 // What is printed is `outline_print::print_outline`, one equation with its definition for every input. The rules are those that the one argument names, FreeType's
 // where there is none. Input that cannot be read prints nothing, nor does an argument that names no rules.
+#![tactic(auto)]
+
 use outline_print::{TEXT_ROOM, print_outline};
 use record_io::{
     INPUT_ROOM, chosen_rules, read_input, say_no_such_rules, say_unread, write_output,

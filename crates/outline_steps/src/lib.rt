@@ -7,6 +7,8 @@
 //
 // `next` asks nothing of its pen nor of its lists: specs/Pen.antt says what any pen and any lists come to. A number that is no exact f32 is refused with 19
 // there too, so what is handed out is exact, even where the lists were changed after `begin`.
+#![tactic(auto)]
+
 ghost use Rattle.std.specs.Prelude.{◌≡◌, List, ℕ, ◌<◌, ◌^◌};
 ghost use Rattle.outline_steps.specs.declared.Walked.TheVariants.{Went};
 ghost use Rattle.outline_steps.specs.Outline.{all_close, curve_to, glyph, is_on, line_to, midway, move_to, sizes_fit, spot_of};
@@ -26,7 +28,7 @@ const FARTHEST: i32 = 4194304;
 const NEAREST: i32 = -4194304;
 
 // What comes next: a contour's start, a point with none before it that waits, or one behind the off-curve point that waits for its end.
-#[derive(Drop)]
+#[derive(Clone, Copy)]
 pub enum Stage {
     Between,
     Onward,
@@ -34,7 +36,7 @@ pub enum Stage {
 }
 
 // Where the pen is. Each is a number of a point but the first, which counts contours.
-#[derive(Drop)]
+#[derive(Clone, Copy)]
 pub struct Walk {
     // The contours that were begun.
     pub contour: u64,
@@ -49,7 +51,7 @@ pub struct Walk {
     pub stage: Stage,
 }
 
-#[derive(Drop)]
+#[derive(Clone, Copy)]
 pub struct Pen {
     pub walk: Walk,
     // Around the points handed out so far.
@@ -57,32 +59,32 @@ pub struct Pen {
 }
 
 // A step in 128ths, and where the pen is behind it.
-#[derive(Drop)]
+#[derive(Clone, Copy)]
 pub struct Stroked {
     pub stroke: Stroke,
     pub walk: Walk,
 }
 
-#[derive(Drop)]
+#[derive(Clone, Copy)]
 pub enum Walked {
     Went(Stroked),
     Ended,
 }
 
-#[derive(Drop)]
+#[derive(Clone, Copy)]
 pub enum Told {
     Step(Step),
     NoMore,
     Refused(Refusal),
 }
 
-#[derive(Drop)]
+#[derive(Clone, Copy)]
 pub struct Asked {
     pub told: Told,
     pub pen: Pen,
 }
 
-#[derive(Drop)]
+#[derive(Clone, Copy)]
 pub enum Begun {
     Ready(Pen),
     Refused(Refusal),

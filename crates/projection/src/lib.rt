@@ -4,6 +4,8 @@
 // `derive`, `along`, `project`, `dual_project` and `dual_project_unscaled` answer for every input, for callers that have tested the
 // state; the calls that begin with `try` are for whoever brings a state of their own, and refuse an unusable one with answer 3.
 // Nothing is said of unit length: a vector need not have it.
+#![tactic(auto)]
+
 ghost use Rattle.std.specs.Prelude.{◌≡◌};
 ghost use Rattle.projection.specs.Projection.{axis_of, freedom_axis_by, raw_fdotp, not_small, derived_of, along_of, project_of, dual_project_of, measured_by, deduced_by, measured_of, deduced_of, said_of_measured, said_of_deduced};
 
@@ -14,7 +16,7 @@ use int::{equal, less, shift_right, wrapping_abs, wrapping_add, wrapping_mul, wr
 use math::dot14;
 
 // The numbers that go with three vectors.
-#[derive(Drop)]
+#[derive(Clone, Copy)]
 pub struct Derived {
     pub projection_axis: CoordAxis,
     pub dual_axis: CoordAxis,
@@ -24,7 +26,7 @@ pub struct Derived {
 }
 
 // What a direct call of a projection says.
-#[derive(Drop)]
+#[derive(Clone, Copy)]
 pub enum Measured {
     Distance(i32),
     Refused(Refusal),
@@ -51,7 +53,7 @@ impl Measured {
 }
 
 // What the direct call for the derived numbers says.
-#[derive(Drop)]
+#[derive(Clone, Copy)]
 pub enum Deduced {
     Numbers(Derived),
     Refused(Refusal),

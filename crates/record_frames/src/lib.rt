@@ -3,6 +3,8 @@
 //
 // `answer_frame` puts the frame of what `record_print::print` says of a record into a buffer of answers, behind those that are there: the frame is
 // `framed` of specs/Frames.antt, and no other byte changes. Of a record that is too long its first bytes are enough to answer: the law `cut_alike`.
+#![tactic(auto)]
+
 ghost use Rattle.std.specs.Prelude.{◌≡◌, ◌+◌, ◌≤◌, min, length, take};
 ghost use Rattle.words.specs.Words.{word_at};
 ghost use Rattle.words.specs.Lists.{bytes_of_word};

@@ -2,6 +2,8 @@
 //
 // A read that fails (a directory, a closed input, an error of the device) is told apart from the end of the input: what was read before it is no record.
 // What is written is written at once, and what is not written whole is said on standard error.
+#![tactic(auto)]
+
 ghost use Rattle.io.specs.Counts.{IsPrefixLen};
 
 use libc::{STDERR_FILENO, STDIN_FILENO, STDOUT_FILENO};
@@ -35,7 +37,7 @@ pub fn say_no_such_rules() {
 }
 
 // How many bytes were read, and whether a read failed.
-#[derive(Drop)]
+#[derive(Clone, Copy)]
 pub struct Input {
     pub size: usize,
     pub failed: bool,

@@ -2,6 +2,8 @@
 //
 // A record is little-endian words: the state, fifteen lists, and a trailer of eight words. The places follow from the counts; edition, limits and order
 // stand here once, as constants and as definitions of specs/Order.antt, and nothing that reads or writes a record names a place itself.
+#![tactic(auto)]
+
 ghost use Rattle.std.specs.Prelude.{◌≡◌};
 ghost use Rattle.record_layout.specs.Order.{count_of, list_place, at_trailer, record_size};
 ghost use Rattle.record_layout.specs.Steps.{capped};
@@ -53,7 +55,7 @@ pub const SHEET: usize = 14;
 pub const LISTS: usize = 15;
 
 // How many there are of each: words of the state, points of the glyph and of the twilight zone, contours, control values, words of the sheet.
-#[derive(Drop)]
+#[derive(Clone, Copy)]
 pub struct Layout {
     pub state: u32,
     pub points: u32,

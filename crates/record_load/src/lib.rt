@@ -1,6 +1,8 @@
 // Lists of a record, each loaded to the front of a list that is lent; what stands behind it stays as it was.
 //
 // This serves the crate record_replay and is no call for users.
+#![tactic(auto)]
+
 ghost use Rattle.std.specs.Prelude.{◌≡◌, ◌++◌, ◌≤◌, length, drop};
 ghost use Rattle.words.specs.Lists.{numbers_of, flags_of, ends_of};
 ghost use Rattle.record_layout.specs.Order.{count_of, list_in};

@@ -2,6 +2,8 @@
 //
 // `print` answers for every byte string: the text that it leaves at the front of `text` is `print_of` of specs/Print.antt, and the bytes behind it stay
 // as they were. There is always room: no record's text is longer than TEXT_ROOM.
+#![tactic(auto)]
+
 ghost use Rattle.std.specs.Prelude.{◌≡◌, ◌+◌, ◌≤◌, ◌++◌, length, drop};
 ghost use Rattle.words.specs.Lists.{word, flag_of};
 ghost use Rattle.int.specs.Word.{of_bits};

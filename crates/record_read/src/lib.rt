@@ -4,6 +4,8 @@
 // `open` says for every byte string whether it is a record and how its lists lie, or why it is refused: one equation with `open_of` of
 // specs/Read.antt. Its lists are read by the crate words at the places of the crate record_layout. Nothing is read before `open` found it whole,
 // though every function answers for every input.
+#![tactic(auto)]
+
 ghost use Rattle.std.specs.Prelude.{◌+◌, ◌-◌, ◌*◌, eqb, length, ◌≡◌};
 ghost use Rattle.state_words.specs.Words.{state_size, state_of, is_state};
 ghost use Rattle.words.specs.Lists.{all_at_most};
@@ -21,7 +23,7 @@ use state_words::{STATE_WORDS, is_state, read_state, write_state};
 use words::{all_at_most, load_words, sum, word};
 
 // Why a byte string is refused.
-#[derive(Drop)]
+#[derive(Clone, Copy)]
 pub enum Damage {
     // Above 24 KiB.
     TooLong,
@@ -31,7 +33,7 @@ pub enum Damage {
     Sum,
 }
 
-#[derive(Drop)]
+#[derive(Clone, Copy)]
 pub enum Opened {
     Whole(Layout),
     Damaged(Damage),

@@ -3,6 +3,8 @@
 // `replay` answers for every byte string: what it says, and the record that it leaves at the front of `out`, are one equation with `shelf_of` of
 // specs/Shelf.antt. A byte string that is no record is refused by its number, and `out` stays as it was. `replay_within` is the same under another
 // limit than 24 KiB, for whoever wants the points of a record that only an older edition keeps within it.
+#![tactic(auto)]
+
 ghost use Rattle.std.specs.Prelude.{◌≡◌, ◌≤◌};
 ghost use Rattle.line.specs.World.{fixed};
 ghost use Rattle.rules.specs.declared.Rules.TheVariants.{FreeType};

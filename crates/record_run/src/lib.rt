@@ -2,6 +2,8 @@
 //
 // `run_and_write` answers for every input: what it says and writes is one equation with `shelved_for` of specs/After.antt, and the lists that it is lent
 // hold the world of `ran_from`.
+#![tactic(auto)]
+
 ghost use Rattle.std.specs.Prelude.{◌≡◌};
 ghost use Rattle.rules.specs.declared.Rules.TheVariants.{FreeType};
 ghost use Rattle.line.specs.World.{fixed, world};
@@ -16,7 +18,7 @@ use rules::Rules;
 use run_lines::Outcome;
 
 // What a replay says: the answer, how many bytes of the record were left, and how its lists lie.
-#[derive(Drop)]
+#[derive(Clone, Copy)]
 pub struct Replayed {
     pub number: u32,
     pub place: usize,

@@ -2,6 +2,8 @@
 //
 // `write` leaves the record of what it is given, or leaves the bytes alone where that is none: one equation with `write_of` of
 // specs/Written.antt. The parts are stored in the record's order, each over what the ones before it left.
+#![tactic(auto)]
+
 ghost use Rattle.std.specs.Prelude.{◌*◌, ◌%◌, ◌^◌, ◌<◌, ◌≡◌};
 ghost use Rattle.record_layout.specs.Order.{at_trailer};
 ghost use Rattle.state_words.specs.Words.{state_size};

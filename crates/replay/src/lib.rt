@@ -17,6 +17,8 @@
 // `r.answer.number()` is 0 where the sheet's end was reached, 1 where the budget was used, else a refusal's number; `r.answer.detail()` its detail;
 // `r.place` is the next line, or the refused one, and `r.lines` how many were finished. To go on after 1, call again with `r.place`, `r.state`
 // and the same lists.
+#![tactic(auto)]
+
 ghost use Rattle.std.specs.Prelude.{◌≡◌};
 ghost use Rattle.line.specs.World.{fixed, world};
 ghost use Rattle.run_lines.specs.Onward.{ran};

@@ -3,6 +3,8 @@
 //
 // What is printed is `record_print::print`, one equation with its definition for every input. The rules are those that the one argument names, FreeType's
 // where there is none. Input that cannot be read prints nothing, nor does an argument that names no rules.
+#![tactic(auto)]
+
 use record_io::{
     INPUT_ROOM, chosen_rules, read_input, say_no_such_rules, say_unread, write_output,
 };

@@ -6,6 +6,8 @@
 //
 // The input may end between two frames. Where it ends within one, or cannot be read, the answers before are written out, and standard error says at which
 // frame, counted from 1. What cannot be written ends it too. The rules are those that the one argument names, FreeType's where there is none.
+#![tactic(auto)]
+
 ghost use Rattle.std.specs.Prelude.{◌+◌, ◌-◌, ◌≤◌, length};
 ghost use Rattle.replay_records.specs.Block.{Within};
 
@@ -33,7 +35,7 @@ const LINE_ROOM: usize = 64;
 
 // ---- input
 // What was read and not yet used lies in the block from `at` to `end`; `failed` says of an empty one that a read failed, and not that the input has ended.
-#[derive(Drop)]
+#[derive(Clone, Copy)]
 struct Reader {
     at: usize,
     end: usize,
@@ -41,7 +43,7 @@ struct Reader {
 }
 
 // Where the reader stands after some bytes, and how many there were before the input ended.
-#[derive(Drop)]
+#[derive(Clone, Copy)]
 struct Part {
     reader: Reader,
     size: usize,
@@ -126,7 +128,7 @@ fn pass_over(block: &mut [u8; BLOCK_ROOM], from: Reader, count: usize) -> Part
 }
 
 // ---- frames
-#[derive(Drop)]
+#[derive(Clone, Copy)]
 enum Found {
     Record,
     // The input ends where a frame may.
@@ -138,7 +140,7 @@ enum Found {
 }
 
 // What the next frame is, and how many bytes of its record are kept.
-#[derive(Drop)]
+#[derive(Clone, Copy)]
 struct Frame {
     reader: Reader,
     found: Found,
@@ -245,7 +247,7 @@ fn say_end(found: Found, frame: u64) {
 
 // ---- records
 // How far the stream has come: the answers that wait to be written, and whether there may be another frame.
-#[derive(Drop)]
+#[derive(Clone, Copy)]
 struct Stream {
     reader: Reader,
     waiting: usize,

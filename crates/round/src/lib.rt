@@ -4,6 +4,8 @@
 // (document 02, K5). It equals `rounding` of specs/Round.antt, which goes by the eight modes; specs/Tracked.antt has the operations, on exact numbers.
 // `try_round` is the call for whoever brings a state of their own: it refuses Super45 with period 0 (answer 3), where the Rust panics.
 // The facts that are proved of the definitions, on signs, multiples of 64 and how far a distance moves, are in proofs/Facts.antt.
+#![tactic(auto)]
+
 ghost use Rattle.std.specs.Prelude.{◌≡◌};
 ghost use Rattle.round.specs.Tracked.{given as Tracked·given, cut as Tracked·cut, plus as Tracked·plus, minus as Tracked·minus, times as Tracked·times, over as Tracked·over, negated as Tracked·negated};
 ghost use Rattle.round.specs.Round.{mirrored, grid, half_grid, double_grid, down_to_grid, up_to_grid, period_floor, keep_up, keep_down, super_by, rounding, usable, rounded_of, said_of_rounded};
@@ -14,7 +16,7 @@ use int::{bit_and, equal, less, low32, max, min, non_negative};
 use math::{floor, floor_pad};
 
 // The eight modes, in round.rs order, with the instruction that sets each.
-#[derive(Drop)]
+#[derive(Clone, Copy)]
 pub enum RoundMode {
     // RTG
     Grid,
@@ -35,7 +37,7 @@ pub enum RoundMode {
 }
 
 // The mode, and the three numbers that Super and Super45 read.
-#[derive(Drop)]
+#[derive(Clone, Copy)]
 pub struct RoundState {
     pub mode: RoundMode,
     pub threshold: i32,
@@ -44,14 +46,14 @@ pub struct RoundState {
 }
 
 // A word, and whether an operation on the way to it went past 32 bits.
-#[derive(Drop)]
+#[derive(Clone, Copy)]
 pub struct Tracked {
     pub word: i32,
     pub wrapped: bool,
 }
 
 // What a direct call of rounding says: the distance rounded and whether an operation went past 32 bits, or the refusal.
-#[derive(Drop)]
+#[derive(Clone, Copy)]
 pub enum Rounded {
     To(Tracked),
     Refused(Refusal),

@@ -2,10 +2,12 @@
 //
 // A rule that a later landing changes gets a new case here, and the old one stays, so that a print that was made under it can be made again.
 // docs/RULE-EDITIONS.md says what each changes, and how the next one is added. C callers and stored cases give the number, commands the name.
+#![tactic(auto)]
+
 ghost use Rattle.std.specs.Prelude.{◌≡◌};
 ghost use Rattle.rules.specs.Rules.{by_name, by_number, same_bytes};
 
-#[derive(Drop)]
+#[derive(Clone, Copy)]
 pub enum Rules {
     // The Rust's, skrifa 0.49.0.
     Skrifa,
@@ -14,7 +16,7 @@ pub enum Rules {
 }
 
 // What a number or a name stands for.
-#[derive(Drop)]
+#[derive(Clone, Copy)]
 pub enum Named {
     Known(Rules),
     Unknown,

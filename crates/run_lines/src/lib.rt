@@ -3,6 +3,8 @@
 // `onward` answers for every place, state and budget, and ends, over zones whose lists are sound: `replay` tests this before its first line. What it
 // says, the place, the count, the state, and what every list holds afterwards, refused or not, are one equation with `replay_of` of
 // specs/Onward.antt.
+#![tactic(auto)]
+
 ghost use Rattle.std.specs.Prelude.{◌≡◌};
 ghost use Rattle.opcodes.specs.Table.{needs_table};
 ghost use Rattle.line.specs.World.{Sound, fixed, world};
@@ -14,7 +16,7 @@ use rules::Rules;
 use run_step::step;
 
 // ---- what a run says
-#[derive(Drop)]
+#[derive(Clone, Copy)]
 pub enum Answer {
     // The place is the sheet's end.
     Finished,
@@ -46,7 +48,7 @@ impl Answer {
 }
 
 // The answer, the place of the refused or next line, the lines finished in this call, and the state.
-#[derive(Drop)]
+#[derive(Clone, Copy)]
 pub struct Outcome {
     pub answer: Answer,
     pub place: usize,

@@ -2,6 +2,8 @@
 //
 // `step` answers for every place and every state, over zones whose lists are sound: `replay` tests this before its first line. What it comes to,
 // the place after it, the state, and what every list holds afterwards are one equation with `step_of` of specs/Step.antt.
+#![tactic(auto)]
+
 ghost use Rattle.std.specs.Prelude.{◌≡◌};
 ghost use Rattle.opcodes.specs.Table.{needs_table};
 ghost use Rattle.line.specs.World.{Sound, fixed, world};
@@ -15,7 +17,7 @@ use opcodes::{Decoded, decode};
 use rules::Rules;
 
 // What one line comes to. The place is that of the next line, or of this one where it is refused.
-#[derive(Drop)]
+#[derive(Clone, Copy)]
 pub struct Landing {
     pub call: Call,
     pub place: usize,

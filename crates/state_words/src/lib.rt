@@ -3,6 +3,8 @@
 // The public functions answer for every input, and each is an equation with a definition of specs/Words.antt: `is_state` tells words that are a
 // state from others, `read_state` gives the state that words stand for, and `write_state` the words of a state, `word_of` one of them. That
 // each undoes the other is in proofs/Back.antt. A field that the state gains goes to the end, so that older words keep their places.
+#![tactic(auto)]
+
 ghost use Rattle.std.specs.Prelude.{◌≡◌, ◌%◌, ◌/◌, ◌^◌, ◌+◌, ◌*◌, get_or, leb};
 ghost use Rattle.words.specs.Lists.{all_at_most};
 ghost use Rattle.state_words.specs.Words.{state_word, number_at, vector_at, long_at, mode_of, zone_of, fact_of, mode_word, zone_word, fact_word, vectors_words, round_words, references_words, pointers_words, facts_words, distance_words, push_words, state_words, word_of, state_of, is_state, written};

@@ -2,6 +2,8 @@
 //
 // `super_round` answers for every operand and both kinds, and equals `super_of` of specs/Selector.antt, one rule over the three fields of the
 // operand's low byte. It refuses nothing; that no selector makes a state that answer 3 is for is proved in proofs/Facts.antt (`super_usable`).
+#![tactic(auto)]
+
 ghost use Rattle.std.specs.Prelude.{◌≡◌, ◌≤◌, ◌<◌};
 ghost use Rattle.super_round.specs.Selector.{grid_period, period_by, phase_by, threshold_by, in_sixty_fourths, super_mode, super_of};
 

@@ -4,6 +4,8 @@
 // what it says, 23 the number of changed words, 24 to 38 the lengths of the fifteen lists (bit 31: one word stands for every element). From 39 on
 // stand the state's words, the last the count of wrapped roundings; then come the lists and the changes, each an index and the new word. What lies
 // outside the case reads as 0, so a case that is cut short is no reason to stop. Nothing is promised here but that every function is safe and ends.
+#![tactic(auto)]
+
 ghost use Rattle.std.specs.Prelude.{◌≤◌, length};
 
 use graphics::GraphicsState;
@@ -80,7 +82,7 @@ pub fn state_of(case: &[u8]) -> GraphicsState {
 // ---- the lists
 // Where a list stands: its first word in the case, its first index among the state's words and the lists written out, its length,
 // and whether one word stands for all of it.
-#[derive(Drop)]
+#[derive(Clone, Copy)]
 pub struct Place {
     pub stored: u64,
     pub index: u64,

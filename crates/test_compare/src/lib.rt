@@ -4,6 +4,8 @@
 // counts decide: of the words that differ from before, and of the named changes that were made. Lists that a call isn't given can't change:
 // they need no comparing, for a change that the case names there is missing from both counts. Nothing is promised here but
 // that every function is safe and ends.
+#![tactic(auto)]
+
 use answer::{Call, Refusal};
 use graphics::GraphicsState;
 use int::{equal, to_bits};
@@ -14,7 +16,7 @@ use test_cases::{
 
 // ---- what a call says
 // Its answer and its two result words.
-#[derive(Drop)]
+#[derive(Clone, Copy)]
 pub struct Said {
     pub number: u32,
     pub place: u64,
@@ -91,7 +93,7 @@ fn named_once(case: &[u8]) -> bool {
 }
 
 // A list is right where as many elements differ from before as the changes name in it, and it holds each of these changes.
-#[derive(Drop)]
+#[derive(Clone, Copy)]
 pub struct Compared {
     // Elements that differ from before.
     pub differ: u64,

@@ -1,6 +1,8 @@
 // The oracle's calls of point_displacement: each made on a case's lists, and judged by the case (docs/ORACLE.md).
 //
 // Word 7 of a case is the opcode. Room for the lists is lent. Nothing is promised here but that every function is safe and ends.
+#![tactic(auto)]
+
 use moves::Displaced;
 use test_cases::{load_words, state_of, word};
 use test_compare::{Compared, Said};

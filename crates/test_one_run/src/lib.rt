@@ -2,6 +2,8 @@
 //
 // Word 7 of a case holds the rules' number, 10 and 11 the start, 12 and 13 the budget; no run agrees by a number that names no rules. A run tests every size
 // itself. Nothing is promised here but that every function is safe and ends.
+#![tactic(auto)]
+
 use graphics::GraphicsState;
 use rules::{Named, by_number};
 use run_lines::Outcome;

@@ -2,6 +2,8 @@
 //
 // Room for the lists is lent and filled here, and the crate test_one_run makes the run. Nothing is promised here but that every function is safe and
 // ends.
+#![tactic(auto)]
+
 use test_cases::{load_ends, load_flags, load_words};
 use test_one_run::agrees_on;
 

@@ -4,6 +4,8 @@
 // Word 2 of a case says which zone, words 3 and 4 which point, word 7 a choice, words 8 and 9 distances. A call is given the lists that it
 // works on as the case has them, of whatever lengths: it tests their sizes itself, and nothing is answered here in its place. Room for the
 // lists is lent. Nothing is promised here but that every function is safe and ends.
+#![tactic(auto)]
+
 use answer::Call;
 use state_words::zone_of;
 use test_cases::{KIND, load_flags, load_words, long, number, state_of, word};

@@ -1,7 +1,9 @@
 // How many of the oracle's answers a program agreed with, and the line that it prints.
+#![tactic(auto)]
+
 use libc::STDOUT_FILENO;
 
-#[derive(Drop)]
+#[derive(Clone, Copy)]
 pub struct Tally {
     pub same: u64,
     pub other: u64,
@@ -35,7 +37,7 @@ impl Tally {
 }
 
 // What is counted so far, and whether the input may have more.
-#[derive(Drop)]
+#[derive(Clone, Copy)]
 pub struct Turn {
     pub tally: Tally,
     pub more: bool,

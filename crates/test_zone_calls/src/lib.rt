@@ -3,6 +3,8 @@
 // Word 2 of a case says which zone, words 3 and 4 which point, words 5 and 6 the end of a range, word 7 a choice. A call is given the lists
 // that it works on as the case has them, of whatever lengths: it tests their sizes itself, and nothing is answered here in its place. Room for
 // the lists is lent. Nothing is promised here but that every function is safe and ends.
+#![tactic(auto)]
+
 ghost use Rattle.std.specs.Prelude.{◌≤◌};
 
 use flags::{Axis, CoordAxis};

@@ -5,6 +5,8 @@
 // in the file `stdin`: the direct calls other than iup, those of iup, single lines, runs, the shifts and range flips, the selectors, direct
 // calls whose lists don't fit, cases that one rule alone decides, roundings of every kind of wrap, the largest faces, the distances, contour ends,
 // and runs under each of the rules. Room for the lists is made once, and lent.
+#![tactic(auto)]
+
 ghost use Rattle.std.specs.Prelude.{◌<◌, ◌≤◌, length};
 
 use libc::STDIN_FILENO;
@@ -56,7 +58,7 @@ fn agrees(
 
 // ---- the stream
 // A case's first word, and how many of its bytes were there.
-#[derive(Drop)]
+#[derive(Clone, Copy)]
 struct First {
     word: u32,
     bytes: usize,
@@ -91,7 +93,7 @@ fn read_rest(buffer: &mut [u8], end: usize) -> usize
 
 // A case that was read: where it ends in the buffer; whether there was one, and whether all of it was there. After a case that is cut short nothing
 // more can be read.
-#[derive(Drop)]
+#[derive(Clone, Copy)]
 struct Read {
     end: usize,
     found: bool,

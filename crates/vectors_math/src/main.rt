@@ -2,6 +2,8 @@
 //
 // A row is eight little-endian words: the call, up to four arguments, 1 for a rounding that went past 32 bits on its way and else 0, the answer's
 // number and the result (docs/ORACLE.md). What this prints is held to the file `stdout`; the rows stand in the file `stdin`.
+#![tactic(auto)]
+
 use int::from_bits;
 use libc::STDIN_FILENO;
 use round::{RoundMode, RoundState, Rounded};

@@ -2,6 +2,8 @@
 //
 // A row is 24 little-endian words: the call, three vectors, two points, the answer's number and up to four results (docs/ORACLE.md). What
 // this prints is held to the file `stdout`; the rows stand in the file `stdin`.
+#![tactic(auto)]
+
 use flags::CoordAxis;
 use graphics::{GraphicsState, Vector, Vectors};
 use int::{equal, from_bits};

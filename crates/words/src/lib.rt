@@ -3,6 +3,8 @@
 //
 // Places are counted in words, but for `word_at`. Every function answers for every input and is an equation with a definition of specs/: a word that is
 // not whole reads as 0, and a list that has no room is not written at all.
+#![tactic(auto)]
+
 ghost use Rattle.std.specs.Prelude.{◌≡◌, ◌+◌, ◌*◌, ◌%◌, [], ◌∷◌, length, nat_le};
 ghost use Rattle.words.specs.Words.{joined, word_at};
 ghost use Rattle.words.specs.Lists.{word, part, numbers_of, flags_of, ends_of, flag_of, end_of, all_at_most, wrapping_sum, placed, words_of_numbers};

@@ -2,6 +2,8 @@
 // an argument that names no rules; without one the rules are FreeType's.
 //
 // All that is said and left is `record_replay::replay`, one equation with its definition; what this writes of it is held to the file `stdout`.
+#![tactic(auto)]
+
 use record_io::{
     INPUT_ROOM, chosen_rules, read_input, say_no_such_rules, say_unread, write_output,
 };

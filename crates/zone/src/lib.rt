@@ -4,6 +4,8 @@
 // what it isn't given it leaves alone. Each contract is one equation with a definition of specs/, which says what is answered and what every
 // list holds afterwards, refused or not. `fetch` asks that its two slices have one length; the direct calls, which ask nothing,
 // stand above, in the crate direct_zone. Contour ends are read by IUP alone.
+#![tactic(auto)]
+
 ghost use Rattle.std.specs.Prelude.{◌≡◌, map, ◌≤◌, pos, length, get_or};
 ghost use Rattle.zone.specs.Zone.{fetch_of, place_of, or_at, marked, touch_of, untouch_of, flip_of, touched_of, on_curve, set_on_curve_of, said_of_fetched, said_of_touched};
 ghost use Rattle.zone.specs.Sizes.{pair_fits, flags_fit, placed_fits, twilight_fits, glyph_fits};
@@ -15,7 +17,7 @@ use limits::{contours_fit, points_fit};
 
 // ---- reads
 // A point's place.
-#[derive(Drop)]
+#[derive(Clone, Copy)]
 pub enum Fetched {
     At(Vector),
     Refused(Refusal),
@@ -120,7 +122,7 @@ pub fn flip_on_curve(flags: &mut [u8], at: u64) -> Call
 }
 
 // Whether a point is marked.
-#[derive(Drop)]
+#[derive(Clone, Copy)]
 pub enum Touched {
     Is(bool),
     Refused(Refusal),
