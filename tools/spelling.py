@@ -81,7 +81,15 @@ def clashes(found, table):
     return said
 
 
+def brought_from_the_kit(text):
+    """The names that a file brings in from a library of the kit, which keep their spelling there."""
+    lines = re.findall(r"^use (?:lib|mathlib|native|Prim|borrow|mir|Rattle\.std)[^{]*\{(.*)\}", text, re.M)
+    return {item.strip().split(" as ")[0] for line in lines for item in line.split(",")}
+
+
 def turned(text, table):
+    kept = brought_from_the_kit(text)
+    table = {old: new for old, new in table.items() if old not in kept}
     token = re.compile(r"(?<![A-Za-z0-9_'·-])[a-z][A-Za-z0-9_']*(?:-[A-Za-z0-9_']+)*(?![A-Za-z0-9_'·-])")
     return token.sub(lambda m: table.get(m.group(0), m.group(0)), text)
 

@@ -6,7 +6,7 @@ use mathlib.Core.List.{List, [], ◌∷◌, ◌++◌, map, append_assoc, append-
 use Prim.Native.Nat.{ℕ, zero, suc, ◌+◌, ◌-◌, ◌≤◌, ◌<◌}
 use native.Mathlib.Omega.{arith}
 use lib.IntN.{ℤ}
-use lib.ListN.{length, take, drop, get_or, length-drop, length_map, drop_of_length-le, take-append-drop}
+use lib.ListN.{length, take, drop, get_or, length-drop, length-map, drop_of_length-le, take-append-drop}
 use lib.Seq.{drop-cons, take_all, take-length, take-append-add, drop-append-add, length-take-le, drop-drop, drop-length}
 use borrow.Rule.Slice.PartMut.{put_mid}
 use Rattle.int.specs.Word.{add32}
@@ -163,8 +163,8 @@ module _ {mask : ℕ} {fs : List ℕ} {us os cs : List ℤ} {ps : List Point} (s
 
       size-xs : length xs ≡ at
       size-xs =
-          length_map (current_of (take at ps)) (λ x. add32 x d)
-          ∙ length_map (take at ps) (λ x. x.place.current)
+          length-map (current_of (take at ps)) (λ x. add32 x d)
+          ∙ length-map (take at ps) (λ x. x.place.current)
           ∙ length-take-le at ps (omega (arith, front_le ps, is_front))
 
       whole_is : contour_of ps ≡ xs ++ (p.place.current ∷ shift_all d (current_of qs))

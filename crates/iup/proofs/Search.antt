@@ -6,7 +6,7 @@ use mathlib.Core.List.{List, [], ◌∷◌}
 use Prim.Native.Nat.{ℕ, zero, suc, ◌+◌, ◌-◌, ◌≤◌, ◌<◌}
 use native.Mathlib.Omega.{arith}
 use native.Mathlib.Numerals.{add-one}
-use lib.ListN.{length, take, drop, get_or, length-take, length-drop, length_map, drop_of_length-le}
+use lib.ListN.{length, take, drop, get_or, length-take, length-drop, length-map, drop_of_length-le}
 use lib.Seq.{drop-cons}
 use Rattle.iup.specs.Parts.{marks, ahead, one_more, up_to_last}
 use Rattle.flags.specs.Flag.{has_any}
@@ -51,7 +51,7 @@ ahead_most (false ∷ bs) = omega (arith, ahead_most bs)
 
 -- where a search from i ends
 pub ahead_le : (mask : ℕ) (fs : List ℕ) (i j : ℕ) → j ≡ i + ahead (marks mask (drop i fs)) → i ≤ length fs → j ≤ length fs
-ahead_le mask fs i j e h = omega (arith, ahead_most (marks mask (drop i fs)), length_map (drop i fs) (λ f. has_any f mask), length-drop i fs)
+ahead_le mask fs i j e h = omega (arith, ahead_most (marks mask (drop i fs)), length-map (drop i fs) (λ f. has_any f mask), length-drop i fs)
 
 one_more_le : (b : Bool) (k n : ℕ) → k ≤ n → one_more b k ≤ suc n
 one_more_le true zero n h = omega arith
@@ -64,4 +64,4 @@ last_most (b ∷ bs) = one_more_le b (up_to_last bs) (length bs) (last_most bs)
 
 -- the last touched point of a part stands in it
 pub last_le : (mask : ℕ) (fs : List ℕ) (k m : ℕ) → m ≡ up_to_last (marks mask (take k fs)) → m ≤ length fs
-last_le mask fs k m e = omega (arith, last_most (marks mask (take k fs)), length_map (take k fs) (λ f. has_any f mask), length-take k fs)
+last_le mask fs k m e = omega (arith, last_most (marks mask (take k fs)), length-map (take k fs) (λ f. has_any f mask), length-take k fs)

@@ -7,7 +7,7 @@ use Prim.Native.Nat.{ℕ, ◌+◌, ◌≤◌}
 use native.Mathlib.Omega.{arith}
 use lib.IntN.{ℤ}
 use lib.Signed.{le_z}
-use lib.ListN.{length, take, drop, length-append, length-drop, length_map}
+use lib.ListN.{length, take, drop, length-append, length-drop, length-map}
 use lib.Seq.{take-append-add, drop-append-add, length-take-le, drop-drop}
 use Rattle.int.specs.Word.{low}
 use Rattle.iup.proofs.Points.{unscaled_of, original_of, touch_of, map_drop}
@@ -139,7 +139,7 @@ module _ {first : Place} {ps : List Point} {r l : List ℤ} {before : Place} {at
   size-xs = length-take-le at l (omega (arith, v.size))
 
   size-ys : length ys ≡ k
-  size-ys = length_map (take k qs) (λ p. between before (head_or first (touched_places qs)) p.place) ∙ length-take-le k qs (front_le qs)
+  size-ys = length-map (take k qs) (λ p. between before (head_or first (touched_places qs)) p.place) ∙ length-take-le k qs (front_le qs)
 
   size-front : length (xs ++ ys) ≡ at + k
   size-front = length-append xs ys ∙ omega (arith, size-xs, size-ys)

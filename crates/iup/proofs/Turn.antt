@@ -5,7 +5,7 @@ use Prim.Native.Nat.{ℕ, zero, suc, ◌+◌, ◌-◌, ◌≤◌, ◌<◌}
 use native.Mathlib.Omega.{arith}
 use borrow.Author.Tests.{lt-ltb, le-ltb}
 use lib.IntN.{ℤ, pos}
-use lib.ListN.{length, take, drop, get_or, length-drop, length_map, drop_of_length-le}
+use lib.ListN.{length, take, drop, get_or, length-drop, length-map, drop_of_length-le}
 use lib.Seq.{take_all, drop-drop}
 use borrow.Rule.Slice.PartMut.{put_mid, Post-is}
 use Rattle.iup.proofs.Points.{unscaled_of, original_of, Shown, map_take, map_drop}
@@ -50,7 +50,7 @@ module _ {mask : ℕ} {fs : List ℕ} {us os cs : List ℤ} {ps : List Point} (s
   front_is at = ap ahead (sym (map_drop (λ f. has_any f mask) at fs) ∙ ap (drop at) s.flags ∙ map_drop (λ p. p.touched) at ps)
 
   pub sizes : length fs ≡ length ps
-  sizes = sym (length_map fs (λ f. has_any f mask)) ∙ ap length s.flags ∙ length_map ps (λ p. p.touched)
+  sizes = sym (length-map fs (λ f. has_any f mask)) ∙ ap length s.flags ∙ length-map ps (λ p. p.touched)
 
   module _ {first before : Place} {r l : List ℤ} {at next : ℕ} (v : Spreading first ps r l before at) (h : at < length fs) (n : next ≡ at + ahead (marks mask (drop at fs))) where
     is-next : next ≡ at + front (drop at ps)

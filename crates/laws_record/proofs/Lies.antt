@@ -3,7 +3,7 @@ use mathlib.Core.List.{List, [], ◌++◌, ◌∷◌, append-nil}
 use mathlib.Core.Path.{◌∙◌, ◌≡◌, ap, ap₂, refl, sym}
 use Prim.Native.Nat.{◌+◌, ◌<◌, ◌^◌, suc, ℕ}
 use native.Mathlib.Omega.{arith}
-use lib.ListN.{drop, get_or, length, length_map}
+use lib.ListN.{drop, get_or, length, length-map}
 use lib.IntN.{ℤ}
 use mir.Facts.{Fits-of_z, to_z-of_z}
 use Rattle.state_words.proofs.Back.{cons}
@@ -70,4 +70,4 @@ ends_read no_word = refl
 ends_read (one_word h f) = cons (omega arith) (ends_read f)
 
 pub number_count : (zs : List ℤ) → length (words_of_numbers zs) ≡ length zs
-number_count zs = length_map zs bits_of
+number_count zs = length-map zs bits_of

@@ -1,6 +1,6 @@
 -- The axis that points move along by the tests of both vectors, and the step and the move on each, over plain values. Assumes nothing.
 use Prim.Native.Nat.{ℕ}
-use mathlib.Core.Bool.{Bool, true, false, and_true, cond, not, ◌&&◌}
+use mathlib.Core.Bool.{Bool, true, false, and-true, cond, not, ◌&&◌}
 use mathlib.Core.Path.{◌≡◌, refl}
 use lib.IntN.{ℤ, pos}
 use Rattle.flags.specs.declared.CoordAxis.{CoordAxis}
@@ -75,7 +75,7 @@ module _ (v : Vectors) (d : ℤ) where
   module _ (f : Facts) {m r : Move} {past : Bool} (em : m ≡ step_along v d) (ep : past ≡ past_both_iups f) where
     pub straight_move : is_slanted (freedom_axis_of v) ≡ false → r ≡ held_back m f.backward_compatibility past → r ≡ move_of v f d
     unfolding move_of
-    straight_move e er = rw (er, em, ep, e, and_true f.backward_compatibility, and_true (past_both_iups f)) refl
+    straight_move e er = rw (er, em, ep, e, and-true f.backward_compatibility, and-true (past_both_iups f)) refl
 
     pub slanted_move : {level : Bool} → Both ≡ freedom_axis_of v → level ≡ eq_z v.projection.y (pos 0) → r ≡ held_back m (f.backward_compatibility && not level) (past && not level) → r ≡ move_of v f d
     unfolding move_of

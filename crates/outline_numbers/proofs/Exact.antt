@@ -11,7 +11,7 @@ use lib.Signed.{non_neg, lt_z}
 use borrow.Author.Tests.{lt-ltb, le-ltb, ltb-true, ltb-false}
 use lib.Pow.{pow_pos, pow_mono, shl_lt}
 use lib.Ieee.{Float, nan, inf, fin, binary32, prec, low, up, down, odd, unlike, round, mul, of_int, of_bits, to_bits, of_fields, fits, in_float, lt, below}
-use lib.Ieee.Fits.{mul_fits, of_int-fits, down_pos}
+use lib.Ieee.Fits.{mul-fits, of_int-fits, down_pos}
 use lib.Ieee.Exact.{HasValue, odd_sign, round_exact}
 use lib.Ieee.Back.{round_whole}
 use lib.Ieee.Bits.{of_bits-to_bits, to_bits-lt}
@@ -79,7 +79,7 @@ castable (negsuc n) h = lt→ltb n (2 ^ 24) (omega arith)
 
 pub of128_fits : (z : ℤ) → T (fits binary32 (of128 z))
 unfolding of128
-of128_fits z = mul_fits binary32 (of_int binary32 z) (of_bits binary32 0x3c00_0000)
+of128_fits z = mul-fits binary32 (of_int binary32 z) (of_bits binary32 0x3c00_0000)
 
 -- ---- the bits
 

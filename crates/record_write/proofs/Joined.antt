@@ -5,7 +5,7 @@ use mathlib.Core.List.{List, [], ◌++◌, ◌∷◌}
 use mathlib.Core.Path.{◌∙◌, ◌≡◌, ap, ap₂, refl, sym}
 use Prim.Native.Nat.{◌*◌, ◌+◌, ◌≤◌, ℕ}
 use native.Mathlib.Omega.{arith}
-use lib.ListN.{drop, length, length-append, length_map}
+use lib.ListN.{drop, length, length-append, length-map}
 use lib.IntN.{ℤ}
 use Rattle.graphics.specs.declared.GraphicsState.{GraphicsState}
 use Rattle.int.specs.Word.{bits_of}
@@ -42,7 +42,7 @@ unfolding state_words
 state_count s = refl
 
 number_count : (zs : List ℤ) → length (words_of_numbers zs) ≡ length zs
-number_count zs = length_map zs bits_of
+number_count zs = length-map zs bits_of
 
 -- what the lists of a layout are, in length
 pub record Sized (h : Held) (l : Layout) : Type 0 where

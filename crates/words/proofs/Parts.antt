@@ -1,6 +1,6 @@
 -- What a list of words in bytes is: its length, each of its words, and what is left of it after some. Assumes nothing.
 use Rattle.std.proofs.Common.{◌≡◌, ℕ, zero, suc, ◌+◌, ◌-◌, ◌*◌, ◌/◌, ◌%◌, ◌^◌, ◌<◌, ◌≤◌, true, false, cond, ◌&&◌, leb, List, [], ◌∷◌, map, length, get_or, ℤ, sym, refl, ap, ◌∙◌, ap₂, arith, le-leb}
-use lib.ListN.{length_map, get_or-map}
+use lib.ListN.{length-map, get_or-map}
 use borrow.Author.Tests.{lt-leb}
 use Rattle.words.specs.Lists.{word, part, all_at_most, sum_of}
 
@@ -20,7 +20,7 @@ part_at bytes first (suc count) zero h = let e : first + 0 ≡ first = omega ari
 part_at bytes first (suc count) (suc k) h = let e : first + suc k ≡ suc first + k = omega arith in ap (word bytes) e ∙ part_at bytes (suc first) count k (omega arith)
 
 pub mapped_length : {A : Type 0} (f : ℕ → A) (bytes : List ℕ) (first count : ℕ) → length (map f (part bytes first count)) ≡ count
-mapped_length f bytes first count = length_map (part bytes first count) f ∙ part_length bytes first count
+mapped_length f bytes first count = length-map (part bytes first count) f ∙ part_length bytes first count
 
 pub mapped_at : {A : Type 0} (f : ℕ → A) (bytes : List ℕ) (first count k : ℕ) → k < count → f (word bytes (first + k)) ≡ get_or (map f (part bytes first count)) k (f 0)
 mapped_at f bytes first count k h = ap f (part_at bytes first count k h) ∙ sym (get_or-map f (part bytes first count) k 0)

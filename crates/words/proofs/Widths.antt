@@ -28,12 +28,12 @@ module _ {A : Type 0} {P : A → Type 0} where
   pub every_take : {ws : List A} → Every P ws → (n : ℕ) → Every P (take n ws)
   every_take f zero = no_word
   every_take no_word (suc n) = no_word
-  every_take (one_word h f) (suc n) = one_word h (every_take f n)
+  every_take (one_word {w = w} {ws = ws} h f) (suc n) = one_word h (every_take {ws = ws} f n)
 
   pub every_drop : {ws : List A} → Every P ws → (n : ℕ) → Every P (drop n ws)
   every_drop f zero = f
   every_drop no_word (suc n) = no_word
-  every_drop (one_word h f) (suc n) = every_drop f n
+  every_drop (one_word {w = w} {ws = ws} h f) (suc n) = every_drop {ws = ws} f n
 
   pub every_join : {ws vs : List A} → Every P ws → Every P vs → Every P (ws ++ vs)
   every_join no_word g = g

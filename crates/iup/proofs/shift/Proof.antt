@@ -5,7 +5,7 @@ use Prim.Native.Nat.{◌-◌}
 use native.Mathlib.Omega.{arith}
 use borrow.Author.Rules.{rules}
 use lib.IntN.{ℤ, pos}
-use lib.ListN.{length, get_or, length-set, length_map}
+use lib.ListN.{length, get_or, length-set, length-map}
 use mir.Syntax.{w32}
 use mir.Val.{to_z, of_z}
 use mir.Facts.{to_z-of_z}
@@ -24,7 +24,7 @@ decreases-loop part₀ delta i₀ part i = length part - i
 loop-holds : tie.Need-loop-init invariant-loop decreases-loop
 loop-holds c = let a = c.args in
     let f : ℤ → ℤ = λ x. add32 x (to_z w32 (of_z w32 a.delta)) in
-    start (map f a.part.now) a.part.now (length_map a.part.now f)
+    start (map f a.part.now) a.part.now (length-map a.part.now f)
 
 mul-wrapping-add : tie.Need-overflow-mul-wrapping-add invariant-loop decreases-loop
 mul-wrapping-add c = search rules
