@@ -25,8 +25,8 @@ module _ (a0 a1 b0 b1 : Vector) {da db : Vector} {d d' e e' : ℤ} {t : Bool} (e
   unfolding crossing_of
   in-middle h eax ebx ecx edx eay eby ecy edy ep' ep eq' eq = rw (seen h, ep', ep, eq', eq, eax, ebx, ecx, edx, eay, eby, ecy, edy) refl
 
-pub from_to : (p q : Vector) {px py qx qy d d' e e' : ℤ} → px ≡ p.x → py ≡ p.y → qx ≡ q.x → qy ≡ q.y → d' ≡ d → d ≡ sub32 qx px → e' ≡ e → e ≡ sub32 qy py → record { x = d'; y = e' } ≡ from_to p q
-from_to p q epx epy eqx eqy ed' ed ee' ee = rw (ed', ed, ee', ee, epx, epy, eqx, eqy) refl
+pub from_to_lem : (p q : Vector) {px py qx qy d d' e e' : ℤ} → px ≡ p.x → py ≡ p.y → qx ≡ q.x → qy ≡ q.y → d' ≡ d → d ≡ sub32 qx px → e' ≡ e → e ≡ sub32 qy py → record { x = d'; y = e' } ≡ from_to p q
+from_to_lem p q epx epy eqx eqy ed' ed ee' ee = rw (ed', ed, ee', ee, epx, epy, eqx, eqy) refl
 
 module _ (u v : Vector) {ux uy vx vy p p' q q' r r' : ℤ} (eux : ux ≡ u.x) (euy : uy ≡ u.y) (evx : vx ≡ v.x) (evy : vy ≡ v.y) where
   pub cross : {n n' : ℤ} → n' ≡ n → n ≡ neg32 vy → p' ≡ p → p ≡ mul_div ux n' (pos 0x40) → q' ≡ q → q ≡ mul_div uy vx (pos 0x40) → r' ≡ r → r ≡ add32 p' q' → r' ≡ cross_of u v

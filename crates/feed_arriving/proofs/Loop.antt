@@ -45,15 +45,15 @@ pub record Arriving (f : Fixed) (first : Arrived) (next : Next) (block : List �
   pub kept : Kept next
   pub over : next.more ≡ false → turns ≡ 0
 
-abbrev pub at_first : ℕ → Next
-at_first first = record { begun = 0; count = first; more = true; failed = false }
+abbrev pub at_first_lem : ℕ → Next
+at_first_lem first = record { begun = 0; count = first; more = true; failed = false }
 
 pub starts : (f g : Fixed) (s : GraphicsState) (first turns : ℕ) (block : List ℕ) (words carry gx gy : List ℤ) (gflags : List ℕ) (tox toy tx ty : List ℤ) (tflags : List ℕ) {c : Fed}
     → first ≤ 16384 → c ≡ fresh s
-    → Arriving f (at_first f carry (held g (take first words) (world s gx gy gflags tox toy tx ty tflags))) (at_first first) block words 0 turns (left c carry gx gy gflags tox toy tx ty tflags)
+    → Arriving f (at_first f carry (held g (take first words) (world s gx gy gflags tox toy tx ty tflags))) (at_first_lem first) block words 0 turns (left c carry gx gy gflags tox toy tx ty tflags)
 unfolding pending_by said_is_open
 starts f g s first turns block words carry gx gy gflags tox toy tx ty tflags {c} h e =
-    let goal : Fed → Type 0 = λ (c : Fed). Arriving f (at_first f carry (held g (take first words) (world s gx gy gflags tox toy tx ty tflags))) (at_first first) block words 0 turns (left c carry gx gy gflags tox toy tx ty tflags) in
+    let goal : Fed → Type 0 = λ (c : Fed). Arriving f (at_first f carry (held g (take first words) (world s gx gy gflags tox toy tx ty tflags))) (at_first_lem first) block words 0 turns (left c carry gx gy gflags tox toy tx ty tflags) in
     let fresh-goal : goal (fresh s) =
     record {
       blocks = [];

@@ -120,20 +120,20 @@ whole_words : {k m : ℕ} → Whole k ≡ Whole m → k ≡ m
 unfolding whole_by
 whole_words e = ap whole_by e
 
-whole_by : (n op count k : ℕ) → Tests n op count → look_by n op count ≡ Whole k → IsWhole n op count k
+whole_by_lem : (n op count k : ℕ) → Tests n op count → look_by n op count ≡ Whole k → IsWhole n op count k
 unfolding is_whole
-whole_by n op count k (Empty h) e = not_whole refl (sym (no_word n op count h) ∙ e)
-whole_by n op count k (Beyond h a) e = not_whole refl (sym (no_opcode n op count h a) ∙ e)
-whole_by n op count k (Strange h a b) e = not_whole refl (sym (not_known n op count h a b) ∙ e)
-whole_by n op count k (Single h a b c) e = not_whole refl (sym (no_count n op count h a b c) ∙ e)
-whole_by n op count k (Longer a b c d) e = not_whole (long_not_whole count) (sym (too_long n op count (omega (arith, c)) a b c d) ∙ e)
-whole_by n op count k (Short a b c d f) e = not_whole refl (sym (not_all n op count (omega (arith, c)) a b c d f) ∙ e)
-whole_by n op count k (Full a b c d f) e =
+whole_by_lem n op count k (Empty h) e = not_whole refl (sym (no_word n op count h) ∙ e)
+whole_by_lem n op count k (Beyond h a) e = not_whole refl (sym (no_opcode n op count h a) ∙ e)
+whole_by_lem n op count k (Strange h a b) e = not_whole refl (sym (not_known n op count h a b) ∙ e)
+whole_by_lem n op count k (Single h a b c) e = not_whole refl (sym (no_count n op count h a b c) ∙ e)
+whole_by_lem n op count k (Longer a b c d) e = not_whole (long_not_whole count) (sym (too_long n op count (omega (arith, c)) a b c d) ∙ e)
+whole_by_lem n op count k (Short a b c d f) e = not_whole refl (sym (not_all n op count (omega (arith, c)) a b c d f) ∙ e)
+whole_by_lem n op count k (Full a b c d f) e =
     let i : k ≡ count + 2 = whole_words (sym e ∙ all n op count (omega (arith, c)) a b c d f) in
     record { opcode = a; known = b; short = d; is = i; there = omega (arith, i, f) }
 
 pub whole_is : (n op count : ℕ) {k : ℕ} → look_by n op count ≡ Whole k → IsWhole n op count k
-whole_is n op count {k} e = whole_by n op count k (tests n op count) e
+whole_is n op count {k} e = whole_by_lem n op count k (tests n op count) e
 
 -- ---- more words: what isn't waited for is settled
 module _ (n m op count count' : ℕ) (more : n ≤ m) (same : 2 ≤ n → count ≡ count') where

@@ -25,14 +25,14 @@ ordered_is : (low high p : Place) → moved_by low high (level low high) (slope 
 unfolding moved_by along
 ordered_is low high p = rw (inside_is low high p (level low high) refl)
 
-moved_by : (a b p : Place) (t : Bool) → le_z a.unscaled b.unscaled ≡ t → by_references a b p.unscaled p.original ≡ between a b p
+moved_by_lem : (a b p : Place) (t : Bool) → le_z a.unscaled b.unscaled ≡ t → by_references a b p.unscaled p.original ≡ between a b p
 unfolding by_references between
-moved_by a b p true t = rw t (ordered_is a b p)
-moved_by a b p false t = rw t (ordered_is b a p)
+moved_by_lem a b p true t = rw t (ordered_is a b p)
+moved_by_lem a b p false t = rw t (ordered_is b a p)
 
 pub both_is : (a b : Place) (ps : List Point) → both (by_references a b) (unscaled_of ps) (original_of ps) ≡ map (λ p. between a b p.place) ps
 both_is a b [] = refl
-both_is a b (p ∷ ps) = ap₂ (λ (x : ℤ) (l : List ℤ). x ∷ l) (moved_by a b p.place (le_z a.unscaled b.unscaled) refl) (both_is a b ps)
+both_is a b (p ∷ ps) = ap₂ (λ (x : ℤ) (l : List ℤ). x ∷ l) (moved_by_lem a b p.place (le_z a.unscaled b.unscaled) refl) (both_is a b ps)
 
 -- what the code works out once for a stretch
 refer_by : (a b : Place) (t : Bool) → le_z a.unscaled b.unscaled ≡ t → let low = cond t a b in let high = cond t b a in moved_by low high (level low high) (slope low high) ≡ by_references a b

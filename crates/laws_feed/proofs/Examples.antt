@@ -65,7 +65,7 @@ pub record Computed : Type 0 where
   pub in_pieces : fed cut ≡ (1, 0, 0, 0) ∷ (1, 2, 1, 0) ∷ (1, 2, 0, 0) ∷ (1, 7, 2, 0) ∷ (0, 7, 0, 0) ∷ []
   pub ends_so : ending_of (fed_pieces glyph begun cut) ≡ ending Ended 7 (holding (state_with y_axis 0 0 0 false) (three (pos 64) (pos 124) (pos 154)) (flags 5 1 1))
   -- the run reads counts of 0, 1 and 0
-  pub reads_short : reads_short glyph whole 7 (at_first (state_with x_axis 0 0 0 false)) ≡ true
+  pub reads_short_lem : reads_short glyph whole 7 (at_first (state_with x_axis 0 0 0 false)) ≡ true
   -- no piece at all
   pub nothing : fed [] ≡ (0, 0, 0, 0) ∷ []
   -- 256 is no opcode: 4 at its own word, before a count has come; and every later call repeats it
@@ -88,7 +88,7 @@ unfolding run_of on_entry entry_of rising_from fits glyph_fits twilight_fits pai
 computed = record {
   in_pieces = refl;
   ends_so = refl;
-  reads_short = refl;
+  reads_short_lem = refl;
   nothing = refl;
   bad_opcode = refl;
   below_zero = refl;
@@ -104,4 +104,4 @@ computed = record {
 pub as_one_run : ending_of (fed_pieces glyph begun cut) ≡ ending_of_run (run_of glyph whole 7 0 (at_first (state_with x_axis 0 0 0 false)))
 as_one_run =
     any-cut glyph (replicate 4098 (pos 0)) (at_first (state_with x_axis 0 0 0 false)) (omega (arith, length-replicate 4098 (pos 0))) cut (omega arith) 7 (omega arith)
-    computed.reads_short
+    computed.reads_short_lem

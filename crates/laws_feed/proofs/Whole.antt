@@ -223,20 +223,20 @@ refused_at_entry f carry w long (piece ∷ pieces) h {why} e =
 -- a sheet that is no longer than a sheet may be ends as one run over the whole with a budget of at least its length does, if no count word that the run
 -- reads is above 4,096: the same answer, place, points, flags and state.
 module _ (f : Fixed) (carry : List ℤ) (w : World) (long : most_line ≤ length carry) (pieces : List (List ℤ)) (within : length (joined pieces) ≤ most_words) where
-  whole_by : (budget : ℕ) → length (joined pieces) ≤ budget → (call : Call) → entered f (joined pieces) 0 w ≡ call → short_on_entry f (joined pieces) budget w call ≡ true
+  whole_by_lem : (budget : ℕ) → length (joined pieces) ≤ budget → (call : Call) → entered f (joined pieces) 0 w ≡ call → short_on_entry f (joined pieces) budget w call ≡ true
       → ending_of (fed_pieces f (started carry w) pieces) ≡ ending_of_run (run_of f (joined pieces) budget 0 w)
   unfolding short_on_entry
-  whole_by budget enough Done e s =
+  whole_by_lem budget enough Done e s =
       fed-whole f carry w long pieces within (sym (entry_of_run f (joined pieces) w within) ∙ e)
       ∙ from f (joined pieces) within budget 0 0 0 w enough s
       ∙ ap ending_of_run (run_entered f (joined pieces) budget 0 w refl e)
-  whole_by budget enough (RefusedCall why) e s =
+  whole_by_lem budget enough (RefusedCall why) e s =
       refused_at_entry f carry w long pieces within (sym (entry_of_run f (joined pieces) w within) ∙ e)
       ∙ ap ending_of_run (not_entered f (joined pieces) budget 0 w refl e)
 
   pub whole : (budget : ℕ) → length (joined pieces) ≤ budget → reads_short f (joined pieces) budget w ≡ true
       → ending_of (fed_pieces f (started carry w) pieces) ≡ ending_of_run (run_of f (joined pieces) budget 0 w)
-  whole budget enough s = whole_by budget enough (entered f (joined pieces) 0 w) refl s
+  whole budget enough s = whole_by_lem budget enough (entered f (joined pieces) 0 w) refl s
 
   -- two cuttings of the same words end alike, also where a line is too long (18), and with another carry
   cutting-by : (carry' : List ℤ) → most_line ≤ length carry' → (pieces' : List (List ℤ)) → joined pieces' ≡ joined pieces → (call : Call) → entered f [] 0 w ≡ call

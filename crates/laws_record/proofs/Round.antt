@@ -39,8 +39,8 @@ same_layout : {s s' p p' c c' t t' k k' w w' : ℕ} → s ≡ s' → p ≡ p' �
 same_layout e e0 e1 e2 e3 e4 = cc
 
 -- the counts of what is held are within document 01's sizes
-counts_fit : (h : Held) → Keepable h → counts_fit (layout_for h) ≡ true
-counts_fit h k =
+counts_fit_lem : (h : Held) → Keepable h → counts_fit (layout_for h) ≡ true
+counts_fit_lem h k =
     let l = layout_for h in
     let m = fits_most h.fixed h.sheet h.world k.sizes in
     both (both (both (both (le-leb l.points most_points m.points) (le-leb l.contours most_contours m.contours)) (le-leb l.twilight most_points m.twilight))
@@ -66,8 +66,8 @@ trailer_words_fit l h =
     let newest : edition < 2 ^ 32 = omega arith in
     more a (more b (more c (more d (more e (more newest (more (low_small (at_trailer l * 4)) none))))))
 
-words_fit : (h : Held) → Keepable h → Words (words_of h)
-words_fit h k =
+words_fit_lem : (h : Held) → Keepable h → Words (words_of h)
+words_fit_lem h k =
     words_join
     (words_join
     (words_join (state_words_fit h.world.state k.widths.world.state)
@@ -89,7 +89,7 @@ record_bytes h = words_bytes (words_of h)
 
 module _ (h : Held) (k : Keepable h) where
   fit : Words (words_of h)
-  fit = words_fit h k
+  fit = words_fit_lem h k
 
   abbrev bs : List ℕ
   bs = b h k fit
@@ -172,7 +172,7 @@ module _ (h : Held) (k : Keepable h) where
 
   frame-holds : framed bs ≡ true
   frame-holds =
-      both (both (both (eq-eqb (length bs % 4) 0 (omega (arith, bytes-long))) (le-leb trailer_size (word_count bs) (omega (arith, count-is)))) (ap counts_fit layout-same ∙ counts_fit h k))
+      both (both (both (eq-eqb (length bs % 4) 0 (omega (arith, bytes-long))) (le-leb trailer_size (word_count bs) (omega (arith, count-is)))) (ap counts_fit layout-same ∙ counts_fit_lem h k))
       (ap (trailer_fits bs) layout-same
       ∙ both (both (eq-eqb (at_trailer lay + trailer_size) (word_count bs) (sym count-is)) refl) (eq-eqb (trailer_word bs 6) (at_trailer lay * 4) back-same))
 

@@ -97,7 +97,7 @@ whence_whole bytes l e =
     let m = layout_of bytes in
     let s = sound bytes l e in
     let same_size : record_size (layout_for (held_in bytes m)) + kept_in bytes * 4 ≡ length bytes + state_size * 4 = omega (arith, ap record_size (layout_kept bytes m), s.adds_up, s.length_is) in
-    subst (λ (n : Layout). Whence bytes (held_in bytes n)) (layout_is bytes l e) (record { fit = read_fits bytes m s.counts_fit; size = same_size; some = kept_some (trailer_word bytes 5) s.kept_is; short = s.size_is })
+    subst (λ (n : Layout). Whence bytes (held_in bytes n)) (layout_is bytes l e) (record { fit = read_fits bytes m s.counts_fit_lem; size = same_size; some = kept_some (trailer_word bytes 5) s.kept_is; short = s.size_is })
 
 pub refused_or_kept : {n : ℕ} {h : Held} → Refused n ≡ Kept h → ⊥
 refused_or_kept e = let z : ◌≡◌ {A = ℕ} 0 1 = cc in omega arith

@@ -26,11 +26,11 @@ module _ (s : GraphicsState) (opcode : ℕ) where
     unfolding marked_for
     by-odd q = q ∙ ap (byFacts true) o ∙ sym (ap (λ (c : Bool). byFacts c (is_odd opcode)) e)
 
-    pub marked_x : odd ≡ true → r ≡ with_facts s (marked_x s.facts) → r ≡ marked_for s opcode
-    marked_x b q = by-odd (q ∙ sym (ap (byFacts true) b))
+    pub marked_x_lem : odd ≡ true → r ≡ with_facts s (marked_x s.facts) → r ≡ marked_for s opcode
+    marked_x_lem b q = by-odd (q ∙ sym (ap (byFacts true) b))
 
-    pub marked_y : odd ≡ false → r ≡ with_facts s (marked_y s.facts) → r ≡ marked_for s opcode
-    marked_y b q = by-odd (q ∙ sym (ap (byFacts true) b))
+    pub marked_y_lem : odd ≡ false → r ≡ with_facts s (marked_y s.facts) → r ≡ marked_for s opcode
+    marked_y_lem b q = by-odd (q ∙ sym (ap (byFacts true) b))
 
   pub not_marked : s.facts.backward_compatibility ≡ false → s ≡ marked_for s opcode
   unfolding marked_for

@@ -31,12 +31,12 @@ use Rattle.line_msirp.specs.Msirp.{made_from, made_place, msirp_of}
 abbrev placed : ℤ → ℤ → Vector
 placed x y = record { x = x; y = y }
 
-pub made_from : (v : Vectors) (distance : ℤ) (p : Vector) {d px py dx dy x y x' y' : ℤ} {m : Move} → d ≡ distance → m ≡ original_move_of v d
+pub made_from_lem : (v : Vectors) (distance : ℤ) (p : Vector) {d px py dx dy x y x' y' : ℤ} {m : Move} → d ≡ distance → m ≡ original_move_of v d
     → px ≡ p.x → dx ≡ m.dx → x ≡ cond m.moves_x (add32 px dx) px → x' ≡ x
     → py ≡ p.y → dy ≡ m.dy → y ≡ cond m.moves_y (add32 py dy) py → y' ≡ y
     → placed x' y' ≡ made_place v distance p
 unfolding made_place
-made_from v distance p ed em epx edx ex ex' epy edy ey ey' = rw (ex', ex, ey', ey, epx, epy, edx, edy, em, ed) refl
+made_from_lem v distance p ed em epx edx ex ex' epy edy ey ey' = rw (ex', ex, ey', ey, epx, epy, edx, edy, em, ed) refl
 
 -- ---- the distance
 pub distance_from : {distance d p p' along r r' : ℤ} → d ≡ distance → p' ≡ p → p ≡ along → r' ≡ r → r ≡ sub32 d p' → r' ≡ sub32 distance along

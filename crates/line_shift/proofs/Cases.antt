@@ -47,14 +47,14 @@ shifted_by operands w {m = m} e p q =
 -- ---- SHP
 -- the zone chosen at each place that is read
 module _ (v : Vectors) (p : Reference) (gox goy gx gy tox toy tx ty : List ℤ) where
-  in_zone : (zone : ZonePointer) → displaced_from v p (fetch_in p.at gox goy tox toy zone) (fetch_in p.at gx gy tx ty zone) ≡ displaced_in v p gox goy gx gy tox toy tx ty zone
+  in_zone_lem : (zone : ZonePointer) → displaced_from v p (fetch_in p.at gox goy tox toy zone) (fetch_in p.at gx gy tx ty zone) ≡ displaced_in v p gox goy gx gy tox toy tx ty zone
   unfolding displaced_in displaced_at fetch_in
-  in_zone Glyph = refl
-  in_zone Twilight = refl
+  in_zone_lem Glyph = refl
+  in_zone_lem Twilight = refl
 
   pub current_read : {here h : Fetched} → here ≡ fetch_in p.at gx gy tx ty p.zone → here ≡ h
       → displaced_from v p (fetch_in p.at gox goy tox toy p.zone) h ≡ displaced_in v p gox goy gx gy tox toy tx ty p.zone
-  current_read e q = ap (displaced_from v p (fetch_in p.at gox goy tox toy p.zone)) (sym q ∙ e) ∙ in_zone p.zone
+  current_read e q = ap (displaced_from v p (fetch_in p.at gox goy tox toy p.zone)) (sym q ∙ e) ∙ in_zone_lem p.zone
 
   pub both_read : {here h there t : Fetched} → here ≡ fetch_in p.at gx gy tx ty p.zone → here ≡ h → there ≡ fetch_in p.at gox goy tox toy p.zone → there ≡ t
       → displaced_from v p t h ≡ displaced_in v p gox goy gx gy tox toy tx ty p.zone

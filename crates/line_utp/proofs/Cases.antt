@@ -26,10 +26,10 @@ untouched_as flags at p q e = rw (p, q) e
 abbrev pub flagged : World → BothMarked → Lined
 flagged w m = record { call = m.call; world = world w.state w.gx w.gy m.gflags w.tox w.toy w.tx w.ty m.tflags }
 
-in_zone : (at : ℕ) (x y : Bool) (w : World) (zone : ZonePointer) → flagged w (untouched_in at x y w.gflags w.tflags zone) ≡ untouch_in at x y w zone
+in_zone_lem : (at : ℕ) (x y : Bool) (w : World) (zone : ZonePointer) → flagged w (untouched_in at x y w.gflags w.tflags zone) ≡ untouch_in at x y w zone
 unfolding untouched_in untouch_in
-in_zone at x y w Glyph = refl
-in_zone at x y w Twilight = refl
+in_zone_lem at x y w Glyph = refl
+in_zone_lem at x y w Twilight = refl
 
 -- ---- the line
 module _ (f : Fixed) (opcode : ℕ) (operands : List ℤ) (w : World) where
@@ -43,4 +43,4 @@ module _ (f : Fixed) (opcode : ℕ) (operands : List ℤ) (w : World) where
   unfolding utp_of
   utp_done {at = at} {x = x} {y = y} h i p q e =
       one_there w operands _ h
-      (rw (← i, ← p, ← q) (ap (flagged w) e ∙ in_zone at (not x) (not y) w w.state.pointers.zp0))
+      (rw (← i, ← p, ← q) (ap (flagged w) e ∙ in_zone_lem at (not x) (not y) w w.state.pointers.zp0))

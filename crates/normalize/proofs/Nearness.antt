@@ -261,8 +261,8 @@ module _ (a c : ℕ) (some-a : 0 < a) (some-c : 0 < c) (le-a : a ≤ 2 ^ 31) (le
       let j : 2 ^ k * 2 ^ zeros l * suc l ≡ 2 ^ 16 * suc l = ap (λ (j : ℕ). j * suc l) w in
       down_by k (omega (arith, j, mul-le-mul_left (2 ^ k) (from-third l some fits t), pow_pos k)) (omega (arith, j, mul-le-mul_left (2 ^ k) (below_top l some fits), pow_pos k))
 
-  moved_by : (p : ℕ) → ((k : ℕ) → 0 < k → k + p ≡ zeros l → Moved k 0 l a c) → ((k : ℕ) → k + zeros l ≡ p → Moved 0 k l a c) → Moved (zeros l - p) (p - zeros l) l a c
-  moved_by p up down = ⊎_elim
+  moved_by_lem : (p : ℕ) → ((k : ℕ) → 0 < k → k + p ≡ zeros l → Moved k 0 l a c) → ((k : ℕ) → k + zeros l ≡ p → Moved 0 k l a c) → Moved (zeros l - p) (p - zeros l) l a c
+  moved_by_lem p up down = ⊎_elim
       (λ h. let e : p - zeros l ≡ 0 = omega (arith, h) in subst (λ (d : ℕ). Moved (zeros l - p) d l a c) (sym e) (up (zeros l - p) (omega (arith, h)) (omega (arith, h))))
       (λ h. let e : zeros l - p ≡ 0 = omega (arith, h) in subst (λ (u : ℕ). Moved u (p - zeros l) l a c) (sym e) (down (p - zeros l) (omega (arith, h))))
       (split p (zeros l))
@@ -270,8 +270,8 @@ module _ (a c : ℕ) (some-a : 0 < a) (some-c : 0 < c) (le-a : a ≤ 2 ^ 31) (le
   moved : Moved (zeros l - past (zeros l) l) (past (zeros l) l - zeros l) l a c
   unfolding past
   moved = ⊎_elim
-      (λ h. rw (lt-leb (third l some fits) l h) (moved_by 15 (λ k i e. up-15 k i e h) (λ k e. down-15 k e h)))
-      (λ h. rw (le-leb (third l some fits) l h) (moved_by 16 (λ k i e. up-16 k i e h) (λ k e. down-16 k e h)))
+      (λ h. rw (lt-leb (third l some fits) l h) (moved_by_lem 15 (λ k i e. up-15 k i e h) (λ k e. down-15 k e h)))
+      (λ h. rw (le-leb (third l some fits) l h) (moved_by_lem 16 (λ k i e. up-16 k i e h) (λ k e. down-16 k e h)))
       (split l (third l some fits))
 
 -- ---- and the start

@@ -189,16 +189,16 @@ outline_most g e rise =
     omega (arith, length-append (stroke_lines (contours_of g 0 g.contours)) (box_line (extent_of (contours_of g 0 g.contours))))
 
 -- ---- a glyph that is drawn or refused
-begun_by : (e : Entry) {p : Pen} → begun_by e ≡ Ready p → e ≡ drawable
-begun_by drawable h = refl
-begun_by (refused why) h = cc h
+begun_by_lem : (e : Entry) {p : Pen} → begun_by e ≡ Ready p → e ≡ drawable
+begun_by_lem drawable h = refl
+begun_by_lem (refused why) h = cc h
 
 refused_by : (e : Entry) {why : Refusal} → begun_by e ≡ NotBegun why → e ≡ refused why
 refused_by drawable h = cc h
 refused_by (refused why) h = cc h
 
 pub begun_drawable : (g : Glyph) {b : Begun} {p : Pen} → b ≡ begin_of g → b ≡ Ready p → entry_of g ≡ drawable
-begun_drawable g e h = begun_by (entry_of g) (sym e ∙ h)
+begun_drawable g e h = begun_by_lem (entry_of g) (sym e ∙ h)
 
 pub drawn_text : (g : Glyph) {b : Begun} {p : Pen} → b ≡ begin_of g → b ≡ Ready p → glyph_text g ≡ outline_text g
 unfolding glyph_text

@@ -188,13 +188,13 @@ next_law g w = go (ltb w.contour (length g.contours)) (ltb-true w.contour (lengt
     go true h k = subst (Goes g (later g w)) (contour_next g w (h refl) refl refl) (opened g w (h refl) ∙ start-law g w (last_of g w))
     go false h k = subst (Goes g (later g w)) (contour_none g w (k refl)) (ended g w (k refl))
 
-walk_by : (g : Glyph) (w : Walk) (s : Stage) → Goes g (before g w s) (walk_by g w s)
-walk_by g w Between = next_law g w
-walk_by g w Onward = none-law g w
-walk_by g w (Waiting c) = off-law g w c w.at
+walk_by_lem : (g : Glyph) (w : Walk) (s : Stage) → Goes g (before g w s) (walk_by g w s)
+walk_by_lem g w Between = next_law g w
+walk_by_lem g w Onward = none-law g w
+walk_by_lem g w (Waiting c) = off-law g w c w.at
 
 pub walk_law : (g : Glyph) (w : Walk) → Goes g (remaining g w) (walk_of g w)
-walk_law g w = walk_by g w w.stage
+walk_law g w = walk_by_lem g w w.stage
 
 -- ---- every step of a glyph that may be drawn is near
 abbrev pub Close-by : Glyph → Type 0

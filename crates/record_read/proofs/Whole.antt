@@ -39,7 +39,7 @@ passed found l false frame sum e = record { short_enough = cc e; fits = cc e; su
 pub record Sound (bytes : List ℕ) (l : Layout) : Type 0 where
   pub size_is : length bytes ≤ most_bytes
   pub length_is : length bytes % 4 ≡ 0
-  pub counts_fit : counts_fit l ≡ true
+  pub counts_fit_lem : counts_fit l ≡ true
   pub adds_up : at_trailer l + trailer_size ≡ word_count bytes
   pub kept_is : 0 < l.state
   pub back_is : trailer_word bytes 6 ≡ at_trailer l * 4
@@ -85,7 +85,7 @@ module _ (bytes : List ℕ) (l : Layout) (e : open_of bytes ≡ Whole l) where
       record {
         size_is = leb-true (length bytes) most_bytes all_passed.short_enough;
         length_is = eqb-true (length bytes % 4) 0 (and_left (eqb (length bytes % 4) 0) (leb trailer_size (word_count bytes)) f.0);
-        counts_fit = f.1;
+        counts_fit_lem = f.1;
         adds_up = eqb-true (at_trailer m + trailer_size) (word_count bytes) t.0;
         kept_is = ltb-true 0 m.state t.1;
         back_is = eqb-true (trailer_word bytes 6) (at_trailer m * 4) t.2;

@@ -12,7 +12,7 @@ use Rattle.crossing.proofs.crossing.Tie as tie
 told : (s : tie.Start) → let a = s.args.a0 in let b = s.args.a1 in let c = s.args.b0 in let d = s.args.b1 in (mag a.x < 2 ^ 31) × (mag b.x < 2 ^ 31) × (mag c.x < 2 ^ 31) × (mag d.x < 2 ^ 31) × (mag a.y < 2 ^ 31) × (mag b.y < 2 ^ 31) × (mag c.y < 2 ^ 31) × (mag d.y < 2 ^ 31)
 told s = omega arith
 
-told-2 : (c : tie.After-from-to) → let d = c.from_to.result in (mag d.x < 2 ^ 31) × (mag d.y < 2 ^ 31)
+told-2 : (c : tie.After-from-to) → let d = c.from_to_lem.result in (mag d.x < 2 ^ 31) × (mag d.y < 2 ^ 31)
 told-2 c = omega arith
 
 from-to-requires : tie.Need-from-to-requires
@@ -49,15 +49,15 @@ middle-requires-2 : tie.Need-middle-requires-2
 middle-requires-2 c κs = search rules
 
 returns : tie.Need-returns
-returns c = let m = c.before.before.before in let v = m.before.before.before in let w = v.before in let i = w.before in let k = i.before in let o = k.before in let x = o.before in let g = x.before in let f = g.before in let s = f.before in let a = s.args.a0 in let d = f.from_to.result in
-    on_line a s.args.a1 s.args.b0 s.args.b1 f.from_to.ensures g.from-to2.ensures (back32 x.cross.result x.cross.type-inv) x.cross.ensures (back32 o.dot.result o.dot.type-inv) o.dot.ensures k.do-meet.ensures
+returns c = let m = c.before.before.before in let v = m.before.before.before in let w = v.before in let i = w.before in let k = i.before in let o = k.before in let x = o.before in let g = x.before in let f = g.before in let s = f.before in let a = s.args.a0 in let d = f.from_to_lem.result in
+    on_line a s.args.a1 s.args.b0 s.args.b1 f.from_to_lem.ensures g.from-to2.ensures (back32 x.cross.result x.cross.type-inv) x.cross.ensures (back32 o.dot.result o.dot.type-inv) o.dot.ensures k.do-meet.ensures
     i.if1.true w.from-to3.ensures (back32 v.cross2.result v.cross2.type-inv) v.cross2.ensures
     (back32 a.x (told s).0) (back32 a.y (told s).4) (back32 d.x (told-2 f).0) (back32 d.y (told-2 f).1)
     (back32 m.moved.result m.moved.type-inv) m.moved.ensures (back32 c.moved2.result c.moved2.type-inv) c.moved2.ensures
 
 returns-2 : tie.Need-returns-2
 returns-2 c = let m = c.before.before.before.before.before in let i = m.before.before.before.before.before in let k = i.before in let o = k.before in let x = o.before in let g = x.before in let f = g.before in let s = f.before in let p = s.args.a0 in let q = s.args.a1 in let u = s.args.b0 in let v = s.args.b1 in
-    in-middle p q u v f.from_to.ensures g.from-to2.ensures (back32 x.cross.result x.cross.type-inv) x.cross.ensures (back32 o.dot.result o.dot.type-inv) o.dot.ensures k.do-meet.ensures
+    in-middle p q u v f.from_to_lem.ensures g.from-to2.ensures (back32 x.cross.result x.cross.type-inv) x.cross.ensures (back32 o.dot.result o.dot.type-inv) o.dot.ensures k.do-meet.ensures
     i.if1.false
     (back32 p.x (told s).0) (back32 q.x (told s).1) (back32 u.x (told s).2) (back32 v.x (told s).3) (back32 p.y (told s).4) (back32 q.y (told s).5) (back32 u.y (told s).6) (back32 v.y (told s).7)
     (back32 m.middle.result m.middle.type-inv) m.middle.ensures (back32 c.middle2.result c.middle2.type-inv) c.middle2.ensures

@@ -1,5 +1,5 @@
 -- `line_iup::marked_for` meets its contract: by backward compatibility, and by whether the opcode is odd. Assumes nothing.
-use Rattle.line_iup.proofs.Cases.{marked_x, marked_y, not_marked}
+use Rattle.line_iup.proofs.Cases.{marked_x_lem, marked_y_lem, not_marked}
 use Rattle.line_iup.proofs.marked_for.Statement.{statement}
 use Rattle.line_iup.proofs.marked_for.Tie as tie
 
@@ -14,11 +14,11 @@ with-did-iup-y-requires c κs = tt
 
 returns : tie.Need-returns
 returns c = let i = c.before in let k = i.before in let p = k.before in let a = p.before.before.args in
-    marked_x a.s a.opcode p.if1.true k.is_odd.ensures i.if2.true c.with-did-iup-x.ensures
+    marked_x_lem a.s a.opcode p.if1.true k.is_odd.ensures i.if2.true c.with-did-iup-x.ensures
 
 returns-2 : tie.Need-returns-2
 returns-2 c = let i = c.before in let k = i.before in let p = k.before in let a = p.before.before.args in
-    marked_y a.s a.opcode p.if1.true k.is_odd.ensures i.if2.false c.with-did-iup-y.ensures
+    marked_y_lem a.s a.opcode p.if1.true k.is_odd.ensures i.if2.false c.with-did-iup-y.ensures
 
 returns-3 : tie.Need-returns-3
 returns-3 c = let a = c.before.before.args in

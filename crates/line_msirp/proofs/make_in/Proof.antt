@@ -59,7 +59,7 @@ same-length-4 c = c.before.before.put-at2.auto.1.1.1.0
 returns-2 : tie.Need-returns-2
 returns-2 c = let p = c.before.before in let o = first p in let m = o.before.before.before in let f = m.before in let e : tie.After-enum-told2 = search in let s : tie.Start = search in let a = s.args in
     λ state gx gy gflags tflags. made_twilight (world state gx gy gflags a.tox.now a.toy.now a.tx.now a.ty.now tflags) a.at
-    (m.made-place.ensures ∙ ap₂ (made_place a.v) (to_z-of_z s.fits.distance) f.made_from.ensures)
+    (m.made-place.ensures ∙ ap₂ (made_place a.v) (to_z-of_z s.fits.distance) f.made_from_lem.ensures)
     o.put-at.ensures
     p.put-at2.ensures
     e.enum-told2.given.1

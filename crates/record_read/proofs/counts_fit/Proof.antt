@@ -36,7 +36,7 @@ words-fit-requires c κs = tt
 returns : tie.Need-returns
 returns c = let w = c.before in let kf = w.before in let k = kf.before in let tf = k.before in let t = tf.before in let cf = t.before in let n = cf.before in let pf = n.before in let p = pf.before in
     counts-seen p.before.args.l p.wide.ensures n.wide2.ensures t.wide3.ensures k.wide4.ensures w.wide5.ensures
-    pf.points_fit.ensures cf.contours-fit.ensures tf.points-fit2.ensures kf.control-values-fit.ensures c.words_fit.ensures
+    pf.points_fit.ensures cf.contours-fit.ensures tf.points-fit2.ensures kf.control-values-fit.ensures c.words_fit_lem.ensures
 
 pub counts-fit-spec : {M : Type 1} → statement M
 counts-fit-spec =

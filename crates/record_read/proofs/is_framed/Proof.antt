@@ -20,7 +20,7 @@ trailer-fits-requires c κs = tt
 returns : tie.Need-returns
 returns c = let b = c.before.before.before.before.before.args.bytes.now in
     let e = c.before.before.before.layout_of.ensures in
-    all_three c.before.before.length-fits.ensures (c.before.counts_fit.ensures ∙ ap counts_fit e) (c.trailer-fits.ensures ∙ ap (trailer_fits b) e)
+    all_three c.before.before.length-fits.ensures (c.before.counts_fit_lem.ensures ∙ ap counts_fit e) (c.trailer-fits.ensures ∙ ap (trailer_fits b) e)
 
 pub is-framed-spec : {M : Type 1} → statement M
 is-framed-spec =

@@ -1,0 +1,20 @@
+-- `round::negated` meets its contract: at 64 bits nothing is past, and `cut` cuts once. Assumes nothing.
+use native.Mathlib.Omega.{arith}
+use lib.IntN.{+ℤ_idl}
+use mir.Facts.{to_z-of_z}
+use mir.Syntax.{w32}
+use mir.Val.{SFits}
+use Rattle.int.proofs.Words.{wide_read, neg_fits}
+use Rattle.round.specs.Tracked.{cut, negated}
+use Rattle.round.proofs.negated.Goals as goal
+
+first : (s : goal.Start) → SFits w32 s.args.a.word
+first s = record { sfits = omega arith }
+
+abbrev entry : tie.After-struct-told → tie.Start
+entry c = c.before.before
+
+pub returns : goal.returns
+unfolding negated
+returns c = let s = entry c in
+    rw (c.cut.ensures, wide_read (first s), +ℤ_idl, to_z-of_z (neg_fits s.args.a.word (first s)))

@@ -1,0 +1,20 @@
+-- `round::times` meets its contract: at 64 bits nothing is past, and `cut` cuts once. Assumes nothing.
+use native.Mathlib.Omega.{arith}
+use mir.Facts.{to_z-of_z}
+use mir.Syntax.{w32}
+use mir.Val.{SFits}
+use Rattle.int.proofs.Words.{wide_read, prod_fits}
+use Rattle.round.specs.Tracked.{cut, times}
+use Rattle.round.proofs.Exact.{or_no}
+use Rattle.round.proofs.times.Goals as goal
+
+first : (s : goal.Start) → SFits w32 s.args.a.word
+first s = record { sfits = omega arith }
+
+abbrev entry : tie.After-struct-told → tie.Start
+entry c = c.before.before
+
+pub returns : goal.returns
+unfolding times
+returns c = let s = entry c in
+    rw (c.cut.ensures, wide_read (first s), wide_read s.fits.b, to_z-of_z (prod_fits s.args.a.word s.args.b (first s) s.fits.b), or_no s.args.a.wrapped)
