@@ -7,14 +7,12 @@ use mir.Val.{SFits}
 use Rattle.int.proofs.Words.{wide_read, neg_fits}
 use Rattle.round.specs.Tracked.{cut, negated}
 use Rattle.round.proofs.negated.Goals as goal
+use Rattle.round.proofs.negated.Goals.{After-struct_told-1}
 
-first : (s : goal.Start) → SFits w32 s.args.a.word
+first : (s : goal.After-struct_told-1) → SFits w32 s.args.a.word
 first s = record { sfits = omega arith }
-
-abbrev entry : tie.After-struct-told → tie.Start
-entry c = c.before.before
 
 pub returns : goal.returns
 unfolding negated
-returns c = let s = entry c in
-    rw (c.cut.ensures, wide_read (first s), +ℤ_idl, to_z-of_z (neg_fits s.args.a.word (first s)))
+returns c = let s = c in
+    rw (c.cut.ensures, wide_read (first (goal.at.returns c).After-struct_told-1), +ℤ_idl, to_z-of_z (neg_fits s.args.a.word (first (goal.at.returns c).After-struct_told-1)))

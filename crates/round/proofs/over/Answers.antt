@@ -8,10 +8,6 @@ use Rattle.int.proofs.Words.{wide_read, quot_fits, zero_of}
 use Rattle.round.specs.Tracked.{cut, over}
 use Rattle.round.proofs.Exact.{or_no}
 use Rattle.round.proofs.over.Goals as goal
-use Rattle.round.proofs.over.Goals.{Start}
-
-first : (s : goal.Start) → SFits w32 s.args.a.word
-first s = record { sfits = omega arith }
 
 pub returns-then-b-eq0 : goal.returns-then-b-eq0
 unfolding over
@@ -20,5 +16,7 @@ returns-then-b-eq0 c = let e = c in let s = e in
 
 pub returns-else-b-eq0 : goal.returns-else-b-eq0
 unfolding over
-returns-else-b-eq0 c = let s = c in
-    rw (c.cut-else-b-eq0.ensures, wide_read (first (goal.at.returns-else-b-eq0 c).Start), wide_read s.ranges.b, to_z-of_z (quot_fits s.args.a.word s.args.b (first (goal.at.returns-else-b-eq0 c).Start)), or_no s.args.a.wrapped)
+returns-else-b-eq0 c =
+    let first : (SFits w32 c.args.a.word) = (record { sfits = omega arith }) in
+    let s = c in
+    rw (c.cut-else-b-eq0.ensures, wide_read first, wide_read s.ranges.b, to_z-of_z (quot_fits s.args.a.word s.args.b first), or_no s.args.a.wrapped)

@@ -6,18 +6,16 @@ use mir.Val.{SFits}
 use Rattle.int.proofs.Words.{wide_read, sum_fits}
 use Rattle.round.specs.Tracked.{cut, plus}
 use Rattle.round.proofs.plus.Goals as goal
+use Rattle.round.proofs.plus.Goals.{After-struct_told-1}
 
 -- the two words
-first : (s : goal.Start) → SFits w32 s.args.a.word
+first : (s : goal.After-struct_told-1) → SFits w32 s.args.a.word
 first s = record { sfits = omega arith }
 
-second : (s : goal.Start) → SFits w32 s.args.b.word
+second : (s : goal.After-struct_told-1) → SFits w32 s.args.b.word
 second s = record { sfits = omega arith }
-
-abbrev entry : tie.After-struct-told2 → tie.Start
-entry c = c.before.before.before.before.before.before
 
 pub returns : goal.returns
 unfolding plus
-returns c = let s = entry c in
-    rw (c.cut.ensures, wide_read (first s), wide_read (second s), to_z-of_z (sum_fits s.args.a.word s.args.b.word (first s) (second s)))
+returns c = let s = c in
+    rw (c.cut.ensures, wide_read (first (goal.at.returns c).After-struct_told-1), wide_read (second (goal.at.returns c).After-struct_told-1), to_z-of_z (sum_fits s.args.a.word s.args.b.word (first (goal.at.returns c).After-struct_told-1) (second (goal.at.returns c).After-struct_told-1)))

@@ -7,14 +7,12 @@ use Rattle.int.proofs.Words.{wide_read, prod_fits}
 use Rattle.round.specs.Tracked.{cut, times}
 use Rattle.round.proofs.Exact.{or_no}
 use Rattle.round.proofs.times.Goals as goal
+use Rattle.round.proofs.times.Goals.{After-struct_told-1}
 
-first : (s : goal.Start) → SFits w32 s.args.a.word
+first : (s : goal.After-struct_told-1) → SFits w32 s.args.a.word
 first s = record { sfits = omega arith }
-
-abbrev entry : tie.After-struct-told → tie.Start
-entry c = c.before.before
 
 pub returns : goal.returns
 unfolding times
-returns c = let s = entry c in
-    rw (c.cut.ensures, wide_read (first s), wide_read s.fits.b, to_z-of_z (prod_fits s.args.a.word s.args.b (first s) s.fits.b), or_no s.args.a.wrapped)
+returns c = let s = c in
+    rw (c.cut.ensures, wide_read (first (goal.at.returns c).After-struct_told-1), wide_read s.ranges.b, to_z-of_z (prod_fits s.args.a.word s.args.b (first (goal.at.returns c).After-struct_told-1) s.ranges.b), or_no s.args.a.wrapped)
