@@ -30,6 +30,6 @@ returns-in-Refused c = let a = c.args in
     λ tox toy. there_refused a.half a.first a.second (entry (goal.at.returns-in-Refused c).Start tox toy) (to_z-of_z c.ranges.half) c.move_of-there.ensures c.apply_in-call.ensures c.in-Refused.is
 
 pub returns-in-Done : goal.returns-in-Done
-returns-in-Done c = let n : tie.After-move-of2 = search c in let g = n.before in let a = c.args in
+returns-in-Done c = let a = c.args in
     λ tox toy. both_moved a.half a.first a.second (entry (goal.at.returns-in-Done c).Start tox toy) (to_z-of_z c.ranges.half) c.move_of-there.ensures c.apply_in-call.ensures c.in-Done.is
-    (back32 g.wrapping-neg.result g.wrapping-neg.ok ∙ g.wrapping-neg.ensures) n.move-of2.ensures c.apply_in.ensures
+    (back32 c.wrapping_neg.result c.wrapping_neg.type_inv ∙ c.wrapping_neg.ensures) c.move_of-back.ensures c.apply_in.ensures
