@@ -129,7 +129,7 @@ def refusals(log):
         if sought:
             own += [(sought.group(1), name) for name in re.findall(r"`([^`]+)`", sought.group(2).split(";")[0])]
             continue
-        if "has no `Need-" in line:
+        if re.search(r"\.(?:Goals|Given)` has no `", line):
             unfit.append(line[:160])
             continue
         found = re.match(r"(?:.*/)?((?:proofs|specs|src)/\S+?):\d+:\d+: error: (?:`([^`]+)`: )?(.*)", line)
