@@ -11,31 +11,27 @@ use Rattle.iup.proofs.Spans.{part, walked}
 use Rattle.iup.proofs.Walks.{next_part, came, over}
 use Rattle.iup.specs.Contour.{points_of}
 use Rattle.iup.proofs.iup.Goals as goal
-use Rattle.iup.proofs.iup.Goals.{After-past-end}
-
--- ---- places of the walk
-abbrev started : tie.After-touch-bit → tie.Start
-started c = c.before.before.before
-
-abbrev head : tie.After-past → tie.At-loop
-head c = c.before.before.before
+use Rattle.iup.proofs.iup.Goals.{After-past-end, After-touch_bit-mask}
 
 -- the mask is the axis's, from the start
-whole : (c : goal.After-touch_bit-mask) → let a = (started c).args in
+whole : (c : After-touch_bit-mask) → let a = c.args in
     let cs = a.current.now in Shown c.touch_bit-mask.result a.flags.now a.unscaled.now a.original.now cs (points_of c.touch_bit-mask.result a.flags.now a.unscaled.now a.original.now cs)
 whole c = let s = c in
     let a = s.args in shown c.touch_bit-mask.result a.flags.now a.unscaled.now a.original.now a.current.now s.requires.0 s.requires.1 s.requires.2
 
 -- a contour's part lies within all four lists
 bounds :
-    (c : goal.After-past-end) →
-    let h = head c in let v = h.loop in let s = started h.before in let at = v.at in let e = c.past-end.result in
+    (c : After-past-end) →
+    let h = c in let v = h.loop-k in let s = h in let at = v.at in let e = c.past-end.result in
     (at ≤ e) × (e ≤ length s.args.unscaled.now) × (e ≤ length s.args.original.now) × (e ≤ length s.args.flags.now) × Fits w64 (at * 4) × (e ≤ length v.current)
 bounds c =
+    let whole : (let a = c.args in
+    let cs = a.current.now in Shown c.touch_bit-mask.result a.flags.now a.unscaled.now a.original.now cs (points_of c.touch_bit-mask.result a.flags.now a.unscaled.now a.original.now cs)) = (let s = c in
+    let a = s.args in shown c.touch_bit-mask.result a.flags.now a.unscaled.now a.original.now a.current.now s.requires.0 s.requires.1 s.requires.2) in
     let i = c in let l = c in let t = c in
     let s = c in let v = l.loop-k in
     let (g, w, r) = next_part v.invariant i.loop-k-test.true c.past-end.ensures in
-    let (p0, p1, p2, p3, p4) = part v.at c.past-end.result g w (v.invariant.size ∙ sym (whole t).size) s.requires.0 s.requires.1 s.requires.2 s.good.0.1 in
+    let (p0, p1, p2, p3, p4) = part v.at c.past-end.result g w (v.invariant.size ∙ sym whole.size) s.requires.0 s.requires.1 s.requires.2 s.well_formed.0.1 in
     (p0, p1, p2, p3, p4, w)
 
 pub loop-k-init : goal.loop-k-init
@@ -48,11 +44,23 @@ offset_bounds-unscaled-at c = (bounds c).4
 pub slice_bounds-contour-count : goal.slice_bounds-contour-count
 slice_bounds-contour-count c = (bounds c).0
 
+pub slice_bounds-contour-start : goal.slice_bounds-contour-start
+slice_bounds-contour-start c = (bounds c).0
+
+pub slice_bounds-contour-end : goal.slice_bounds-contour-end
+slice_bounds-contour-end c = (bounds c).1
+
 pub offset_bounds-original-at : goal.offset_bounds-original-at
 offset_bounds-original-at c = (bounds (goal.at.offset_bounds-original-at c).After-past-end).4
 
 pub slice_bounds-contour-count-in-loop-k : goal.slice_bounds-contour-count-in-loop-k
 slice_bounds-contour-count-in-loop-k c = (bounds (goal.at.slice_bounds-contour-count-in-loop-k c).After-past-end).0
+
+pub slice_bounds-contour-start-in-loop-k : goal.slice_bounds-contour-start-in-loop-k
+slice_bounds-contour-start-in-loop-k c = (bounds (goal.at.slice_bounds-contour-start-in-loop-k c).After-past-end).0
+
+pub slice_bounds-contour-end-in-loop-k : goal.slice_bounds-contour-end-in-loop-k
+slice_bounds-contour-end-in-loop-k c = (bounds (goal.at.slice_bounds-contour-end-in-loop-k c).After-past-end).2
 
 pub offset_bounds-current-at : goal.offset_bounds-current-at
 offset_bounds-current-at c = (bounds (goal.at.offset_bounds-current-at c).After-past-end).4
@@ -60,14 +68,26 @@ offset_bounds-current-at c = (bounds (goal.at.offset_bounds-current-at c).After-
 pub slice_bounds-contour-count-in-loop-k-2 : goal.slice_bounds-contour-count-in-loop-k-2
 slice_bounds-contour-count-in-loop-k-2 c = (bounds (goal.at.slice_bounds-contour-count-in-loop-k-2 c).After-past-end).0
 
+pub slice_bounds-contour-start-in-loop-k-2 : goal.slice_bounds-contour-start-in-loop-k-2
+slice_bounds-contour-start-in-loop-k-2 c = (bounds (goal.at.slice_bounds-contour-start-in-loop-k-2 c).After-past-end).0
+
+pub slice_bounds-contour-end-in-loop-k-2 : goal.slice_bounds-contour-end-in-loop-k-2
+slice_bounds-contour-end-in-loop-k-2 c = (bounds (goal.at.slice_bounds-contour-end-in-loop-k-2 c).After-past-end).5
+
 pub slice_bounds-contour-count-in-loop-k-3 : goal.slice_bounds-contour-count-in-loop-k-3
 slice_bounds-contour-count-in-loop-k-3 c = (bounds (goal.at.slice_bounds-contour-count-in-loop-k-3 c).After-past-end).0
+
+pub slice_bounds-contour-start-in-loop-k-3 : goal.slice_bounds-contour-start-in-loop-k-3
+slice_bounds-contour-start-in-loop-k-3 c = (bounds (goal.at.slice_bounds-contour-start-in-loop-k-3 c).After-past-end).0
+
+pub slice_bounds-contour-end-in-loop-k-3 : goal.slice_bounds-contour-end-in-loop-k-3
+slice_bounds-contour-end-in-loop-k-3 c = (bounds (goal.at.slice_bounds-contour-end-in-loop-k-3 c).After-past-end).3
 
 pub loop-k-preserved : goal.loop-k-preserved
 loop-k-preserved c = let l = c in let turn = c in
     let t = c in let s = c in let a = s.args in
     let p = c in let k = c in
-    over t.touch_bit-mask.result a.flags.now a.unscaled.now a.original.now a.current.now s.requires.0 s.requires.1 s.requires.2 l.loop-k.invariant turn.loop-k-test.true p.past-end.ensures k.contour.ensures k.contour.kept.1.1.0
+    over t.touch_bit-mask.result a.flags.now a.unscaled.now a.original.now a.current.now s.requires.0 s.requires.1 s.requires.2 l.loop-k.invariant turn.loop-k-test.true p.past-end.ensures k.contour.ensures k.contour.auto.current
 
 pub returns : goal.returns
 returns c = let s = c in let t = c in let a = s.args in
