@@ -12,8 +12,9 @@ use lib.Signed.{mag, nat_abs-le, quot_z}
 use Rattle.int.proofs.Ints.{mag_add, mag_neg, mag_mul, mag_quot}
 use Rattle.super_round.specs.Selector.{threshold_by}
 use Rattle.super_round.proofs.threshold_by.Goals as goal
+use Rattle.super_round.proofs.threshold_by.Goals.{Start}
 
-module _ (s : goal.Then-field-eq0) where
+module _ (s : Start) where
   -- what the casts give back
   period_is : to_z w32 s.args.period ≡ pos s.args.period
   period_is = to_z_pos w32 (omega (arith, s.requires.1.0))
@@ -48,9 +49,9 @@ module _ (s : goal.Then-field-eq0) where
 
 pub returns-then-field-eq0 : goal.returns-then-field-eq0
 unfolding threshold_by
-returns-then-field-eq0 c = let s = c in rw (eq-eqb s.args.field 0 c.if-field-eq0.true, period_is s) (to_z-of_z (less_one_fits s))
+returns-then-field-eq0 c = let s = c in rw (eq-eqb s.args.field 0 c.if-field-eq0.true, period_is (goal.at.returns-then-field-eq0 c).Start) (to_z-of_z (less_one_fits (goal.at.returns-then-field-eq0 c).Start))
 
 pub returns-else-field-eq0 : goal.returns-else-field-eq0
 unfolding threshold_by
 returns-else-field-eq0 c = let s = c in
-    rw (ne_eqb s.args.field 0 c.if-field-eq0.false, field_is s, period_is s, to_z-of_z (eighths_fit s), to_z-of_z (product_fits s)) (to_z-of_z (quotient_fits s))
+    rw (ne_eqb s.args.field 0 c.if-field-eq0.false, field_is (goal.at.returns-else-field-eq0 c).Start, period_is (goal.at.returns-else-field-eq0 c).Start, to_z-of_z (eighths_fit (goal.at.returns-else-field-eq0 c).Start), to_z-of_z (product_fits (goal.at.returns-else-field-eq0 c).Start)) (to_z-of_z (quotient_fits (goal.at.returns-else-field-eq0 c).Start))

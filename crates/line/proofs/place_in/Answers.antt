@@ -1,0 +1,14 @@
+-- `line::place_in` meets its contract: by the pointer. Assumes nothing.
+use mathlib.Core.Path.{sym, ap, ◌∙◌}
+use Rattle.line.specs.Places.{place_in}
+use Rattle.line.proofs.place_in.Goals as goal
+
+pub returns-in-Glyph : goal.returns-in-Glyph
+unfolding place_in
+returns-in-Glyph c = let e = c in let s = e in
+    c.place_at.ensures ∙ sym (ap (place_in s.args.at s.args.gx.now s.args.gy.now s.args.tx.now s.args.ty.now) e.in-Glyph.is)
+
+pub returns-in-Twilight : goal.returns-in-Twilight
+unfolding place_in
+returns-in-Twilight c = let e = c in let s = e in
+    c.place_at-in-Twilight.ensures ∙ sym (ap (place_in s.args.at s.args.gx.now s.args.gy.now s.args.tx.now s.args.ty.now) e.in-Twilight.is)
