@@ -40,6 +40,12 @@ def made(name):
     return ROOT / "crates" / name / "out/rlib" / f"{name}.rlib"
 
 
+def left_by_ci(name):
+    """Whether the libraries below a crate are those that rt ci made. It puts what earlier checks had made back in their place, which have a stamp, and may be of
+    another text: rt sees that."""
+    return not any((made(one).parent / "stamp").exists() for one in order_of(name)[:-1])
+
+
 def words(verb, name):
     """The words by which rt calls the prover on a crate, to be said in its folder or in a copy of it."""
     kit = home()

@@ -38,7 +38,11 @@ def version():
 
 
 def build_library():
-    """Builds the static library, which rt ci proves and doesn't build, over the libraries that rt ci has just left beside their crates."""
+    """Builds the static library, which rt ci proves and doesn't build, over the libraries that rt ci has just left beside their crates; where it put older ones back,
+    rt does it."""
+    if not kit.left_by_ci(LIBRARY):
+        programs.build(LIBRARY, "rt ci proves the static library, and doesn't build it")
+        return
     programs.built(LIBRARY).parent.mkdir(exist_ok=True)
     words = kit.words("build", LIBRARY) + ["--toolchain", kit.home() / "toolchain", "--backend", "llvm", "-o", programs.built(LIBRARY)]
     ran = subprocess.run(words, cwd=ROOT / "crates" / LIBRARY, stdin=subprocess.DEVNULL, stdout=subprocess.PIPE, stderr=subprocess.STDOUT)

@@ -127,10 +127,12 @@ def kept_at():
 
 
 class Prover:
-    """Calls the prover on a crate with some texts replaced. What it begins with is what `rt check` left of the crate, or else a check of the crate as it stands."""
+    """Calls the prover on a crate with some texts replaced, over the libraries that rt ci has just made, or else those that `rt check` sees to. What it begins with is
+    what `rt check` left of the crate, or else a check of the crate as it stands."""
 
-    def __init__(self, crate, made):
+    def __init__(self, crate, made, after_ci):
         self.crate, self.made, self.stamp, self.begun, self.count = crate, made, stamp_of(crate), None, 0
+        self.is_ready = after_ci and kit.left_by_ci(crate)
 
     def says(self, pairs):
         """What the prover says of the crate with these replacements."""
@@ -156,6 +158,11 @@ class Prover:
         return said
 
     def said_of(self, texts):
+        if not self.is_ready:
+            ran = subprocess.run(["rt", "check"], cwd=ROOT / "crates" / self.crate, stdin=subprocess.DEVNULL, stdout=subprocess.PIPE, stderr=subprocess.STDOUT)
+            if ran.returncode:
+                raise calls.Bad(f"{self.crate}: rt check fails: {ran.stdout.decode(errors='replace').splitlines()[-3:]}")
+            self.is_ready = True
         self.count += 1
         place = self.made / f"{self.crate}.{self.count}"
         for path in texts_of(self.crate):
@@ -181,7 +188,7 @@ class Prover:
     def begin(self):
         if self.begun is None:
             found = ROOT / "crates" / self.crate / "out/incremental"
-            if not found.is_dir():
+            if not found.is_dir() or not any(found.iterdir()):
                 self.said_of({})
                 found = self.made / f"{self.crate}.{self.count}.work"
             self.begun = found
@@ -204,10 +211,10 @@ def jobs():
     return max(1, min(len(os.sched_getaffinity(0)), int(free.group(1)) // (EACH_TAKES << 20) if free else 1))
 
 
-def for_each(work, crates, most=None):
+def for_each(work, crates, most=None, after_ci=False):
     """What work comes to for each crate, given its prover, in the crates' order."""
     with tempfile.TemporaryDirectory() as made, concurrent.futures.ThreadPoolExecutor(most or jobs()) as pool:
-        running = [pool.submit(work, crate, Prover(crate, pathlib.Path(made))) for crate in crates]
+        running = [pool.submit(work, crate, Prover(crate, pathlib.Path(made), after_ci)) for crate in crates]
         yield from ((crate, one.result()) for crate, one in zip(crates, running))
     shrink()
 
