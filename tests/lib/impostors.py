@@ -128,7 +128,7 @@ def kept_at():
 
 class Prover:
     """Calls the prover on a crate with some texts replaced, over the libraries that rt ci has just made, or else those that `rt check` sees to. What it begins with is
-    what `rt check` left of the crate, or else a check of the crate as it stands."""
+    what `rt check` left of the crate, or else what the first text's check proved."""
 
     def __init__(self, crate, made, after_ci):
         self.crate, self.made, self.stamp, self.begun, self.count = crate, made, stamp_of(crate), None, 0
@@ -172,26 +172,26 @@ class Prover:
         for file, text in texts.items():
             (place / file).write_text(text)
         beside = place.with_name(place.name + ".work")
-        if texts:
-            shutil.copytree(self.begin(), beside, copy_function=linked)
+        if self.begin():
+            shutil.copytree(self.begun, beside, copy_function=linked)
+        else:
+            beside.mkdir()
         ran = subprocess.run(kit.words("check", self.crate) + ["--incremental", beside], cwd=place, stdin=subprocess.DEVNULL, stdout=subprocess.PIPE, stderr=subprocess.STDOUT)
         said = ran.stdout.decode(errors="replace")
-        if texts:
+        if self.begun:
             shutil.rmtree(beside)
-        elif ran.returncode:
-            raise calls.Bad(f"{self.crate} isn't proved as it stands: {said.splitlines()[-1:]}")
+        else:
+            self.begun = beside
         shutil.rmtree(place)
         if ran.returncode not in (0, 1) or not re.search(r"^logic=|: error", said, re.M):
             raise calls.Bad(f"{self.crate}: the prover gave no verdict, status {ran.returncode}: {said.splitlines()[-3:]}")
         return said
 
     def begin(self):
+        """The work that is kept; there is none before the first text where `rt check` left none."""
         if self.begun is None:
             found = ROOT / "crates" / self.crate / "out/incremental"
-            if not found.is_dir() or not any(found.iterdir()):
-                self.said_of({})
-                found = self.made / f"{self.crate}.{self.count}.work"
-            self.begun = found
+            self.begun = found if found.is_dir() and any(found.iterdir()) else None
         return self.begun
 
 
