@@ -26,6 +26,7 @@ use record_replay::refuse;
 use record_run::Replayed;
 use record_write::write;
 use rules::Rules;
+use std::io::Stdin;
 
 // What is said at the end, and whether the input could not be read to its end: then nothing else is promised.
 #[derive(Clone, Copy)]
@@ -149,6 +150,7 @@ fn is_unread(next: Next) -> bool
 // A proved loop has to end, and nothing says that the input does: the blocks' count is of 64 bits, and no input has so many of them. The first `first`
 // words of `words` are the first piece.
 pub fn feed_arriving(
+    stdin: Stdin,
     rules: Rules,
     most: usize,
     l: Layout,
@@ -211,7 +213,7 @@ pub fn feed_arriving(
         );
         lines += c.lines;
         let said = c.said;
-        next = next_words(said.is_open(), next.begun, block, words);
+        next = next_words(stdin, said.is_open(), next.begun, block, words);
         turns = turns_left(turns, next.more);
     }
     let said = finish(

@@ -5,7 +5,7 @@ use Prim.Native.Nat.{◌*◌, ◌+◌, ◌-◌, ◌/◌, ◌%◌, ◌<◌, ◌�
 use native.Mathlib.Omega.{arith}
 use lib.IntN.{ℤ}
 use lib.ListN.{drop, get_or, length, length-drop, length-set, set, take, take-append-drop}
-use lib.Seq.{drop_at, drop-drop, drop-set-lt, get_or-drop, length-take-le, take-add, take_at, take-suc, take-suc-set, take-take}
+use lib.Seq.{drop_at, drop-drop, drop-set-lt, get_or-drop, length-take-le, take-add, take_at, take-suc, take-suc-set}
 use Rattle.int.specs.Word.{of_bits}
 use Rattle.words.specs.Lists.{numbers_of, part}
 use Rattle.words.proofs.Parts.{mapped_length}

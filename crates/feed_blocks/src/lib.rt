@@ -9,7 +9,7 @@ ghost use Rattle.std.specs.Prelude.{false, true, ◌≡◌, ◌*◌, ◌+◌, �
 ghost use Rattle.feed_blocks.specs.Blocks.{Came, begun_in, words_in};
 ghost use Rattle.feed_blocks.specs.Steps.{Kept};
 
-use libc::STDIN_FILENO;
+use std::io::{Read, Stdin};
 use words::load_numbers;
 
 // So many bytes are read at once at most, and so many words they are.
@@ -34,20 +34,26 @@ struct Filled {
 }
 
 // One read behind the first bytes of a block, which stay.
-fn read_behind(block: &mut [u8], begun: usize) -> Filled
+fn read_behind(mut stdin: Stdin, block: &mut [u8], begun: usize) -> Filled
     requires { begun ≤ length block.old }
     ensures begun_le_size { begun ≤ result.size }
     ensures size_in_bounds { result.size ≤ length block.old }
     ensures block_unchanged { take begun block.new ≡ take begun block.old }
 {
-    let got = libc::read(STDIN_FILENO, &mut block[begun..]);
-    Filled {
-        size: begun + io::count(got, &block[begun..]),
-        failed: got < 0,
+    match stdin.read(&mut block[begun..]) {
+        Ok(got) => Filled {
+            size: begun + got,
+            failed: false,
+        },
+        Err(_) => Filled {
+            size: begun,
+            failed: true,
+        },
     }
 }
 
 // Bytes of a block from a place on to its front.
+#[tactic(auto, using(crate::proofs::Bytes::forward_end, crate::proofs::Bytes::forward_start))]
 fn bring_forward(block: &mut [u8], from: usize, count: usize)
     requires { from + count ≤ length block.old }
     ensures { take count block.new ≡ take count (drop from block.old) }
@@ -60,6 +66,7 @@ fn bring_forward(block: &mut [u8], from: usize, count: usize)
 }
 
 // The words of a block's first bytes to the front of `words`, and the bytes behind them to its own front; how many words there are.
+#[tactic(auto, using(crate::proofs::Bytes::brought, crate::proofs::Bytes::loaded))]
 fn take_words(block: &mut [u8], size: usize, words: &mut [i32]) -> usize
     requires size_in_bounds { size ≤ length block.old }
     requires size_in_bounds_2 { size / 4 ≤ length words.old }
@@ -74,7 +81,13 @@ fn take_words(block: &mut [u8], size: usize, words: &mut [i32]) -> usize
 }
 
 // The next words, where `wanted`: the input is read once. Where no more can come the bytes of a word that is begun stay as many.
-pub fn next_words(wanted: bool, begun: usize, block: &mut [u8], words: &mut [i32]) -> Next
+pub fn next_words(
+    stdin: Stdin,
+    wanted: bool,
+    begun: usize,
+    block: &mut [u8],
+    words: &mut [i32],
+) -> Next
     requires begun_bound { begun ≤ 3 }
     requires block_len { length block.old ≡ 65536 }
     requires words_len { length words.old ≡ 16384 }
@@ -91,7 +104,7 @@ pub fn next_words(wanted: bool, begun: usize, block: &mut [u8], words: &mut [i32
             failed: false,
         };
     }
-    let filled = read_behind(block, begun);
+    let filled = read_behind(stdin, block, begun);
     if filled.size == begun {
         return Next {
             begun,

@@ -11,6 +11,7 @@ ghost use Rattle.feed_print.specs.Print.{FedPrint};
 use feed_record::feed_within;
 use record_print::{RECORD_ROOM, TEXT_ROOM, put_answer, put_points};
 use rules::Rules;
+use std::io::Stdin;
 
 // How many bytes are printed, and whether the input could not be read to its end: then none are.
 #[derive(Clone, Copy)]
@@ -19,12 +20,12 @@ pub struct Printed {
     pub failed: bool,
 }
 
-pub fn print_fed(rules: Rules, bytes: &[u8], text: &mut [u8; TEXT_ROOM]) -> Printed
+pub fn print_fed(stdin: Stdin, rules: Rules, bytes: &[u8], text: &mut [u8; TEXT_ROOM]) -> Printed
     ensures front { Front result.size text.new }
     ensures fed_print { result.failed ≡ false → FedPrint rules bytes.now text.old result.size text.new }
 {
     let mut out = [0u8; RECORD_ROOM];
-    let told = feed_within(rules, RECORD_ROOM, bytes, &mut out);
+    let told = feed_within(stdin, rules, RECORD_ROOM, bytes, &mut out);
     if told.failed {
         return Printed {
             size: 0,

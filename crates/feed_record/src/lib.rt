@@ -29,6 +29,7 @@ use record_read::{Opened, lay_out, load_state, open};
 use record_replay::{LIST_ROOM, POINT_ROOM, TWILIGHT_ROOM, refuse};
 use record_run::Replayed;
 use rules::Rules;
+use std::io::Stdin;
 
 // The layout of the newest edition, with the counts of another's and no sheet.
 fn without_sheet(l: Layout) -> Layout
@@ -39,6 +40,7 @@ fn without_sheet(l: Layout) -> Layout
 
 // A feed over what lines only read; what they change is loaded here, and the first piece.
 fn feed_over(
+    stdin: Stdin,
     rules: Rules,
     most: usize,
     bytes: &[u8],
@@ -81,6 +83,7 @@ fn feed_over(
     let first = wide(l.words);
     let s = load_state(bytes);
     feed_arriving(
+        stdin,
         rules,
         most,
         without_sheet(l),
@@ -108,7 +111,14 @@ fn feed_over(
 }
 
 // A feed to a whole record; what lines only read is loaded here.
-fn feed_whole(rules: Rules, most: usize, bytes: &[u8], l: Layout, out: &mut [u8]) -> Told
+fn feed_whole(
+    stdin: Stdin,
+    rules: Rules,
+    most: usize,
+    bytes: &[u8],
+    l: Layout,
+    out: &mut [u8],
+) -> Told
     requires points_le_point_room { l.points ≤ point_room }
     requires contours_le_list_room { l.contours ≤ list_room }
     requires twilight_le_twilight_room { l.twilight ≤ twilight_room }
@@ -132,6 +142,7 @@ fn feed_whole(rules: Rules, most: usize, bytes: &[u8], l: Layout, out: &mut [u8]
     let mut contours = [0u16; LIST_ROOM];
     ends_in(bytes, l, ENDS, &mut contours);
     feed_over(
+        stdin,
         rules,
         most,
         bytes,
@@ -157,12 +168,12 @@ fn told(said: Replayed) -> Told
 
 // A record fed from standard input: the answer, and the record as it then stands at the front of `out`, without a sheet, where it has at most `most`
 // bytes and there is room for it.
-pub fn feed_within(rules: Rules, most: usize, bytes: &[u8], out: &mut [u8]) -> Told
+pub fn feed_within(stdin: Stdin, rules: Rules, most: usize, bytes: &[u8], out: &mut [u8]) -> Told
     ensures { result.failed ≡ false → FedRecord rules most bytes.now out.old (shelved result.said out.new) }
 {
     let opened = open(bytes);
     match opened {
         Opened::Damaged(why) => told(refuse(why.number())),
-        Opened::Whole(l) => feed_whole(rules, most, bytes, l, out),
+        Opened::Whole(l) => feed_whole(stdin, rules, most, bytes, l, out),
     }
 }

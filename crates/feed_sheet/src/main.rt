@@ -15,16 +15,17 @@ use record_frames::{LENGTH_SIZE, RECORD_ROOM, kept_of, length_in};
 use record_io::{chosen_rules, read_input, say_no_such_rules, say_unread, write_output};
 use record_print::TEXT_ROOM;
 use rules::{Named, Rules};
+use std::io::Stdin;
 
-fn print_sheet(rules: Rules, record: &[u8]) {
+fn print_sheet(rt: &(impl Print + Eprint), stdin: Stdin, rules: Rules, record: &[u8]) {
     let mut text = [0u8; TEXT_ROOM];
-    let printed = print_fed(rules, record, &mut text);
+    let printed = print_fed(stdin, rules, record, &mut text);
     if printed.failed {
-        say_unread();
+        say_unread(rt);
         return;
     }
     let size = printed.size;
-    write_output(&text[..size]);
+    write_output(rt, &text[..size]);
 }
 
 // How many bytes of the record are to be read, after so many bytes of its length.
@@ -45,28 +46,28 @@ fn whole_of(read: usize, wanted: usize) -> usize
     if read == wanted { wanted } else { 0 }
 }
 
-fn feed_sheet(rules: Rules) {
+fn feed_sheet(rt: &(impl Print + Eprint), stdin: Stdin, rules: Rules) {
     let mut head = [0u8; LENGTH_SIZE];
-    let front = read_input(&mut head);
+    let front = read_input(stdin, &mut head);
     if front.failed {
-        say_unread();
+        say_unread(rt);
         return;
     }
     let wanted = bytes_of(front.size, &head);
     let mut bytes = [0u8; RECORD_ROOM];
-    let input = read_input(&mut bytes[..wanted]);
+    let input = read_input(stdin, &mut bytes[..wanted]);
     if input.failed {
-        say_unread();
+        say_unread(rt);
         return;
     }
     let size = whole_of(input.size, wanted);
-    print_sheet(rules, &bytes[..size]);
+    print_sheet(rt, stdin, rules, &bytes[..size]);
 }
 
-fn main() {
-    let named = chosen_rules();
+fn main(rt: HostRuntime) {
+    let named = chosen_rules(&rt);
     match named {
-        Named::Known(rules) => feed_sheet(rules),
-        Named::Unknown => say_no_such_rules(),
+        Named::Known(rules) => feed_sheet(&rt, rt.stdin(), rules),
+        Named::Unknown => say_no_such_rules(&rt),
     }
 }

@@ -4,10 +4,12 @@
 // What is written is written at once, and what is not written whole is said on standard error.
 #![tactic(auto)]
 
-ghost use Rattle.io.specs.Counts.{IsPrefixLen};
+ghost use Rattle.std.specs.Prelude.{◌≡◌, ◌≤◌, length, take};
 
-use libc::{STDERR_FILENO, STDIN_FILENO, STDOUT_FILENO};
 use rules::{Named, Rules, by_name};
+use std::env::FillError;
+use std::io::{Read, Stdin};
+use std::rt::Env;
 
 // One byte more than a record may have, so that a longer one is seen to be too long.
 pub const INPUT_ROOM: usize = 24577;
@@ -16,23 +18,30 @@ pub const INPUT_ROOM: usize = 24577;
 const NAME_ROOM: usize = 32;
 
 // The rules that the program's one argument names; FreeType's, the newest, where it has none.
-pub fn chosen_rules() -> Named {
-    let words = os::arg_count();
-    if words < 2 {
-        return Named::Known(Rules::FreeType);
-    }
-    if words > 2 {
+pub fn chosen_rules(rt: &impl Env) -> Named {
+    if has_arg(rt, 2) {
         return Named::Unknown;
     }
     let mut name = [0u8; NAME_ROOM];
-    let size = os::arg(1, &mut name);
-    by_name(&name[..size])
+    match rt.arg(1, &mut name) {
+        Ok(size) => by_name(&name[..size]),
+        Err(FillError::NotPresent) => Named::Known(Rules::FreeType),
+        Err(FillError::TooLong) => Named::Unknown,
+    }
 }
 
-pub fn say_no_such_rules() {
-    io::write_all(
-        STDERR_FILENO,
-        b"no such rules: the one argument is skrifa or freetype, and none means freetype\n",
+// Whether the program was started with an argument at this place, however long.
+fn has_arg(rt: &impl Env, i: usize) -> bool {
+    let mut word = [0u8; NAME_ROOM];
+    match rt.arg(i, &mut word) {
+        Err(FillError::NotPresent) => false,
+        _ => true,
+    }
+}
+
+pub fn say_no_such_rules(rt: &impl Eprint) {
+    let _ = eprintln!(rt;
+        "no such rules: the one argument is skrifa or freetype, and none means freetype"
     );
 }
 
@@ -44,19 +53,21 @@ pub struct Input {
 }
 
 // Standard input to the front of `bytes`, until it ends or they are full.
-pub fn read_input(bytes: &mut [u8]) -> Input
-    ensures { IsPrefixLen result.size bytes.new }
+pub fn read_input(mut stdin: Stdin, bytes: &mut [u8]) -> Input
+    ensures in_bounds { result.size ≤ length bytes.new }
+    ensures prefix { result.size ≡ length (take result.size bytes.new) }
 {
     let mut size = 0;
     while size < bytes.len() {
-        let got = libc::read(STDIN_FILENO, &mut bytes[size..]);
-        if got < 0 {
-            return Input {
-                size: 0,
-                failed: true,
-            };
-        }
-        let more = io::count(got, &bytes[size..]);
+        let more = match stdin.read(&mut bytes[size..]) {
+            Ok(more) => more,
+            Err(_) => {
+                return Input {
+                    size: 0,
+                    failed: true,
+                };
+            }
+        };
         if more == 0 {
             return Input {
                 size,
@@ -71,12 +82,12 @@ pub fn read_input(bytes: &mut [u8]) -> Input
     }
 }
 
-pub fn say_unread() {
-    io::write_all(STDERR_FILENO, b"standard input cannot be read\n");
+pub fn say_unread(rt: &impl Eprint) {
+    let _ = eprintln!(rt; "standard input cannot be read");
 }
 
-pub fn write_output(bytes: &[u8]) {
-    if !io::write_all(STDOUT_FILENO, bytes) {
-        io::write_all(STDERR_FILENO, b"standard output was not written whole\n");
+pub fn write_output(rt: &(impl Print + Eprint), bytes: &[u8]) {
+    if rt.write_all(bytes).is_err() {
+        let _ = eprintln!(rt; "standard output was not written whole");
     }
 }

@@ -10,28 +10,29 @@ use record_io::{
 };
 use record_print::{TEXT_ROOM, print};
 use rules::{Named, Rules};
+use std::io::Stdin;
 
-fn print_record(rules: Rules, bytes: &[u8]) {
+fn print_record(rt: &(impl Print + Eprint), rules: Rules, bytes: &[u8]) {
     let mut text = [0u8; TEXT_ROOM];
     let size = print(rules, bytes, &mut text);
-    write_output(&text[..size]);
+    write_output(rt, &text[..size]);
 }
 
-fn print_input(rules: Rules) {
+fn print_input(rt: &(impl Print + Eprint), stdin: Stdin, rules: Rules) {
     let mut bytes = [0u8; INPUT_ROOM];
-    let input = read_input(&mut bytes);
+    let input = read_input(stdin, &mut bytes);
     if input.failed {
-        say_unread();
+        say_unread(rt);
         return;
     }
     let size = input.size;
-    print_record(rules, &bytes[..size]);
+    print_record(rt, rules, &bytes[..size]);
 }
 
-fn main() {
-    let named = chosen_rules();
+fn main(rt: HostRuntime) {
+    let named = chosen_rules(&rt);
     match named {
-        Named::Known(rules) => print_input(rules),
-        Named::Unknown => say_no_such_rules(),
+        Named::Known(rules) => print_input(&rt, rt.stdin(), rules),
+        Named::Unknown => say_no_such_rules(&rt),
     }
 }

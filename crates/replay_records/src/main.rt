@@ -11,12 +11,12 @@
 ghost use Rattle.std.specs.Prelude.{◌+◌, ◌-◌, ◌≤◌, length};
 ghost use Rattle.replay_records.specs.Block.{Within};
 
-use libc::{STDERR_FILENO, STDIN_FILENO, STDOUT_FILENO};
 use record_frames::{
     FRAME_ROOM, LENGTH_SIZE, RECORD_ROOM, answer_frame, append, kept_of, length_in,
 };
 use record_io::{chosen_rules, say_no_such_rules};
 use rules::{Named, Rules};
+use std::io::{Read, Stdin};
 
 // So much is read at once.
 const BLOCK_ROOM: usize = 65536;
@@ -26,12 +26,6 @@ const ANSWERS_ROOM: usize = 65536;
 
 // With more than this there may be no room for one more frame.
 const FULL: usize = ANSWERS_ROOM - FRAME_ROOM;
-
-// No number of 64 bits has more.
-const DIGITS: usize = 20;
-
-// Longer than any line on standard error.
-const LINE_ROOM: usize = 64;
 
 // ---- input
 // What was read and not yet used lies in the block from `at` to `end`; `failed` says of an empty one that a read failed, and not that the input has ended.
@@ -57,7 +51,7 @@ fn least(a: usize, b: usize) -> usize
 }
 
 // The next block, where all of this one is used.
-fn refill(block: &mut [u8; BLOCK_ROOM], reader: Reader) -> Reader
+fn refill(mut stdin: Stdin, block: &mut [u8; BLOCK_ROOM], reader: Reader) -> Reader
     requires { Within reader }
     ensures { Within result }
 {
@@ -65,11 +59,17 @@ fn refill(block: &mut [u8; BLOCK_ROOM], reader: Reader) -> Reader
         return reader;
     }
     let bytes: &mut [u8] = block;
-    let got = libc::read(STDIN_FILENO, bytes);
-    Reader {
-        at: 0,
-        end: io::count(got, bytes),
-        failed: got < 0,
+    match stdin.read(bytes) {
+        Ok(end) => Reader {
+            at: 0,
+            end,
+            failed: false,
+        },
+        Err(_) => Reader {
+            at: 0,
+            end: 0,
+            failed: true,
+        },
     }
 }
 
@@ -89,7 +89,7 @@ fn take_some(block: &[u8; BLOCK_ROOM], reader: Reader, piece: &mut [u8], size: u
 }
 
 // Input to a piece, until it is full or the input ends.
-fn read_part(block: &mut [u8; BLOCK_ROOM], from: Reader, piece: &mut [u8]) -> Part
+fn read_part(stdin: Stdin, block: &mut [u8; BLOCK_ROOM], from: Reader, piece: &mut [u8]) -> Part
     requires { Within from }
     ensures within { Within result.reader }
     ensures size_in_bounds { result.size ≤ length piece.new }
@@ -97,7 +97,7 @@ fn read_part(block: &mut [u8; BLOCK_ROOM], from: Reader, piece: &mut [u8]) -> Pa
     let mut reader = from;
     let mut size = 0;
     while size < piece.len() {
-        reader = refill(block, reader);
+        reader = refill(stdin, block, reader);
         let here = take_some(block, reader, piece, size);
         if here == 0 {
             return Part { reader, size };
@@ -109,14 +109,14 @@ fn read_part(block: &mut [u8; BLOCK_ROOM], from: Reader, piece: &mut [u8]) -> Pa
 }
 
 // So many bytes of input passed over, or as many as there are.
-fn pass_over(block: &mut [u8; BLOCK_ROOM], from: Reader, count: usize) -> Part
+fn pass_over(stdin: Stdin, block: &mut [u8; BLOCK_ROOM], from: Reader, count: usize) -> Part
     requires { Within from }
     ensures { Within result.reader }
 {
     let mut reader = from;
     let mut size = 0;
     while size < count {
-        reader = refill(block, reader);
+        reader = refill(stdin, block, reader);
         let here = least(reader.end - reader.at, count - size);
         if here == 0 {
             return Part { reader, size };
@@ -165,7 +165,13 @@ fn broken(reader: Reader) -> Frame
 }
 
 // What a length announces. Of a record that is too long only so much is kept as says so.
-fn read_record(block: &mut [u8; BLOCK_ROOM], from: Reader, size: u32, bytes: &mut [u8]) -> Frame
+fn read_record(
+    stdin: Stdin,
+    block: &mut [u8; BLOCK_ROOM],
+    from: Reader,
+    size: u32,
+    bytes: &mut [u8],
+) -> Frame
     requires within { Within from }
     requires in_bounds { 24577 ≤ length bytes.old }
     ensures within_2 { Within result.reader }
@@ -173,12 +179,12 @@ fn read_record(block: &mut [u8; BLOCK_ROOM], from: Reader, size: u32, bytes: &mu
 {
     let all = size as usize;
     let kept = kept_of(size);
-    let part = read_part(block, from, &mut bytes[..kept]);
+    let part = read_part(stdin, block, from, &mut bytes[..kept]);
     let reader = part.reader;
     if part.size < kept {
         return broken(reader);
     }
-    let rest = pass_over(block, reader, all - kept);
+    let rest = pass_over(stdin, block, reader, all - kept);
     let behind = rest.reader;
     if rest.size < all - kept {
         return broken(behind);
@@ -190,16 +196,21 @@ fn read_record(block: &mut [u8; BLOCK_ROOM], from: Reader, size: u32, bytes: &mu
     }
 }
 
-fn read_frame(block: &mut [u8; BLOCK_ROOM], from: Reader, record: &mut [u8; RECORD_ROOM]) -> Frame
+fn read_frame(
+    stdin: Stdin,
+    block: &mut [u8; BLOCK_ROOM],
+    from: Reader,
+    record: &mut [u8; RECORD_ROOM],
+) -> Frame
     requires { Within from }
     ensures within { Within result.reader }
     ensures size_bound { result.size ≤ 24577 }
 {
     let mut head = [0u8; LENGTH_SIZE];
-    let part = read_part(block, from, &mut head);
+    let part = read_part(stdin, block, from, &mut head);
     let reader = part.reader;
     if part.size == LENGTH_SIZE {
-        return read_record(block, reader, length_in(&head), record);
+        return read_record(stdin, block, reader, length_in(&head), record);
     }
     if part.size == 0 && !reader.failed {
         return Frame {
@@ -213,34 +224,26 @@ fn read_frame(block: &mut [u8; BLOCK_ROOM], from: Reader, record: &mut [u8; RECO
 
 // ---- output
 // The first answers written out; whether they were written whole.
-fn write_answers(answers: &[u8; ANSWERS_ROOM], size: usize) -> bool
+fn write_answers(rt: &(impl Print + Eprint), answers: &[u8; ANSWERS_ROOM], size: usize) -> bool
     requires { size ≤ 65536 }
 {
     let bytes: &[u8] = answers;
-    let written = io::write_all(STDOUT_FILENO, &bytes[..size]);
+    let written = rt.write_all(&bytes[..size]).is_ok();
     if !written {
-        io::write_all(STDERR_FILENO, b"standard output was not written whole\n");
+        let _ = eprintln!(rt; "standard output was not written whole");
     }
     written
 }
 
 // One line, written at once: other processes may write to the same place.
-fn say_at(frame: u64, what: &[u8])
-    requires { length what.now ≤ 38 }
-{
-    let mut line = [0u8; LINE_ROOM];
-    let mut digits = [0u8; DIGITS];
-    let count = least(io::decimal(frame, &mut digits), DIGITS);
-    let named = append(b"frame ", &mut line, 0);
-    let numbered = append(&digits[..count], &mut line, named);
-    let size = append(what, &mut line, numbered);
-    io::write_all(STDERR_FILENO, &line[..size]);
+fn say_at(rt: &impl Eprint, frame: u64, what: &str) {
+    let _ = eprintln!(rt; "frame {frame}: {what}");
 }
 
-fn say_end(found: Found, frame: u64) {
+fn say_end(rt: &impl Eprint, found: Found, frame: u64) {
     match found {
-        Found::Cut => say_at(frame, b": the input ends within it\n"),
-        Found::Failed => say_at(frame, b": standard input cannot be read\n"),
+        Found::Cut => say_at(rt, frame, "the input ends within it"),
+        Found::Failed => say_at(rt, frame, "standard input cannot be read"),
         _ => {}
     }
 }
@@ -256,6 +259,7 @@ struct Stream {
 
 // A record's answer behind those that wait; all are written once they are many.
 fn answer(
+    rt: &(impl Print + Eprint),
     rules: Rules,
     record: &[u8; RECORD_ROOM],
     size: usize,
@@ -279,7 +283,7 @@ fn answer(
             open: true,
         };
     }
-    let open = write_answers(answers, waiting);
+    let open = write_answers(rt, answers, waiting);
     Stream {
         reader,
         waiting: 0,
@@ -288,6 +292,8 @@ fn answer(
 }
 
 fn answer_next(
+    rt: &(impl Print + Eprint),
+    stdin: Stdin,
     rules: Rules,
     number: u64,
     block: &mut [u8; BLOCK_ROOM],
@@ -301,11 +307,12 @@ fn answer_next(
     ensures waiting_bound_2 { result.waiting ≤ 40956 }
 {
     let waiting = stream.waiting;
-    let frame = read_frame(block, stream.reader, record);
+    let frame = read_frame(stdin, block, stream.reader, record);
     let reader = frame.reader;
     let found = frame.found;
     match found {
         Found::Record => answer(
+            rt,
             rules,
             record,
             frame.size,
@@ -317,8 +324,8 @@ fn answer_next(
             },
         ),
         _ => {
-            write_answers(answers, waiting);
-            say_end(found, number);
+            write_answers(rt, answers, waiting);
+            say_end(rt, found, number);
             Stream {
                 reader,
                 waiting: 0,
@@ -329,7 +336,7 @@ fn answer_next(
 }
 
 // A proved loop has to end, and nothing says that the input does. The frames' count is of 64 bits, and no input has so many of them.
-fn answer_all(rules: Rules) {
+fn answer_all(rt: &(impl Print + Eprint), stdin: Stdin, rules: Rules) {
     let mut block = [0u8; BLOCK_ROOM];
     let mut record = [0u8; RECORD_ROOM];
     let mut answers = [0u8; ANSWERS_ROOM];
@@ -345,14 +352,23 @@ fn answer_all(rules: Rules) {
     let mut number = 0u64;
     while number < u64::MAX && stream.open {
         number += 1;
-        stream = answer_next(rules, number, &mut block, &mut record, &mut answers, stream);
+        stream = answer_next(
+            rt,
+            stdin,
+            rules,
+            number,
+            &mut block,
+            &mut record,
+            &mut answers,
+            stream,
+        );
     }
 }
 
-fn main() {
-    let named = chosen_rules();
+fn main(rt: HostRuntime) {
+    let named = chosen_rules(&rt);
     match named {
-        Named::Known(rules) => answer_all(rules),
-        Named::Unknown => say_no_such_rules(),
+        Named::Known(rules) => answer_all(&rt, rt.stdin(), rules),
+        Named::Unknown => say_no_such_rules(&rt),
     }
 }

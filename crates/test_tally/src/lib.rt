@@ -1,7 +1,10 @@
-// How many of the oracle's answers a program agreed with, and the line that it prints.
+// How many of the oracle's answers a program agreed with, and the line that it prints; and standard input by the piece, for the programs that read rows.
 #![tactic(auto)]
 
-use libc::STDOUT_FILENO;
+ghost use Rattle.std.specs.Prelude.{IfOk, ◌≡◌, ◌≤◌, length, take};
+
+use std::io;
+use std::io::{Read, Stdin};
 
 #[derive(Clone, Copy)]
 pub struct Tally {
@@ -17,22 +20,21 @@ impl Tally {
     pub fn count(self, agreed: bool) -> Tally {
         if agreed {
             Tally {
-                same: std::num::wrapping_add_u64(self.same, 1),
+                same: self.same.wrapping_add(1),
                 other: self.other,
             }
         } else {
             Tally {
                 same: self.same,
-                other: std::num::wrapping_add_u64(self.other, 1),
+                other: self.other.wrapping_add(1),
             }
         }
     }
 
-    pub fn print(self) {
-        io::print_decimal(STDOUT_FILENO, self.same);
-        io::write_all(STDOUT_FILENO, b" rows agree, ");
-        io::print_decimal(STDOUT_FILENO, self.other);
-        io::write_all(STDOUT_FILENO, b" differ\n");
+    pub fn print(self, rt: &impl Print) -> io::Result<()> {
+        let same = self.same;
+        let other = self.other;
+        println!(rt; "{same} rows agree, {other} differ")
     }
 }
 
@@ -41,4 +43,20 @@ impl Tally {
 pub struct Turn {
     pub tally: Tally,
     pub more: bool,
+}
+
+// Standard input to the front of `bytes`, until they are full or it ends; how many bytes were read.
+pub fn read_full(mut stdin: Stdin, bytes: &mut [u8]) -> io::Result<usize>
+    ensures in_bounds { IfOk result (λ n. n ≤ length bytes.new) }
+    ensures prefix { IfOk result (λ n. n ≡ length (take n bytes.new)) }
+{
+    let mut size = 0;
+    while size < bytes.len() {
+        let more = stdin.read(&mut bytes[size..])?;
+        if more == 0 {
+            break;
+        }
+        size += more;
+    }
+    Ok(size)
 }

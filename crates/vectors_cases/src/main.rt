@@ -7,11 +7,12 @@
 // and runs under each of the rules. Room for the lists is made once, and lent.
 #![tactic(auto)]
 
-ghost use Rattle.std.specs.Prelude.{◌<◌, ◌≤◌, length};
+ghost use Rattle.std.specs.Prelude.{IfOk, ◌<◌, ◌≤◌, length};
 
-use libc::STDIN_FILENO;
+use std::io;
+use std::io::Stdin;
 use test_cases::{KIND, word};
-use test_tally::Tally;
+use test_tally::{Tally, read_full};
 
 // Every list of a case has room for one element more than it may have, so that one above its limit is judged too.
 const POINTS: usize = limits::POINTS + 1;
@@ -64,13 +65,13 @@ struct First {
     bytes: usize,
 }
 
-fn read_first() -> First {
+fn read_first(stdin: Stdin) -> io::Result<First> {
     let mut four = [0u8; 4];
-    let bytes = io::read_full(STDIN_FILENO, &mut four);
-    First {
+    let bytes = read_full(stdin, &mut four)?;
+    Ok(First {
         word: word(&four, 0),
         bytes,
-    }
+    })
 }
 
 // The bytes of a case of so many words; one that the room doesn't hold has none.
@@ -82,13 +83,13 @@ fn bytes_of(words: u32, room: usize) -> usize
 }
 
 // The case's bytes after its first word. That word isn't kept: nothing asks for it again.
-fn read_rest(buffer: &mut [u8], end: usize) -> usize
+fn read_rest(stdin: Stdin, buffer: &mut [u8], end: usize) -> io::Result<usize>
     requires { end ≤ length buffer.old }
 {
     if end < 4 {
-        return 0;
+        return Ok(0);
     }
-    io::read_full(STDIN_FILENO, &mut buffer[4..end])
+    read_full(stdin, &mut buffer[4..end])
 }
 
 // A case that was read: where it ends in the buffer; whether there was one, and whether all of it was there. After a case that is cut short nothing
@@ -110,18 +111,18 @@ impl Read {
     }
 }
 
-fn read_case(buffer: &mut [u8]) -> Read
-    ensures { result.end ≤ length buffer.old }
+fn read_case(stdin: Stdin, buffer: &mut [u8]) -> io::Result<Read>
+    ensures { IfOk result (λ r. r.end ≤ length buffer.old) }
 {
-    let first = read_first();
+    let first = read_first(stdin)?;
     let end = bytes_of(first.word, buffer.len());
-    let got = read_rest(buffer, end);
-    let whole = first.bytes == 4 && std::num::wrapping_add_u64(got as u64, 4) == end as u64;
-    Read {
+    let got = read_rest(stdin, buffer, end)?;
+    let whole = first.bytes == 4 && (got as u64).wrapping_add(4) == end as u64;
+    Ok(Read {
         end,
         found: 0 < first.bytes,
         whole,
-    }
+    })
 }
 
 // A proved loop has to end, so the turns are counted down, from more than the input has; after the last case none is left.
@@ -133,6 +134,7 @@ fn turns_left(turns: u64, more: bool) -> u64
 }
 
 fn replay_all(
+    stdin: Stdin,
     buffer: &mut [u8],
     sheet: &mut [i32],
     controls: &mut [i32],
@@ -149,11 +151,11 @@ fn replay_all(
     tx: &mut [i32],
     ty: &mut [i32],
     tflags: &mut [u8],
-) -> Tally {
+) -> io::Result<Tally> {
     let mut tally = Tally::new();
     let mut turns: u64 = 1000000;
     while 0 < turns {
-        let read = read_case(buffer);
+        let read = read_case(stdin, buffer)?;
         let end = read.end;
         let agreed = agrees(
             &buffer[..end],
@@ -176,10 +178,10 @@ fn replay_all(
         tally = read.count(tally, agreed);
         turns = turns_left(turns, read.whole);
     }
-    tally
+    Ok(tally)
 }
 
-fn main() {
+fn main(rt: HostRuntime) -> io::Result<()> {
     let mut buffer = [0u8; BYTES];
     let mut sheet = [0i32; WORDS];
     let mut controls = [0i32; CONTROL_VALUES];
@@ -197,6 +199,7 @@ fn main() {
     let mut ty = [0i32; POINTS];
     let mut tflags = [0u8; POINTS];
     replay_all(
+        rt.stdin(),
         &mut buffer,
         &mut sheet,
         &mut controls,
@@ -213,6 +216,6 @@ fn main() {
         &mut tx,
         &mut ty,
         &mut tflags,
-    )
-    .print();
+    )?
+    .print(&rt)
 }

@@ -5,11 +5,15 @@
 #![tactic(auto)]
 
 use int::from_bits;
-use libc::STDIN_FILENO;
 use round::{RoundMode, RoundState, Rounded};
 use state_words::mode_of;
-use test_tally::{Tally, Turn};
+use std::io;
+use std::io::Stdin;
+use test_tally::{Tally, Turn, read_full};
 use words::word_at;
+
+// So many bytes are read at once at most: whole rows.
+const BUFFER_ROOM: usize = 65536;
 
 // A row's word as a signed number.
 fn arg(row: &[u8], at: usize) -> i32 {
@@ -83,30 +87,28 @@ fn replay(rows: &[u8], start: Tally) -> Tally {
 }
 
 // A buffer of rows read and replayed.
-fn replay_some(tally: Tally) -> Turn {
-    let mut buffer = io::large_buffer();
-    let n = io::read_full(STDIN_FILENO, &mut buffer);
-    Turn {
+fn replay_some(stdin: Stdin, tally: Tally) -> io::Result<Turn> {
+    let mut buffer = [0u8; BUFFER_ROOM];
+    let n = read_full(stdin, &mut buffer)?;
+    Ok(Turn {
         tally: replay(&buffer[..n], tally),
         more: 0 < n,
-    }
+    })
 }
 
-// A proved loop has to end, so the turns are counted down, from more than the input has.
-fn replay_all() -> Tally {
+// A proved loop has to end, so the turns are counted, to more than the input has.
+fn replay_all(stdin: Stdin) -> io::Result<Tally> {
     let mut tally = Tally::new();
-    let mut turns: u64 = 4096;
-    while 0 < turns {
-        let turn = replay_some(tally);
+    for _ in 0..4096u64 {
+        let turn = replay_some(stdin, tally)?;
         tally = turn.tally;
         if !turn.more {
-            return tally;
+            return Ok(tally);
         }
-        turns -= 1;
     }
-    tally
+    Ok(tally)
 }
 
-fn main() {
-    replay_all().print();
+fn main(rt: HostRuntime) -> io::Result<()> {
+    replay_all(rt.stdin())?.print(&rt)
 }

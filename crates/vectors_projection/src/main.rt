@@ -7,9 +7,10 @@
 use flags::CoordAxis;
 use graphics::{GraphicsState, Vector, Vectors};
 use int::{equal, from_bits};
-use libc::STDIN_FILENO;
 use projection::{Deduced, Derived, Measured};
-use test_tally::{Tally, Turn};
+use std::io;
+use std::io::Stdin;
+use test_tally::{Tally, Turn, read_full};
 use words::word_at;
 
 // Two words of a row, from a byte on.
@@ -93,34 +94,32 @@ fn agrees(row: &[u8]) -> bool {
 }
 
 // A row read and replayed.
-fn replay_row(tally: Tally) -> Turn {
+fn replay_row(stdin: Stdin, tally: Tally) -> io::Result<Turn> {
     let mut row = [0u8; 96];
-    let n = io::read_full(STDIN_FILENO, &mut row);
+    let n = read_full(stdin, &mut row)?;
     if n == 0 {
-        return Turn { tally, more: false };
+        return Ok(Turn { tally, more: false });
     }
     let agreed = agrees(&row) & (n == 96);
-    Turn {
+    Ok(Turn {
         tally: tally.count(agreed),
         more: true,
-    }
+    })
 }
 
-// A proved loop has to end, so the turns are counted down, from more than the input has.
-fn replay_all() -> Tally {
+// A proved loop has to end, so the turns are counted, to more than the input has.
+fn replay_all(stdin: Stdin) -> io::Result<Tally> {
     let mut tally = Tally::new();
-    let mut turns: u64 = 1000000;
-    while 0 < turns {
-        let turn = replay_row(tally);
+    for _ in 0..1000000u64 {
+        let turn = replay_row(stdin, tally)?;
         tally = turn.tally;
         if !turn.more {
-            return tally;
+            return Ok(tally);
         }
-        turns -= 1;
     }
-    tally
+    Ok(tally)
 }
 
-fn main() {
-    replay_all().print();
+fn main(rt: HostRuntime) -> io::Result<()> {
+    replay_all(rt.stdin())?.print(&rt)
 }

@@ -10,34 +10,35 @@ use record_io::{
 use record_layout::MOST_BYTES;
 use record_replay::replay;
 use rules::{Named, Rules};
+use std::io::Stdin;
 
-fn write_front(record: &[u8], size: usize) {
+fn write_front(rt: &(impl Print + Eprint), record: &[u8], size: usize) {
     if size <= record.len() {
-        write_output(&record[..size]);
+        write_output(rt, &record[..size]);
     }
 }
 
-fn write_replayed(rules: Rules, bytes: &[u8]) {
+fn write_replayed(rt: &(impl Print + Eprint), rules: Rules, bytes: &[u8]) {
     let mut record = [0u8; MOST_BYTES];
     let r = replay(rules, bytes, &mut record);
-    write_front(&record, r.size);
+    write_front(rt, &record, r.size);
 }
 
-fn write_input(rules: Rules) {
+fn write_input(rt: &(impl Print + Eprint), stdin: Stdin, rules: Rules) {
     let mut bytes = [0u8; INPUT_ROOM];
-    let input = read_input(&mut bytes);
+    let input = read_input(stdin, &mut bytes);
     if input.failed {
-        say_unread();
+        say_unread(rt);
         return;
     }
     let size = input.size;
-    write_replayed(rules, &bytes[..size]);
+    write_replayed(rt, rules, &bytes[..size]);
 }
 
-fn main() {
-    let named = chosen_rules();
+fn main(rt: HostRuntime) {
+    let named = chosen_rules(&rt);
     match named {
-        Named::Known(rules) => write_input(rules),
-        Named::Unknown => say_no_such_rules(),
+        Named::Known(rules) => write_input(&rt, rt.stdin(), rules),
+        Named::Unknown => say_no_such_rules(&rt),
     }
 }
