@@ -9,7 +9,7 @@ use Rattle.moves.specs.declared.Move.{Move}
 use Rattle.direct_moves.proofs.try_move_original.Goals as goal
 
 pub apply_coords_in-requires : goal.apply_coords_in-requires
-apply_coords_in-requires c = 
+apply_coords_in-requires c =
     let a = c.args in
     pairs_lengths a.gox.now a.goy.now a.tox.now a.toy.now (begun_fits (usable_state a.s) c.pairs_fit.ensures c.entry-begun.ensures c.in-Done.is)
 
@@ -18,7 +18,7 @@ returns-in-Refused c = let a = c.args in
     original_begun a.gox.now a.goy.now a.tox.now a.toy.now a.s a.zone a.at a.distance c.pairs_fit.ensures c.entry-begun.ensures c.in-Refused.is
 
 pub returns-in-Done : goal.returns-in-Done
-returns-in-Done c = 
+returns-in-Done c =
     let a = c.args in
     c.apply_coords_in.ensures
     ∙ ap (λ (c : Move). shift_in c a.at a.gox.now a.goy.now a.tox.now a.toy.now a.zone) (c.original_move_of.ensures ∙ ap (original_move_of a.s.vectors) (to_z-of_z c.ranges.distance))

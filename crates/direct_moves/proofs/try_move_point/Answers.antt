@@ -17,7 +17,7 @@ returns-in-Refused c = let a = c.args in
     point_begun a.gx.now a.gy.now a.gflags.now a.tx.now a.ty.now a.tflags.now a.s a.at c.zones_fit.ensures c.entry-begun.ensures c.in-Refused.is a.zone a.distance
 
 pub returns-in-Done : goal.returns-in-Done
-returns-in-Done c = 
+returns-in-Done c =
     let a = c.args in
     c.apply_in.ensures
     ∙ ap (λ (c : Move). apply_in c a.at a.gx.now a.gy.now a.gflags.now a.tx.now a.ty.now a.tflags.now a.zone) (c.move_of.ensures ∙ ap (move_of a.s.vectors a.s.facts) (to_z-of_z c.ranges.distance))

@@ -9,7 +9,7 @@ use Rattle.moves.specs.Move.{zp2_move_of}
 use Rattle.direct_moves.proofs.try_move_zp2_point.Goals as goal
 
 pub returns-then-is_idle : goal.returns-then-is_idle
-returns-then-is_idle c = 
+returns-then-is_idle c =
     let a = c.args in
     zp2_idle a.gx.now a.gy.now a.gflags.now a.tx.now a.ty.now a.tflags.now a.s.pointers.zp2 c.zp2_move_of-m.result a.at (sym c.is_idle.ensures ∙ c.if-is_idle.true)
     ∙ zp2_begun a.gx.now a.gy.now a.gflags.now a.tx.now a.ty.now a.tflags.now a.s a.at c.zones_fit.ensures c.entry-begun.ensures c.in-Done.is a.dx a.dy a.touches (c.zp2_move_of-m.ensures ∙ ap₂ (λ (dx dy : ℤ). zp2_move_of a.s.vectors a.s.facts dx dy a.touches) (to_z-of_z c.ranges.dx) (to_z-of_z c.ranges.dy))
@@ -19,12 +19,12 @@ apply_in-requires c = let a = c.args in
     zones_lengths a.gx.now a.gy.now a.gflags.now a.tx.now a.ty.now a.tflags.now (begun_fits (usable_state a.s) c.zones_fit.ensures c.entry-begun.ensures c.in-Done.is)
 
 pub returns-in-Refused : goal.returns-in-Refused
-returns-in-Refused c = 
+returns-in-Refused c =
     let a = c.args in
     zp2_begun a.gx.now a.gy.now a.gflags.now a.tx.now a.ty.now a.tflags.now a.s a.at c.zones_fit.ensures c.entry-begun.ensures c.in-Refused.is a.dx a.dy a.touches (c.zp2_move_of-m.ensures ∙ ap₂ (λ (dx dy : ℤ). zp2_move_of a.s.vectors a.s.facts dx dy a.touches) (to_z-of_z c.ranges.dx) (to_z-of_z c.ranges.dy))
 
 pub returns-else-is_idle : goal.returns-else-is_idle
-returns-else-is_idle c = 
+returns-else-is_idle c =
     let a = c.args in
     c.apply_in.ensures
     ∙ zp2_busy a.gx.now a.gy.now a.gflags.now a.tx.now a.ty.now a.tflags.now a.s.pointers.zp2 c.zp2_move_of-m.result a.at (sym c.is_idle.ensures ∙ c.if-is_idle.false)

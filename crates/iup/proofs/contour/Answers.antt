@@ -5,12 +5,12 @@ use mathlib.Core.List.{List, ◌++◌}
 use Prim.Native.Nat.{◌+◌, ◌-◌, ◌*◌, ◌≤◌, ◌<◌}
 use borrow.Author.Tests.{lt-ltb}
 use lib.IntN.{ℤ, pos}
-use lib.ListN.{length, drop, get_or, length-drop}
+use lib.ListN.{length, drop, take, get_or, length-drop}
 use borrow.Rule.Slice.PartMut.{put_mid}
 use mir.Syntax.{w32, w64}
 use mir.Val.{to_z, of_z, Fits}
 use Rattle.int.proofs.Words.{back32}
-use Rattle.iup.proofs.ByTouched.{none, several, one}
+use Rattle.iup.proofs.ByTouched.{none, several, one, shift_all}
 use Rattle.iup.proofs.Points.{Shown, shown}
 use Rattle.iup.proofs.Search.{last_le}
 use Rattle.iup.proofs.Spans.{place, two}
@@ -19,7 +19,7 @@ use Rattle.iup.specs.Contour.{points_of}
 use Rattle.iup.specs.Parts.{place_at}
 use Rattle.iup.specs.declared.Place.{Place}
 use Rattle.iup.proofs.contour.Goals as goal
-use Rattle.iup.proofs.contour.Goals.{After-first-then-at-flags-2-1, Start, Then-at-flags}
+use Rattle.iup.proofs.contour.Goals.{After-first-then-at-flags-2-1, After-shift-then-more-eq0, Start, Then-at-flags}
 
 whole : (c : Start) → let a = c.args in let cs = a.current.now in Shown a.mask a.flags.now a.unscaled.now a.original.now cs (points_of a.mask a.flags.now a.unscaled.now a.original.now cs)
 whole c = let a = c.args in shown a.mask a.flags.now a.unscaled.now a.original.now a.current.now c.requires.0 c.requires.1 c.requires.2
@@ -64,6 +64,14 @@ first c =
     (back32 (get_or s.args.original.now at (pos 0)) c.first-then-at-flags-1.given)
     (back32 (get_or s.args.current.now at (pos 0)) c.first-then-at-flags-2-1.given))
 
+-- the points behind it, moved as it was
+behind :
+    (c : After-shift-then-more-eq0) →
+    let at = c.next_touched-at.result in
+    let l : List ℤ = c.shift.new.part ++ drop at c.args.current.now in
+    c.shift-then-more-eq0.new.part ≡ shift_all (to_z w32 (of_z w32 c.displacement-delta.result)) (take (length l - (at + 1)) (drop (at + 1) l))
+behind c = c.shift-then-more-eq0.ensures
+
 pub overflow_add-at-else-more-eq0 : goal.overflow_add-at-else-more-eq0
 overflow_add-at-else-more-eq0 c = let i = c in let s = c in let at = i.next_touched-at.result in
     let fs = s.args.flags.now in let m = c.last_touched-more in
@@ -81,7 +89,7 @@ returns-then-more-eq0 c = let touched = c in let shifted = c in
     (back32 w.result w.type_inv ∙ w.ensures)
     alone.if-more-eq0.true
     (ap (λ (x : List ℤ). x ++ drop at s.args.current.now) shifted.shift.ensures)
-    (ap (put_mid (at + 1) (length l - (at + 1)) l) c.shift-then-more-eq0.ensures)
+    (ap (put_mid (at + 1) (length l - (at + 1)) l) (behind (goal.at.returns-then-more-eq0 c).After-shift-then-more-eq0))
 
 pub returns-else-more-eq0 : goal.returns-else-more-eq0
 returns-else-more-eq0 c = let touched = c in let read = c in let last = c in

@@ -17,7 +17,7 @@ entry s tox toy = let a = s.args in
     world a.s a.gx.now a.gy.now a.gflags.now tox toy a.tx.now a.ty.now a.tflags.now
 
 pub returns-then-operands-lt2 : goal.returns-then-operands-lt2
-returns-then-operands-lt2 c =     λ f opcode tox toy. alignpts_missing f opcode c.args.operands.now (entry (goal.at.returns-then-operands-lt2 c).Start tox toy) c.if-operands-lt2.true (ap (into (entry (goal.at.returns-then-operands-lt2 c).Start tox toy)) c.refused.ensures)
+returns-then-operands-lt2 c = λ f opcode tox toy. alignpts_missing f opcode c.args.operands.now (entry (goal.at.returns-then-operands-lt2 c).Start tox toy) c.if-operands-lt2.true (ap (into (entry (goal.at.returns-then-operands-lt2 c).Start tox toy)) c.refused.ensures)
 
 pub fetch_in-there-requires : goal.fetch_in-there-requires
 fetch_in-there-requires c = (c.requires.0, c.requires.2)
@@ -29,9 +29,9 @@ pub move_both-call-requires : goal.move_both-call-requires
 move_both-call-requires c = c.requires
 
 pub returns-in-Refused : goal.returns-in-Refused
-returns-in-Refused c =     λ f opcode tox toy. alignpts_out f opcode c.args.operands.now (entry (goal.at.returns-in-Refused c).Start tox toy) c.if-operands-lt2.false c.index_at-first.ensures c.index_at-second.ensures c.fetch_in-there.ensures c.fetch_in-here.ensures
+returns-in-Refused c = λ f opcode tox toy. alignpts_out f opcode c.args.operands.now (entry (goal.at.returns-in-Refused c).Start tox toy) c.if-operands-lt2.false c.index_at-first.ensures c.index_at-second.ensures c.fetch_in-there.ensures c.fetch_in-here.ensures
     c.half_apart-apart.ensures c.in-Refused.is (ap (into (entry (goal.at.returns-in-Refused c).Start tox toy)) c.refused-in-Refused.ensures)
 
 pub returns-in-Distance : goal.returns-in-Distance
-returns-in-Distance c =     λ f opcode tox toy. in_words c.by_words.ensures (alignpts_moved f opcode c.args.operands.now (entry (goal.at.returns-in-Distance c).Start tox toy) c.if-operands-lt2.false c.index_at-first.ensures c.index_at-second.ensures c.fetch_in-there.ensures c.fetch_in-here.ensures
+returns-in-Distance c = λ f opcode tox toy. in_words c.by_words.ensures (alignpts_moved f opcode c.args.operands.now (entry (goal.at.returns-in-Distance c).Start tox toy) c.if-operands-lt2.false c.index_at-first.ensures c.index_at-second.ensures c.fetch_in-there.ensures c.fetch_in-here.ensures
     c.half_apart-apart.ensures c.in-Distance.is (back32 _ (omega (arith, c.in-Distance.known_told-in-Distance-1-own.given))) (c.move_both-call.ensures tox toy))

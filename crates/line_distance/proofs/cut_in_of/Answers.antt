@@ -6,10 +6,10 @@ use Rattle.line_distance.proofs.cut_in_of.Goals as goal
 
 pub returns-then-native : goal.returns-then-native
 unfolding cut_in_of
-returns-then-native c = 
+returns-then-native c =
     rw c.if-native.true (cc (to_z-of_z c.ranges.cut_in, back32 c.shift_right.result c.shift_right.type_inv))
 
 pub returns-else-native : goal.returns-else-native
 unfolding cut_in_of
-returns-else-native c = 
+returns-else-native c =
     rw c.if-native.false (to_z-of_z c.ranges.cut_in)

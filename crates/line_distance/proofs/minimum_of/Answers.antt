@@ -9,10 +9,10 @@ use Rattle.line_distance.proofs.minimum_of.Goals as goal
 
 pub returns-then-native : goal.returns-then-native
 unfolding minimum_of
-returns-then-native c = 
+returns-then-native c =
     rw c.if-native.true (back32 c.shift_right.result c.shift_right.type_inv ∙ c.shift_right.ensures ∙ ap (λ (z : ℤ). shr_z z 2) (to_z-of_z c.ranges.minimum))
 
 pub returns-else-native : goal.returns-else-native
 unfolding minimum_of
-returns-else-native c = 
+returns-else-native c =
     rw c.if-native.false (to_z-of_z c.ranges.minimum)

@@ -7,5 +7,5 @@ use Rattle.line_distance.proofs.originals_apart.Goals as goal
 
 pub returns : goal.returns
 unfolding originals_apart
-returns c = 
+returns c =
     back32 c.along.result c.along.type_inv ∙ c.along.ensures ∙ ap₂ (along_of c.args.v) c.place_in-here.ensures c.place_in-there.ensures

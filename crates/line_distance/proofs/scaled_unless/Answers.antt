@@ -10,5 +10,5 @@ pub returns-then-original : goal.returns-then-original
 returns-then-original c = yes_of _ c.if-original.true (to_z-of_z c.ranges.d)
 
 pub returns-else-original : goal.returns-else-original
-returns-else-original c = 
+returns-else-original c =
     no_of _ c.if-original.false (back32 c.mul.result c.mul.type_inv ∙ c.mul.ensures ∙ ap₂ mul_fix (to_z-of_z c.ranges.d) (to_z-of_z c.ranges.scale))

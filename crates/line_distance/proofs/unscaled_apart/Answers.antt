@@ -9,7 +9,7 @@ use Rattle.line_distance.proofs.unscaled_apart.Goals as goal
 
 pub returns : goal.returns
 unfolding unscaled_apart
-returns c = 
+returns c =
     back32 c.mul.result c.mul.type_inv
     ∙ c.mul.ensures
     ∙ ap₂ mul_fix

@@ -18,14 +18,14 @@ abbrev entry : Start → List ℤ → List ℤ → List ℤ → List ℤ → Lis
 entry b = let a = b.args in world a.s a.gx.now a.gy.now a.gflags.now
 
 pub returns-then-past_both_iups : goal.returns-then-past_both_iups
-returns-then-past_both_iups c =     λ rules controls operands tox toy tx ty tflags. let w = entry (goal.at.returns-then-past_both_iups c).Start tox toy tx ty tflags in
+returns-then-past_both_iups c = λ rules controls operands tox toy tx ty tflags. let w = entry (goal.at.returns-then-past_both_iups c).Start tox toy tx ty tflags in
     iup_past (lent (goal.at.returns-then-past_both_iups c).Start rules controls) c.args.opcode operands w c.past_both_iups.ensures c.if-past_both_iups.true (ap (into w) c.done.ensures)
 
 pub walk_on-requires : goal.walk_on-requires
 walk_on-requires c = c.requires
 
 pub returns : goal.returns
-returns c =     λ rules controls operands tox toy tx ty tflags.
+returns c = λ rules controls operands tox toy tx ty tflags.
     iup_walked (lent (goal.at.returns c).Start rules controls) c.args.opcode operands (entry (goal.at.returns c).Start tox toy tx ty tflags) c.past_both_iups.ensures c.if-past_both_iups.false c.is_odd.ensures c.marked_for.ensures
     (c.walk_on.ensures c.marked_for.result rules controls tox toy tx ty tflags)
     c.done-2.ensures

@@ -26,7 +26,7 @@ iup-requires-else-x c = let p = c.requires in let y = sym p.4 in
     (p.1 ∙ y, p.3 ∙ y, p.5 ∙ y, ap (λ (n : ℕ). ends_rise n c.args.contours.now) p.4 ∙ p.6)
 
 pub returns-then-x : goal.returns-then-x
-returns-then-x c =     λ s rules controls tox toy tx ty tflags. walked_x (lent (goal.at.returns-then-x c).Start rules controls) (entry (goal.at.returns-then-x c).Start s tox toy tx ty tflags) c.if-x.true c.iup.ensures
+returns-then-x c = λ s rules controls tox toy tx ty tflags. walked_x (lent (goal.at.returns-then-x c).Start rules controls) (entry (goal.at.returns-then-x c).Start s tox toy tx ty tflags) c.if-x.true c.iup.ensures
 
 pub returns-else-x : goal.returns-else-x
-returns-else-x c =     λ s rules controls tox toy tx ty tflags. walked_y (lent (goal.at.returns-else-x c).Start rules controls) (entry (goal.at.returns-else-x c).Start s tox toy tx ty tflags) c.if-x.false c.iup-else-x.ensures
+returns-else-x c = λ s rules controls tox toy tx ty tflags. walked_y (lent (goal.at.returns-else-x c).Start rules controls) (entry (goal.at.returns-else-x c).Start s tox toy tx ty tflags) c.if-x.false c.iup-else-x.ensures

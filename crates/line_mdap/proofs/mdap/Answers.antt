@@ -17,17 +17,17 @@ abbrev entry : Start → List ℤ → List ℤ → World
 entry s tox toy = world s.args.s s.args.gx.now s.args.gy.now s.args.gflags.now tox toy s.args.tx.now s.args.ty.now s.args.tflags.now
 
 pub returns-then-operands-lt1 : goal.returns-then-operands-lt1
-returns-then-operands-lt1 c =     λ f tox toy. mdap_missing f c.args.opcode c.args.operands.now (entry (goal.at.returns-then-operands-lt1 c).Start tox toy) c.if-operands-lt1.true (ap (into (entry (goal.at.returns-then-operands-lt1 c).Start tox toy)) c.refused.ensures)
+returns-then-operands-lt1 c = λ f tox toy. mdap_missing f c.args.opcode c.args.operands.now (entry (goal.at.returns-then-operands-lt1 c).Start tox toy) c.if-operands-lt1.true (ap (into (entry (goal.at.returns-then-operands-lt1 c).Start tox toy)) c.refused.ensures)
 
 pub apply_in-call-requires : goal.apply_in-call-requires
 apply_in-call-requires c = c.requires
 
 pub returns-in-Refused : goal.returns-in-Refused
-returns-in-Refused c =     λ f tox toy. mdap_outside f c.args.opcode c.args.operands.now (entry (goal.at.returns-in-Refused c).Start tox toy) c.if-operands-lt1.false c.index_at-at.ensures (c.fetch_in-here.ensures ∙ ap (fetch_in _ _ _ _ _) c.zp0-zp0.ensures) c.in-Refused.is
+returns-in-Refused c = λ f tox toy. mdap_outside f c.args.opcode c.args.operands.now (entry (goal.at.returns-in-Refused c).Start tox toy) c.if-operands-lt1.false c.index_at-at.ensures (c.fetch_in-here.ensures ∙ ap (fetch_in _ _ _ _ _) c.zp0-zp0.ensures) c.in-Refused.is
     (c.outside_mdap.ensures (entry (goal.at.returns-in-Refused c).Start tox toy))
 
 pub returns-in-At : goal.returns-in-At
-returns-in-At c =     λ f tox toy. mdap_moved f c.args.opcode c.args.operands.now (entry (goal.at.returns-in-At c).Start tox toy) c.if-operands-lt1.false c.index_at-at.ensures (c.fetch_in-here.ensures ∙ ap (fetch_in _ _ _ _ _) c.zp0-zp0.ensures) c.in-At.is
+returns-in-At c = λ f tox toy. mdap_moved f c.args.opcode c.args.operands.now (entry (goal.at.returns-in-At c).Start tox toy) c.if-operands-lt1.false c.index_at-at.ensures (c.fetch_in-here.ensures ∙ ap (fetch_in _ _ _ _ _) c.zp0-zp0.ensures) c.in-At.is
     c.is_odd.ensures
     c.mdap_distance-distance.ensures (back32 c.mdap_distance-distance.result.word (omega (arith, c.struct_told-1.given)))
     c.move_of-m.ensures

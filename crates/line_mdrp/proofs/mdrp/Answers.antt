@@ -22,10 +22,10 @@ abbrev held : Start → Rules → List ℤ → List ℕ → Fixed
 held s rules controls contours = let a = s.args in fixed rules controls a.gux.now a.guy.now a.gox.now a.goy.now contours
 
 pub returns-then-operands-lt1 : goal.returns-then-operands-lt1
-returns-then-operands-lt1 c =     λ rules controls contours. mdrp_missing (held (goal.at.returns-then-operands-lt1 c).Start rules controls contours) c.args.opcode c.args.operands.now (entry (goal.at.returns-then-operands-lt1 c).Start) c.if-operands-lt1.true (ap (into (entry (goal.at.returns-then-operands-lt1 c).Start)) c.refused.ensures)
+returns-then-operands-lt1 c = λ rules controls contours. mdrp_missing (held (goal.at.returns-then-operands-lt1 c).Start rules controls contours) c.args.opcode c.args.operands.now (entry (goal.at.returns-then-operands-lt1 c).Start) c.if-operands-lt1.true (ap (into (entry (goal.at.returns-then-operands-lt1 c).Start)) c.refused.ensures)
 
 pub returns-in-Refused : goal.returns-in-Refused
-returns-in-Refused c =     λ rules controls contours. mdrp_outside (held (goal.at.returns-in-Refused c).Start rules controls contours) c.args.opcode c.args.operands.now (entry (goal.at.returns-in-Refused c).Start) c.if-operands-lt1.false
+returns-in-Refused c = λ rules controls contours. mdrp_outside (held (goal.at.returns-in-Refused c).Start rules controls contours) c.args.opcode c.args.operands.now (entry (goal.at.returns-in-Refused c).Start) c.if-operands-lt1.false
     c.index_at-at.ensures
     c.zp0-zp0.ensures
     c.zp1-zp1.ensures
@@ -37,7 +37,7 @@ returns-in-Refused c =     λ rules controls contours. mdrp_outside (held (goal.
     (c.relate_or.ensures (entry (goal.at.returns-in-Refused c).Start))
 
 pub returns-in-Done : goal.returns-in-Done
-returns-in-Done c =     λ rules controls contours. mdrp_moved (held (goal.at.returns-in-Done c).Start rules controls contours) c.args.opcode c.args.operands.now (entry (goal.at.returns-in-Done c).Start) c.if-operands-lt1.false
+returns-in-Done c = λ rules controls contours. mdrp_moved (held (goal.at.returns-in-Done c).Start rules controls contours) c.args.opcode c.args.operands.now (entry (goal.at.returns-in-Done c).Start) c.if-operands-lt1.false
     c.index_at-at.ensures
     c.zp0-zp0.ensures
     c.zp1-zp1.ensures

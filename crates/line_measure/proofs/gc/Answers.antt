@@ -19,14 +19,14 @@ abbrev held : Start → Rules → List ℤ → List ℤ → List ℤ → List �
 held s rules controls gux guy contours = let a = s.args in fixed rules controls gux guy a.gox.now a.goy.now contours
 
 pub returns-then-operands-lt1 : goal.returns-then-operands-lt1
-returns-then-operands-lt1 c =     λ rules controls gux guy contours gflags tflags. gc_missing (held (goal.at.returns-then-operands-lt1 c).Start rules controls gux guy contours) c.args.opcode c.args.operands.now (entry (goal.at.returns-then-operands-lt1 c).Start gflags tflags) c.if-operands-lt1.true
+returns-then-operands-lt1 c = λ rules controls gux guy contours gflags tflags. gc_missing (held (goal.at.returns-then-operands-lt1 c).Start rules controls gux guy contours) c.args.opcode c.args.operands.now (entry (goal.at.returns-then-operands-lt1 c).Start gflags tflags) c.if-operands-lt1.true
     (ap (into (entry (goal.at.returns-then-operands-lt1 c).Start gflags tflags)) c.refused.ensures)
 
 pub look_up-point-requires : goal.look_up-point-requires
 look_up-point-requires c = search
 
 pub returns : goal.returns
-returns c =     λ rules controls gux guy contours gflags tflags. gc_found (held (goal.at.returns c).Start rules controls gux guy contours) c.args.opcode c.args.operands.now (entry (goal.at.returns c).Start gflags tflags) c.if-operands-lt1.false
+returns c = λ rules controls gux guy contours gflags tflags. gc_found (held (goal.at.returns c).Start rules controls gux guy contours) c.args.opcode c.args.operands.now (entry (goal.at.returns c).Start gflags tflags) c.if-operands-lt1.false
     c.index_at-at.ensures
     c.is_odd-original.ensures
     c.zp2-zp2.ensures

@@ -22,7 +22,7 @@ abbrev held : Start → Rules → List ℤ → List ℕ → Fixed
 held s rules controls contours = let a = s.args in fixed rules controls a.gux.now a.guy.now a.gox.now a.goy.now contours
 
 pub returns-then-operands-lt2 : goal.returns-then-operands-lt2
-returns-then-operands-lt2 c =     λ rules controls contours gflags tflags. md_missing (held (goal.at.returns-then-operands-lt2 c).Start rules controls contours) c.args.opcode c.args.operands.now (entry (goal.at.returns-then-operands-lt2 c).Start gflags tflags) c.if-operands-lt2.true
+returns-then-operands-lt2 c = λ rules controls contours gflags tflags. md_missing (held (goal.at.returns-then-operands-lt2 c).Start rules controls contours) c.args.opcode c.args.operands.now (entry (goal.at.returns-then-operands-lt2 c).Start gflags tflags) c.if-operands-lt2.true
     (ap (into (entry (goal.at.returns-then-operands-lt2 c).Start gflags tflags)) c.refused.ensures)
 
 pub look_up-first-requires : goal.look_up-first-requires
@@ -32,7 +32,7 @@ pub look_up-second-requires : goal.look_up-second-requires
 look_up-second-requires c = search
 
 pub returns-then-fitted-is_twilight : goal.returns-then-fitted-is_twilight
-returns-then-fitted-is_twilight c =     λ rules controls contours gflags tflags. md_found (held (goal.at.returns-then-fitted-is_twilight c).Start rules controls contours) c.args.opcode c.args.operands.now (entry (goal.at.returns-then-fitted-is_twilight c).Start gflags tflags) c.if-operands-lt2.false
+returns-then-fitted-is_twilight c = λ rules controls contours gflags tflags. md_found (held (goal.at.returns-then-fitted-is_twilight c).Start rules controls contours) c.args.opcode c.args.operands.now (entry (goal.at.returns-then-fitted-is_twilight c).Start gflags tflags) c.if-operands-lt2.false
     c.index_at-b.ensures
     c.index_at-a.ensures
     c.is_odd-fitted.ensures
@@ -48,7 +48,7 @@ returns-then-fitted-is_twilight c =     λ rules controls contours gflags tflags
     (c.settle_measured.ensures (entry (goal.at.returns-then-fitted-is_twilight c).Start gflags tflags))
 
 pub returns-else-fitted-is_twilight : goal.returns-else-fitted-is_twilight
-returns-else-fitted-is_twilight c =     λ rules controls contours gflags tflags. md_glyph (held (goal.at.returns-else-fitted-is_twilight c).Start rules controls contours) c.args.opcode c.args.operands.now (entry (goal.at.returns-else-fitted-is_twilight c).Start gflags tflags) c.if-operands-lt2.false
+returns-else-fitted-is_twilight c = λ rules controls contours gflags tflags. md_glyph (held (goal.at.returns-else-fitted-is_twilight c).Start rules controls contours) c.args.opcode c.args.operands.now (entry (goal.at.returns-else-fitted-is_twilight c).Start gflags tflags) c.if-operands-lt2.false
     c.index_at-b.ensures
     c.index_at-a.ensures
     c.is_odd-fitted.ensures

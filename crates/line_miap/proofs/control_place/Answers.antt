@@ -7,5 +7,5 @@ use Rattle.line_miap.proofs.control_place.Goals as goal
 
 pub returns : goal.returns
 unfolding control_place
-returns c = 
+returns c =
     cc (to_z-of_z c.ranges.control, back32 c.args.freedom.x (omega (arith, c.struct_told-1.given.0)), back32 c.args.freedom.y (omega (arith, c.struct_told-2-1.given.1.0)), back32 c.mul14-x.result c.mul14-x.type_inv, back32 c.mul14-y.result c.mul14-y.type_inv)

@@ -13,7 +13,7 @@ returns-in-Glyph c = let a = c.args in
     λ s gx gy gflags tflags. sym (ap (made_in a.at (control_place a.freedom a.control) (world s gx gy gflags a.tox.now a.toy.now a.tx.now a.ty.now tflags)) c.in-Glyph.is)
 
 pub returns-in-Twilight : goal.returns-in-Twilight
-returns-in-Twilight c = 
+returns-in-Twilight c =
     λ state gx gy gflags tflags. made_twilight (world state gx gy gflags c.args.tox.now c.args.toy.now c.args.tx.now c.args.ty.now tflags) c.args.at
     (c.control_place-place.ensures ∙ ap (control_place c.args.freedom) (to_z-of_z c.ranges.control))
     c.put_at.ensures

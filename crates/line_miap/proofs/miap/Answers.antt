@@ -23,19 +23,19 @@ made k = let a = k.args in
     world a.s a.gx.now a.gy.now a.gflags.now k.make_in.new.tox k.make_in.new.toy k.make_in.new.tx k.make_in.new.ty a.tflags.now
 
 pub returns-then-operands-lt2 : goal.returns-then-operands-lt2
-returns-then-operands-lt2 c =     λ rules gux guy gox goy contours. miap_missing (fixed rules c.args.controls.now gux guy gox goy contours) c.args.opcode c.args.operands.now (entry (goal.at.returns-then-operands-lt2 c).Start) c.if-operands-lt2.true (ap (into (entry (goal.at.returns-then-operands-lt2 c).Start)) c.refused.ensures)
+returns-then-operands-lt2 c = λ rules gux guy gox goy contours. miap_missing (fixed rules c.args.controls.now gux guy gox goy contours) c.args.opcode c.args.operands.now (entry (goal.at.returns-then-operands-lt2 c).Start) c.if-operands-lt2.true (ap (into (entry (goal.at.returns-then-operands-lt2 c).Start)) c.refused.ensures)
 
 pub returns-then-controls-i : goal.returns-then-controls-i
-returns-then-controls-i c =     λ rules gux guy gox goy contours. miap_no_control (fixed rules c.args.controls.now gux guy gox goy contours) c.args.opcode c.args.operands.now (entry (goal.at.returns-then-controls-i c).Start) c.if-operands-lt2.false c.index_at-entry.ensures c.if-controls-i.true (ap (into (entry (goal.at.returns-then-controls-i c).Start)) c.refused-then-controls-i.ensures)
+returns-then-controls-i c = λ rules gux guy gox goy contours. miap_no_control (fixed rules c.args.controls.now gux guy gox goy contours) c.args.opcode c.args.operands.now (entry (goal.at.returns-then-controls-i c).Start) c.if-operands-lt2.false c.index_at-entry.ensures c.if-controls-i.true (ap (into (entry (goal.at.returns-then-controls-i c).Start)) c.refused-then-controls-i.ensures)
 
 pub returns-in-Refused : goal.returns-in-Refused
-returns-in-Refused c =     λ rules gux guy gox goy contours. miap_outside (fixed rules c.args.controls.now gux guy gox goy contours) c.args.opcode c.args.operands.now (entry (goal.at.returns-in-Refused c).Start) c.if-operands-lt2.false c.index_at-entry.ensures c.index_at-at.ensures c.if-controls-i.false
+returns-in-Refused c = λ rules gux guy gox goy contours. miap_outside (fixed rules c.args.controls.now gux guy gox goy contours) c.args.opcode c.args.operands.now (entry (goal.at.returns-in-Refused c).Start) c.if-operands-lt2.false c.index_at-entry.ensures c.index_at-at.ensures c.if-controls-i.false
     (back32 (get_or c.args.controls.now c.index_at-entry.result (pos 0)) c.control-1.given) (made (goal.at.returns-in-Refused c).After-fetch_in-here) (c.make_in.ensures c.args.s c.args.gx.now c.args.gy.now c.args.gflags.now c.args.tflags.now ∙ ap (made_in _ _ _) c.zp0-zp0.ensures)
     (c.fetch_in-here.ensures ∙ ap (fetch_in _ _ _ _ _) c.zp0-zp0.ensures) c.in-Refused.is
     (ap (into (made (goal.at.returns-in-Refused c).After-fetch_in-here)) c.refused-in-Refused.ensures)
 
 pub returns-in-At : goal.returns-in-At
-returns-in-At c =     λ rules gux guy gox goy contours. miap_moved (fixed rules c.args.controls.now gux guy gox goy contours) c.args.opcode c.args.operands.now (entry (goal.at.returns-in-At c).Start) c.if-operands-lt2.false c.index_at-entry.ensures c.index_at-at.ensures c.if-controls-i.false
+returns-in-At c = λ rules gux guy gox goy contours. miap_moved (fixed rules c.args.controls.now gux guy gox goy contours) c.args.opcode c.args.operands.now (entry (goal.at.returns-in-At c).Start) c.if-operands-lt2.false c.index_at-entry.ensures c.index_at-at.ensures c.if-controls-i.false
     (back32 (get_or c.args.controls.now c.index_at-entry.result (pos 0)) c.control-1.given) (made (goal.at.returns-in-At c).After-fetch_in-here) (c.make_in.ensures c.args.s c.args.gx.now c.args.gy.now c.args.gflags.now c.args.tflags.now ∙ ap (made_in _ _ _) c.zp0-zp0.ensures)
     (c.fetch_in-here.ensures ∙ ap (fetch_in _ _ _ _ _) c.zp0-zp0.ensures) c.in-At.is
     (back32 c.from_origin-own.result c.from_origin-own.type_inv ∙ c.from_origin-own.ensures)

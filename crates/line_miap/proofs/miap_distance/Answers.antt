@@ -22,5 +22,5 @@ returns-then-odd c = let own = to_z-of_z c.ranges.own in
 
 pub returns-else-odd : goal.returns-else-odd
 unfolding miap_distance
-returns-else-odd c = 
+returns-else-odd c =
     rw c.if-odd.false (c.step_from-else-odd.ensures ∙ ap₂ step_from (to_z-of_z c.ranges.own) (c.as_it_is.ensures ∙ ap given (to_z-of_z c.ranges.control)))

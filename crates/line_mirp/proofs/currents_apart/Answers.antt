@@ -11,4 +11,4 @@ pub place_alike_in-there-requires : goal.place_alike_in-there-requires
 place_alike_in-there-requires c = c.requires
 
 pub returns : goal.returns
-returns c =     back32 c.project.result c.project.type_inv ∙ c.project.ensures ∙ ap₂ (project_of c.args.v) c.place_alike_in-here.ensures c.place_alike_in-there.ensures
+returns c = back32 c.project.result c.project.type_inv ∙ c.project.ensures ∙ ap₂ (project_of c.args.v) c.place_alike_in-here.ensures c.place_alike_in-there.ensures

@@ -27,7 +27,7 @@ made_world m = let a = m.args in
     world a.s a.gx.now a.gy.now a.gflags.now m.make_in.new.tox m.make_in.new.toy m.make_in.new.tx m.make_in.new.ty a.tflags.now
 
 pub returns-then-operands-lt2 : goal.returns-then-operands-lt2
-returns-then-operands-lt2 c =     λ rules gux guy contours. mirp_missing (held (goal.at.returns-then-operands-lt2 c).Start rules gux guy contours) c.args.opcode c.args.operands.now (entry (goal.at.returns-then-operands-lt2 c).Start) c.if-operands-lt2.true (ap (into (entry (goal.at.returns-then-operands-lt2 c).Start)) c.refused.ensures)
+returns-then-operands-lt2 c = λ rules gux guy contours. mirp_missing (held (goal.at.returns-then-operands-lt2 c).Start rules gux guy contours) c.args.opcode c.args.operands.now (entry (goal.at.returns-then-operands-lt2 c).Start) c.if-operands-lt2.true (ap (into (entry (goal.at.returns-then-operands-lt2 c).Start)) c.refused.ensures)
 
 pub currents_apart-own-requires : goal.currents_apart-own-requires
 currents_apart-own-requires c = let p = c.requires in
@@ -40,7 +40,7 @@ apply_in-call-requires c = let p = c.requires in
     (p.0, p.1, c.make_in.auto.ty ∙ p.2 ∙ sym tx, p.3 ∙ sym tx)
 
 pub returns-in-Refused : goal.returns-in-Refused
-returns-in-Refused c =     λ rules gux guy contours. mirp_outside (held (goal.at.returns-in-Refused c).Start rules gux guy contours) c.args.opcode c.args.operands.now (entry (goal.at.returns-in-Refused c).Start) c.if-operands-lt2.false
+returns-in-Refused c = λ rules gux guy contours. mirp_outside (held (goal.at.returns-in-Refused c).Start rules gux guy contours) c.args.opcode c.args.operands.now (entry (goal.at.returns-in-Refused c).Start) c.if-operands-lt2.false
     c.next_at-next.ensures
     c.index_at-at.ensures
     c.zp0-zp0.ensures
@@ -51,7 +51,7 @@ returns-in-Refused c =     λ rules gux guy contours. mirp_outside (held (goal.a
     (c.relate_or.ensures (entry (goal.at.returns-in-Refused c).Start))
 
 pub returns-in-Distance : goal.returns-in-Distance
-returns-in-Distance c =     λ rules gux guy contours. mirp_moved (held (goal.at.returns-in-Distance c).Start rules gux guy contours) c.args.opcode c.args.operands.now (entry (goal.at.returns-in-Distance c).Start) c.if-operands-lt2.false
+returns-in-Distance c = λ rules gux guy contours. mirp_moved (held (goal.at.returns-in-Distance c).Start rules gux guy contours) c.args.opcode c.args.operands.now (entry (goal.at.returns-in-Distance c).Start) c.if-operands-lt2.false
     c.next_at-next.ensures
     c.index_at-at.ensures
     c.zp0-zp0.ensures

@@ -6,7 +6,7 @@ use Rattle.line_msirp.proofs.Cases.{made_from_lem}
 use Rattle.line_msirp.proofs.made_place.Goals as goal
 
 pub returns : goal.returns
-returns c =     made_from_lem c.args.v c.args.distance c.args.original
+returns c = made_from_lem c.args.v c.args.distance c.args.original
     (to_z-of_z c.ranges.distance)
     c.original_move_of-m.ensures
     (back32 c.args.original.x (omega (arith, c.struct_told-1.given, c.struct_told-2-1.given)))

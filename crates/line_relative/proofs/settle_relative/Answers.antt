@@ -13,8 +13,8 @@ abbrev settled : Start → World → Call → Lined
 settled s w = let a = s.args in by_call (in_state w a.s) (λ (v : World). done_in (related a.sets a.at (rounded_in a.wrapped v)))
 
 pub returns-in-Done : goal.returns-in-Done
-returns-in-Done c =     λ w. ap (into w) (c.done.ensures ∙ ap done_with (c.relate.ensures ∙ ap (related_by c.args.sets c.args.at) c.with_rounding.ensures))
+returns-in-Done c = λ w. ap (into w) (c.done.ensures ∙ ap done_with (c.relate.ensures ∙ ap (related_by c.args.sets c.args.at) c.with_rounding.ensures))
     ∙ sym (ap (settled (goal.at.returns-in-Done c).Start w) c.in-Done.is)
 
 pub returns-in-Refused : goal.returns-in-Refused
-returns-in-Refused c =     λ w. ap (into w) c.refused.ensures ∙ sym (ap (settled (goal.at.returns-in-Refused c).Start w) c.in-Refused.is)
+returns-in-Refused c = λ w. ap (into w) c.refused.ensures ∙ sym (ap (settled (goal.at.returns-in-Refused c).Start w) c.in-Refused.is)

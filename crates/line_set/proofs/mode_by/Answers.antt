@@ -25,4 +25,4 @@ unfolding mode_by
 returns-in-124 c = sym (ap mode_by c.in-124.is)
 
 pub returns-in_default : goal.returns-in_default
-returns-in_default c =     sym (other_mode c.args.opcode c.in_default.in_default-own.rest.0.0.0.0.1 c.in_default.in_default-own.rest.0.0.0.1 c.in_default.in_default-own.rest.0.0.1 c.in_default.in_default-own.rest.0.1 c.in_default.in_default-own.rest.1)
+returns-in_default c = sym (other_mode c.args.opcode c.in_default.in_default-own.rest.0.0.0.0.1 c.in_default.in_default-own.rest.0.0.0.1 c.in_default.in_default-own.rest.0.0.1 c.in_default.in_default-own.rest.0.1 c.in_default.in_default-own.rest.1)

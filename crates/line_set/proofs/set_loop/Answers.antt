@@ -25,7 +25,7 @@ module _ (s : GraphicsState) (w : ℤ) {w' : ℤ} {b : Bool} {r : Stepped} (e : 
   refuses h en er = rw (ap non_neg (sym e) ∙ sym eb ∙ h, er, en, e) refl
 
 pub returns-then-non_negative : goal.returns-then-non_negative
-returns-then-non_negative c =     counted c.args.s c.args.word (to_z-of_z c.ranges.word) c.non_negative.ensures c.if-non_negative.true c.magnitude.ensures c.capped.ensures c.with_loop_counter.ensures c.done.ensures
+returns-then-non_negative c = counted c.args.s c.args.word (to_z-of_z c.ranges.word) c.non_negative.ensures c.if-non_negative.true c.magnitude.ensures c.capped.ensures c.with_loop_counter.ensures c.done.ensures
 
 pub returns-else-non_negative : goal.returns-else-non_negative
-returns-else-non_negative c =     refuses c.args.s c.args.word (to_z-of_z c.ranges.word) c.non_negative.ensures c.if-non_negative.false c.as_index.ensures c.refused.ensures
+returns-else-non_negative c = refuses c.args.s c.args.word (to_z-of_z c.ranges.word) c.non_negative.ensures c.if-non_negative.false c.as_index.ensures c.refused.ensures

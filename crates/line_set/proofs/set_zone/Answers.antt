@@ -30,13 +30,13 @@ tested : (n : ℤ) {w w' : ℤ} {b r : Bool} → w' ≡ w → r ≡ eq_z w' n �
 tested n back e g = ap (λ (z : ℤ). eq_z z n) (sym back) ∙ sym e ∙ g
 
 pub returns-then-equal : goal.returns-then-equal
-returns-then-equal c =     c.done.ensures ∙ ap done_with c.set_pointer.ensures
+returns-then-equal c = c.done.ensures ∙ ap done_with c.set_pointer.ensures
     ∙ sym (of_0 c.args.s c.args.opcode c.args.word (tested (pos 0) (to_z-of_z c.ranges.word) c.equal.ensures c.if-equal.true))
 
 pub returns-then-equal-2 : goal.returns-then-equal-2
-returns-then-equal-2 c =     c.done-then-equal-2.ensures ∙ ap done_with c.set_pointer-then-equal-2.ensures
+returns-then-equal-2 c = c.done-then-equal-2.ensures ∙ ap done_with c.set_pointer-then-equal-2.ensures
     ∙ sym (of_1 c.args.s c.args.opcode c.args.word (tested (pos 0) (to_z-of_z c.ranges.word) c.equal.ensures c.if-equal.false) (tested (pos 1) (to_z-of_z c.ranges.word) c.equal-else-equal.ensures c.if-equal-2.true))
 
 pub returns-else-equal-2 : goal.returns-else-equal-2
-returns-else-equal-2 c =     c.refused.ensures ∙ ap (λ (n : ℕ). refused_with c.args.s (ZonePointer n)) (c.as_index.ensures ∙ ap index_of (to_z-of_z c.ranges.word))
+returns-else-equal-2 c = c.refused.ensures ∙ ap (λ (n : ℕ). refused_with c.args.s (ZonePointer n)) (c.as_index.ensures ∙ ap index_of (to_z-of_z c.ranges.word))
     ∙ sym (of_neither c.args.s c.args.opcode c.args.word (tested (pos 0) (to_z-of_z c.ranges.word) c.equal.ensures c.if-equal.false) (tested (pos 1) (to_z-of_z c.ranges.word) c.equal-else-equal.ensures c.if-equal-2.false))

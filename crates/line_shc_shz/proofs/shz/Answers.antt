@@ -33,14 +33,14 @@ span_in b p start end zone = let a = b.args in
     span_of a.s.vectors a.s.facts zone p false start end a.gox.now a.goy.now a.tox.now a.toy.now (zones_of (entry b))
 
 pub returns-then-operands-lt1 : goal.returns-then-operands-lt1
-returns-then-operands-lt1 c =     λ rules controls gux guy. shz_missing (lent (goal.at.returns-then-operands-lt1 c).Start rules controls gux guy) c.args.opcode c.args.operands.now (entry (goal.at.returns-then-operands-lt1 c).Start) c.if-operands-lt1.true (ap (into (entry (goal.at.returns-then-operands-lt1 c).Start)) c.refused.ensures)
+returns-then-operands-lt1 c = λ rules controls gux guy. shz_missing (lent (goal.at.returns-then-operands-lt1 c).Start rules controls gux guy) c.args.opcode c.args.operands.now (entry (goal.at.returns-then-operands-lt1 c).Start) c.if-operands-lt1.true (ap (into (entry (goal.at.returns-then-operands-lt1 c).Start)) c.refused.ensures)
 
 pub returns-then-zone-gt1 : goal.returns-then-zone-gt1
-returns-then-zone-gt1 c =     λ rules controls gux guy. no_such_zone (lent (goal.at.returns-then-zone-gt1 c).Start rules controls gux guy) c.args.opcode c.args.operands.now (entry (goal.at.returns-then-zone-gt1 c).Start) c.if-operands-lt1.false c.index_at-zone.ensures c.if-zone-gt1.true (ap (into (entry (goal.at.returns-then-zone-gt1 c).Start)) c.refused-then-zone-gt1.ensures)
+returns-then-zone-gt1 c = λ rules controls gux guy. no_such_zone (lent (goal.at.returns-then-zone-gt1 c).Start rules controls gux guy) c.args.opcode c.args.operands.now (entry (goal.at.returns-then-zone-gt1 c).Start) c.if-operands-lt1.false c.index_at-zone.ensures c.if-zone-gt1.true (ap (into (entry (goal.at.returns-then-zone-gt1 c).Start)) c.refused-then-zone-gt1.ensures)
 
 pub shift_span_of-call-requires : goal.shift_span_of-call-requires
 shift_span_of-call-requires c = c.requires
 
 pub returns : goal.returns
-returns c =     λ rules controls gux guy. in_words c.by_words.ensures (zone_shifted (lent (goal.at.returns c).Start rules controls gux guy) c.args.opcode c.args.operands.now (entry (goal.at.returns c).Start) c.if-operands-lt1.false c.index_at-zone.ensures c.if-zone-gt1.false c.point_after.ensures (c.size_of-end.ensures ∙ ap (size_of _ _) c.zp2-zp2.ensures)
+returns c = λ rules controls gux guy. in_words c.by_words.ensures (zone_shifted (lent (goal.at.returns c).Start rules controls gux guy) c.args.opcode c.args.operands.now (entry (goal.at.returns c).Start) c.if-operands-lt1.false c.index_at-zone.ensures c.if-zone-gt1.false c.point_after.ensures (c.size_of-end.ensures ∙ ap (size_of _ _) c.zp2-zp2.ensures)
     (span_is (lent (goal.at.returns c).Start rules controls gux guy) c.args.opcode false 0 c.size_of-end.result (entry (goal.at.returns c).Start) c.reference_of-reference.ensures (c.shift_span_of-call.ensures ∙ ap (span_in (goal.at.returns c).Start c.reference_of-reference.result 0 c.size_of-end.result) c.zp2-zp2.ensures)))

@@ -45,7 +45,7 @@ pub shift_in-call-requires : goal.shift_in-call-requires
 shift_in-call-requires c = let p = c.requires in (p.1, p.2, p.4, p.5)
 
 pub returns-in-Refused : goal.returns-in-Refused
-returns-in-Refused c =     λ rules controls gux guy contours. shp_refused (held (goal.at.returns-in-Refused c).Start rules controls gux guy contours) c.args.opcode c.args.operands.now (entry (goal.at.returns-in-Refused c).Start) c.reference_of-reference.ensures c.displaced-by.ensures
+returns-in-Refused c = λ rules controls gux guy contours. shp_refused (held (goal.at.returns-in-Refused c).Start rules controls gux guy contours) c.args.opcode c.args.operands.now (entry (goal.at.returns-in-Refused c).Start) c.reference_of-reference.ensures c.displaced-by.ensures
     c.in-Refused.is (ap (into (entry (goal.at.returns-in-Refused c).Start)) c.refused.ensures)
 
 pub returns-else-count-eq1 : goal.returns-else-count-eq1

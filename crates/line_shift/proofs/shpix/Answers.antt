@@ -21,10 +21,10 @@ entry s tox toy = let a = s.args in
     world a.s a.gx.now a.gy.now a.gflags.now tox toy a.tx.now a.ty.now a.tflags.now
 
 pub returns-then-facts : goal.returns-then-facts
-returns-then-facts c =     λ f opcode tox toy. compatible f opcode c.args.operands.now (entry (goal.at.returns-then-facts c).Start tox toy) c.if-facts.true (ap (into (entry (goal.at.returns-then-facts c).Start tox toy)) c.refused.ensures)
+returns-then-facts c = λ f opcode tox toy. compatible f opcode c.args.operands.now (entry (goal.at.returns-then-facts c).Start tox toy) c.if-facts.true (ap (into (entry (goal.at.returns-then-facts c).Start tox toy)) c.refused.ensures)
 
 pub returns-then-operands-eq0 : goal.returns-then-operands-eq0
-returns-then-operands-eq0 c =     λ f opcode tox toy. no_amount f opcode c.args.operands.now (entry (goal.at.returns-then-operands-eq0 c).Start tox toy) c.if-facts.false c.if-operands-eq0.true (ap (into (entry (goal.at.returns-then-operands-eq0 c).Start tox toy)) c.refused-then-operands-eq0.ensures)
+returns-then-operands-eq0 c = λ f opcode tox toy. no_amount f opcode c.args.operands.now (entry (goal.at.returns-then-operands-eq0 c).Start tox toy) c.if-facts.false c.if-operands-eq0.true (ap (into (entry (goal.at.returns-then-operands-eq0 c).Start tox toy)) c.refused-then-operands-eq0.ensures)
 
 -- one point: the counter says so
 pub returns-then-count-eq1 : goal.returns-then-count-eq1

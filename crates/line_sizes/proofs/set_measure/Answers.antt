@@ -10,7 +10,7 @@ use Rattle.line_sizes.proofs.set_measure.Goals as goal
 
 pub returns-then-opcode-ge77 : goal.returns-then-opcode-ge77
 unfolding measure_by
-returns-then-opcode-ge77 c =     rw (le-leb 0x4D c.args.opcode c.if-opcode-ge77.true) (c.done.ensures ∙ ap done_with c.set_flipping.ensures)
+returns-then-opcode-ge77 c = rw (le-leb 0x4D c.args.opcode c.if-opcode-ge77.true) (c.done.ensures ∙ ap done_with c.set_flipping.ensures)
 
 pub returns-then-operands-eq0 : goal.returns-then-operands-eq0
 unfolding measure_by

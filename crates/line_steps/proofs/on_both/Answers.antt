@@ -5,5 +5,5 @@ use Rattle.graphics.specs.declared.GraphicsState.{GraphicsState}
 use Rattle.line_steps.proofs.on_both.Goals as goal
 
 pub returns : goal.returns
-returns c = 
+returns c =
     c.with_rp1.ensures ∙ ap (λ (t : GraphicsState). with_references t (rp1_at t.references c.args.at)) c.with_rp0.ensures

@@ -6,9 +6,9 @@ use Rattle.line.specs.World.{World}
 use Rattle.line_steps.proofs.settle.Goals as goal
 
 pub returns-in-Done : goal.returns-in-Done
-returns-in-Done c = 
+returns-in-Done c =
     λ w. ap (into w) (c.done.ensures ∙ ap done_with (c.on_both.ensures ∙ ap (both_at c.args.at) c.with_rounding.ensures)) ∙ sym (ap (by_call (in_state w c.args.s) (λ (v : World). done_in (on_both c.args.at (rounded_in c.args.wrapped v)))) c.in-Done.is)
 
 pub returns-in-Refused : goal.returns-in-Refused
-returns-in-Refused c = 
+returns-in-Refused c =
     λ w. ap (into w) c.refused.ensures ∙ sym (ap (by_call (in_state w c.args.s) (λ (v : World). done_in (on_both c.args.at (rounded_in c.args.wrapped v)))) c.in-Refused.is)

@@ -11,6 +11,6 @@ use Rattle.line_steps.proofs.step_from.Goals as goal
 
 pub returns : goal.returns
 unfolding step_from
-returns c = 
+returns c =
     let word : ℤ → Tracked = λ z. record { word = z; wrapped = c.args.r.wrapped } in
     ap word (back32 c.wrapping_sub.result c.wrapping_sub.type_inv ∙ c.wrapping_sub.ensures ∙ ap₂ sub32 (back32 c.args.r.word (omega arith)) (to_z-of_z c.ranges.own))

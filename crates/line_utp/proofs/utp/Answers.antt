@@ -17,7 +17,7 @@ returns-then-operands-lt1 c = let a = c.args in
     utp_missing f opcode a.operands.now w c.if-operands-lt1.true (ap (into w) c.refused.ensures)
 
 pub returns : goal.returns
-returns c =     let a = c.args in let f = a.s.vectors.freedom in
+returns c = let a = c.args in let f = a.s.vectors.freedom in
     λ fixed opcode gx gy tox toy tx ty. in_words c.by_words.ensures (utp_done fixed opcode a.operands.now (world a.s gx gy a.gflags.now tox toy tx ty a.tflags.now)
     c.if-operands-lt1.false c.index_at-at.ensures
     (c.equal-x.ensures ∙ ap (λ (z : ℤ). eq_z z (pos 0)) (back32 f.x (omega (arith, c.struct_told-1.given))))

@@ -10,4 +10,4 @@ use Rattle.line_vectors.proofs.short_of.Goals as goal
 
 pub returns : goal.returns
 unfolding short
-returns c =     back32 c.shift_right.result c.shift_right.type_inv ∙ c.shift_right.ensures ∙ ap (λ (z : ℤ). shr_z z 65536) (back32 c.wrapping_mul.result c.wrapping_mul.type_inv ∙ c.wrapping_mul.ensures ∙ ap (λ (z : ℤ). mul32 z (pos 65536)) (to_z-of_z c.ranges.word))
+returns c = back32 c.shift_right.result c.shift_right.type_inv ∙ c.shift_right.ensures ∙ ap (λ (z : ℤ). shr_z z 65536) (back32 c.wrapping_mul.result c.wrapping_mul.type_inv ∙ c.wrapping_mul.ensures ∙ ap (λ (z : ℤ). mul32 z (pos 65536)) (to_z-of_z c.ranges.word))

@@ -20,10 +20,10 @@ abbrev held : Start → Rules → List ℤ → List ℤ → List ℤ → List �
 held s rules controls gux guy contours = let a = s.args in fixed rules controls gux guy a.gox.now a.goy.now contours
 
 pub returns-then-not-is_along : goal.returns-then-not-is_along
-returns-then-not-is_along c =     λ rules controls gux guy contours gflags tflags. turned_none (held (goal.at.returns-then-not-is_along c).Start rules controls gux guy contours) c.args.opcode c.args.operands.now (entry (goal.at.returns-then-not-is_along c).Start gflags tflags) (sym c.is_along.ensures ∙ not-true _ c.if-not-is_along.true-raw) c.vector_by.ensures
+returns-then-not-is_along c = λ rules controls gux guy contours gflags tflags. turned_none (held (goal.at.returns-then-not-is_along c).Start rules controls gux guy contours) c.args.opcode c.args.operands.now (entry (goal.at.returns-then-not-is_along c).Start gflags tflags) (sym c.is_along.ensures ∙ not-true _ c.if-not-is_along.true-raw) c.vector_by.ensures
 
 pub returns-then-opcode-lt134 : goal.returns-then-opcode-lt134
-returns-then-opcode-lt134 c =     λ rules controls gux guy contours gflags tflags. turned_one (held (goal.at.returns-then-opcode-lt134 c).Start rules controls gux guy contours) c.args.opcode c.args.operands.now (entry (goal.at.returns-then-opcode-lt134 c).Start gflags tflags) (sym c.is_along.ensures ∙ not-false _ c.if-not-is_along.false-raw) c.is_odd-across.ensures c.zp1-zp1.ensures c.zp2-zp2.ensures c.line_found-now.ensures c.if-opcode-lt134.true c.settle_along.ensures
+returns-then-opcode-lt134 c = λ rules controls gux guy contours gflags tflags. turned_one (held (goal.at.returns-then-opcode-lt134 c).Start rules controls gux guy contours) c.args.opcode c.args.operands.now (entry (goal.at.returns-then-opcode-lt134 c).Start gflags tflags) (sym c.is_along.ensures ∙ not-false _ c.if-not-is_along.false-raw) c.is_odd-across.ensures c.zp1-zp1.ensures c.zp2-zp2.ensures c.line_found-now.ensures c.if-opcode-lt134.true c.settle_along.ensures
 
 pub returns : goal.returns
-returns c =     λ rules controls gux guy contours gflags tflags. turned-both (held (goal.at.returns c).Start rules controls gux guy contours) c.args.opcode c.args.operands.now (entry (goal.at.returns c).Start gflags tflags) (sym c.is_along.ensures ∙ not-false _ c.if-not-is_along.false-raw) c.is_odd-across.ensures c.zp1-zp1.ensures c.zp2-zp2.ensures c.line_found-now.ensures c.if-opcode-lt134.false c.line_found-old.ensures c.settle_dual.ensures
+returns c = λ rules controls gux guy contours gflags tflags. turned-both (held (goal.at.returns c).Start rules controls gux guy contours) c.args.opcode c.args.operands.now (entry (goal.at.returns c).Start gflags tflags) (sym c.is_along.ensures ∙ not-false _ c.if-not-is_along.false-raw) c.is_odd-across.ensures c.zp1-zp1.ensures c.zp2-zp2.ensures c.line_found-now.ensures c.if-opcode-lt134.false c.line_found-old.ensures c.settle_dual.ensures

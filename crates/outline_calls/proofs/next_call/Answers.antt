@@ -7,7 +7,7 @@ use Rattle.outline_calls.proofs.next_call.Goals as goal
 -- src/lib.rt:259:13
 pub pen_in-pen-requires : goal.pen_in-pen-requires
 pen_in-pen-requires c = let a = c.args in
-    record { words_len = nine_words a.words.now a.edges.now a.step.now a.numbers.now (sym c.is_call.ensures ∙ c.if-is_call.true); edges_len = four_edges a.words.now a.edges.now a.step.now a.numbers.now (sym c.is_call.ensures ∙ c.if-is_call.true); }
+    record { words_len = nine_words a.words.now a.edges.now a.step.now a.numbers.now (sym c.is_call.ensures ∙ c.if-is_call.true); edges_len = four_edges a.words.now a.edges.now a.step.now a.numbers.now (sym c.is_call.ensures ∙ c.if-is_call.true) }
 
 -- src/lib.rt:261:9
 pub leave-requires : goal.leave-requires

@@ -10,5 +10,5 @@ made : {w v : Walk} {b d : Bounds} → w ≡ v → b ≡ d → ◌≡◌ {A = Pe
 made e f = λ i. record { walk = e i; bounds = f i }
 
 pub returns : goal.returns
-returns c = 
+returns c =
     made c.walk_in.ensures c.bounds_in.ensures

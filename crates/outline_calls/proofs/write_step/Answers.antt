@@ -8,20 +8,20 @@ use Rattle.outline_calls.proofs.write_step.Goals as goal
 
 -- src/lib.rt:154:1
 pub returns-in-Move : goal.returns-in-Move
-returns-in-Move c = 
+returns-in-Move c =
     one_set c.args.step.now 1 c.requires ∙ sym (ap (λ (s : Step). step_number s ∷ []) c.in-Move.is)
 
 -- src/lib.rt:154:1
 pub returns-in-Line : goal.returns-in-Line
-returns-in-Line c = 
+returns-in-Line c =
     one_set c.args.step.now 2 c.requires ∙ sym (ap (λ (s : Step). step_number s ∷ []) c.in-Line.is)
 
 -- src/lib.rt:154:1
 pub returns-in-Curve : goal.returns-in-Curve
-returns-in-Curve c = 
+returns-in-Curve c =
     one_set c.args.step.now 3 c.requires ∙ sym (ap (λ (s : Step). step_number s ∷ []) c.in-Curve.is)
 
 -- src/lib.rt:154:1
 pub returns-in-Close : goal.returns-in-Close
-returns-in-Close c = 
+returns-in-Close c =
     one_set c.args.step.now 4 c.requires ∙ sym (ap (λ (s : Step). step_number s ∷ []) c.in-Close.is)

@@ -1,4 +1,3 @@
-
 use Prim.Native.Nat.{ℕ}
 use mathlib.Core.Path.{sym, ap}
 use Rattle.flags.specs.Flag.{has_any}

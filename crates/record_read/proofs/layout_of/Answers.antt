@@ -13,5 +13,5 @@ laid_out :
 laid_out bytes ep ec et ek ew es = rw (es, ep, ec, et, ek, ew) refl
 
 pub returns : goal.returns
-returns c = 
+returns c =
     laid_out c.args.bytes.now c.trailer_word-points.ensures c.trailer_word-contours.ensures c.trailer_word-twilight.ensures c.trailer_word-controls.ensures c.trailer_word-words.ensures c.kept_in-state.ensures

@@ -11,13 +11,13 @@ filled : (c : After-write_state) → c.write_state.new.words ≡ state_words fre
 filled c = all_fresh c.args.words.now c.requires (c.write_state.ensures ∙ ap (λ s. written s c.args.words.now) c.fresh.ensures)
 
 pub slice_bounds-load_words-end : goal.slice_bounds-load_words-end
-slice_bounds-load_words-end c = 
+slice_bounds-load_words-end c =
     has_room c.args.bytes.now _ c.kept_in.ensures c.wide-kept.ensures (filled (goal.at.slice_bounds-load_words-end c).After-write_state)
 
 pub slice_bounds-load_words-end-2 : goal.slice_bounds-load_words-end-2
-slice_bounds-load_words-end-2 c = 
+slice_bounds-load_words-end-2 c =
     lent c.args.bytes.now _ c.kept_in.ensures c.wide-kept.ensures (filled (goal.at.slice_bounds-load_words-end-2 c).After-write_state)
 
 pub returns : goal.returns
-returns c = 
+returns c =
     loaded c.args.bytes.now _ c.kept_in.ensures c.wide-kept.ensures (filled (goal.at.returns c).After-write_state) c.load_words.ensures

@@ -13,20 +13,20 @@ pub returns-then-not-is_framed : goal.returns-then-not-is_framed
 returns-then-not-is_framed c = no_frame c.args.bytes.now c.if-bytes-gt-MOST_BYTES.false (sym c.is_framed.ensures ∙ not-true _ c.if-not-is_framed.true-raw)
 
 pub returns-then-not-words_fit_layout : goal.returns-then-not-words_fit_layout
-returns-then-not-words_fit_layout c = 
+returns-then-not-words_fit_layout c =
     let b = c.args.bytes.now in
     no_fit b c.if-bytes-gt-MOST_BYTES.false (sym c.is_framed.ensures ∙ not-false _ c.if-not-is_framed.false-raw)
     (sym (c.words_fit_layout.ensures ∙ ap (words_fit b) c.layout_of-l.ensures) ∙ not-true _ c.if-not-words_fit_layout.true-raw)
 
 pub returns-then-not-sum_fits : goal.returns-then-not-sum_fits
-returns-then-not-sum_fits c = 
+returns-then-not-sum_fits c =
     let b = c.args.bytes.now in
     no_sum b c.if-bytes-gt-MOST_BYTES.false (sym c.is_framed.ensures ∙ not-false _ c.if-not-is_framed.false-raw)
     (sym (c.words_fit_layout.ensures ∙ ap (words_fit b) c.layout_of-l.ensures) ∙ not-false _ c.if-not-words_fit_layout.false-raw)
     (sym c.sum_fits.ensures ∙ not-true _ c.if-not-sum_fits.true-raw)
 
 pub returns : goal.returns
-returns c = 
+returns c =
     let b = c.args.bytes.now in
     ap Whole c.layout_of-l.ensures
     ∙ whole b c.if-bytes-gt-MOST_BYTES.false (sym c.is_framed.ensures ∙ not-false _ c.if-not-is_framed.false-raw)

@@ -3,5 +3,5 @@ use Rattle.record_read.proofs.Seen.{total-seen}
 use Rattle.record_read.proofs.sum_fits.Goals as goal
 
 pub returns : goal.returns
-returns c = 
+returns c =
     total-seen c.args.bytes.now c.word_count.ensures c.less.ensures c.sum.ensures c.trailer_word.ensures

@@ -3,5 +3,5 @@ use Rattle.record_read.proofs.Seen.{trailer-seen}
 use Rattle.record_read.proofs.trailer_fits.Goals as goal
 
 pub returns : goal.returns
-returns c = 
+returns c =
     trailer-seen c.args.bytes.now c.args.l c.adds_up.ensures c.leads_back.ensures

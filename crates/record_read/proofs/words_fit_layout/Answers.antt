@@ -3,5 +3,5 @@ use Rattle.record_read.proofs.Seen.{words-seen}
 use Rattle.record_read.proofs.words_fit_layout.Goals as goal
 
 pub returns : goal.returns
-returns c = 
+returns c =
     words-seen c.args.bytes.now c.args.l c.state_fits.ensures c.list_at_most.ensures c.list_at_most-2.ensures c.list_at_most-3.ensures

@@ -6,9 +6,6 @@ use Rattle.record_write.proofs.store.Goals as goal
 pub returns : goal.returns
 unfolding with_record
 returns c =
-    
-    
-    
     let a = c.args in
     c.store_trailer.ensures
     ∙ ap (with_trailer a.l)

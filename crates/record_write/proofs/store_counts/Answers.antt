@@ -3,5 +3,5 @@ use Rattle.record_write.proofs.Steps.{counts-stored}
 use Rattle.record_write.proofs.store_counts.Goals as goal
 
 pub returns : goal.returns
-returns c = 
+returns c =
     counts-stored c.args.l c.args.out.now c.way_back-back.ensures c.at_trailer.ensures c.store_words.ensures

@@ -6,7 +6,7 @@ use Rattle.record_write.proofs.store_currents.Goals as goal
 
 pub returns : goal.returns
 unfolding with_currents
-returns c = 
+returns c =
     stored _ c.place-4.ensures c.store_ends.ensures
     (stored _ c.place-3.ensures c.store_flags.ensures
     (stored _ c.place-2.ensures c.store_numbers-2.ensures

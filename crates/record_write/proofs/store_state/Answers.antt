@@ -8,5 +8,5 @@ use Rattle.record_write.proofs.store_state.Goals as goal
 
 pub returns : goal.returns
 unfolding written
-returns c = 
+returns c =
     c.store_words.ensures ∙ ap (λ (ws : List ℕ). placed 0 ws c.args.out.now) c.write_state.ensures

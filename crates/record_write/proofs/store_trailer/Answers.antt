@@ -4,5 +4,5 @@ use Rattle.record_write.specs.Steps.{with_sum}
 use Rattle.record_write.proofs.store_trailer.Goals as goal
 
 pub returns : goal.returns
-returns c = 
+returns c =
     c.store_sum.ensures ∙ ap (with_sum c.args.l) c.store_counts.ensures

@@ -6,7 +6,7 @@ use Rattle.record_write.proofs.store_twilight.Goals as goal
 
 pub returns : goal.returns
 unfolding with_twilight
-returns c = 
+returns c =
     stored _ c.place-5.ensures c.store_flags.ensures
     (stored _ c.place-4.ensures c.store_numbers-4.ensures
     (stored _ c.place-3.ensures c.store_numbers-3.ensures

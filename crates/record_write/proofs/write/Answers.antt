@@ -15,9 +15,7 @@ returns-then-not-sized c =
 pub layout_for-l-requires : goal.layout_for-l-requires
 layout_for-l-requires c =
     let a = c.args in let all = count_words (held (fixed FreeType a.controls.now a.gux.now a.guy.now a.gox.now a.goy.now a.contours.now) a.sheet.now (world a.s a.gx.now a.gy.now a.gflags.now a.tox.now a.toy.now a.tx.now a.ty.now a.tflags.now)) (sym (c.sizes_fit-sized.ensures FreeType) ∙ not-false _ c.if-not-sized.false-raw) in
-    record { points_bound = all.0; contours_bound = all.1.0; twilight_bound = all.1.1.0; controls_bound = all.1.1.1.0; words_bound = all.1.1.1.1; }
-
-
+    record { points_bound = all.0; contours_bound = all.1.0; twilight_bound = all.1.1.0; controls_bound = all.1.1.1.0; words_bound = all.1.1.1.1 }
 
 pub returns-then-size-most : goal.returns-then-size-most
 returns-then-size-most c =
