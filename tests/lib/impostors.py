@@ -82,8 +82,8 @@ def read(path):
 
 
 def refusals(log):
-    """The declarations and goals that a log refuses at their own text, as (file, name), in the log's order; and its lines that say that a proof file names what
-    the edit took away, or that the edited text can't be read, which show nothing of a rule."""
+    """The declarations and goals that a log refuses at their own text, as (file, name), in the log's order; and its lines that say that a proof no longer fits the
+    code, or that the edited text can't be read, which show nothing of a rule. Any other name that the edit took away counts for neither."""
     own, unfit = [], []
     for line in log.splitlines():
         sought = re.match(r"fn \S+: no proof: expected answers in (?:\S*/)?(proofs/\S+); `search` did not prove (.*)", line)
@@ -94,9 +94,9 @@ def refusals(log):
         if not found:
             continue
         file, name, why = found.groups()
-        if re.search(r"has no field|is not in scope|has no `|cannot be named|^`[^`]*` is no name", why) or not file.startswith("proofs/"):
+        if re.search(r"\.(?:Goals|Given)` has no `", line) or not file.startswith("proofs/"):
             unfit.append(line[:160])
-        elif name and "was not admitted" not in why and (file, name) not in own:
+        elif name and not re.search(r"was not admitted|has no field|is not in scope|has no `|cannot be named", why) and (file, name) not in own:
             own.append((file, name))
     return own, unfit
 
