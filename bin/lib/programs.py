@@ -5,16 +5,18 @@ import hashlib
 import os
 import pathlib
 import platform
+import re
 import select
 import shutil
 import signal
 import subprocess
 import time
 
-from . import outline, record
+from . import kit, outline, record
 from .calls import NAME, ROOT, Bad, Stopped, encoded, say, tell, write_all
 
 RELEASE = ROOT / "release"
+# where what was proved and built here is noted, and what rt said
 TARGET = ROOT / "target"
 LOADER = "/lib64/ld-linux-x86-64.so.2"
 # the program that replays a record, and the one that replays many, each in a frame: its length in four bytes, the low one first, and the record
@@ -138,20 +140,15 @@ def whole_output(name, ran, output, errors):
 
 @functools.lru_cache(None)
 def command(name):
-    """The words that run a program here. Programs are for x86-64: elsewhere the kit has an emulator and a loader, as rt uses them."""
+    """The words that run a program here. Programs are for x86-64: elsewhere a kit may have an emulator and a loader."""
     path = str(program(name))
     if platform.machine() == "x86_64" and os.path.exists(LOADER):
         return [path]
-    tools = kit() / "on" / platform.machine() / "toolchain"
+    tools = kit.home() / "on" / platform.machine() / "toolchain"
     loader, emulator = tools / "lib/ld-linux-x86-64.so.2", tools / "bin/qemu-x86_64"
     if not loader.exists():
         raise Bad("a program for x86-64 can't run here without the Rattle kit: put its 'rt' on the path, or set RATTLE_HOME")
     return ([str(emulator)] if os.access(emulator, os.X_OK) else []) + [str(loader), "--library-path", str(tools / "lib"), path]
-
-
-def kit():
-    rt = shutil.which("rt")
-    return pathlib.Path(os.environ.get("RATTLE_HOME") or (pathlib.Path(rt).resolve().parent.parent if rt else "/"))
 
 
 def environment():
@@ -169,8 +166,8 @@ def program(name):
     if not why:
         return RELEASE / "bin" / name
     if not is_built(name):
-        build([name], why)
-    return TARGET / "bin" / name
+        build(name, why)
+    return built(name)
 
 
 @functools.lru_cache(None)
@@ -220,9 +217,10 @@ def sum_of(path):
 
 @functools.lru_cache(None)
 def sources_sum():
-    """The sum over `sha256sum` of crates.txt and each file below crates/, in the order of their names."""
+    """The sum over `sha256sum` of crates.txt and each file below crates/, in the order of their names; what rt makes of them, in out/, is none of them."""
     files = [ROOT / "crates.txt"]
-    for folder, _, names in os.walk(ROOT / "crates"):
+    for folder, folders, names in os.walk(ROOT / "crates"):
+        folders[:] = [one for one in folders if one != "out"]
         files += [pathlib.Path(folder, name) for name in names]
     lines = [f"{sum_of(path)}  {path.relative_to(ROOT).as_posix()}\n" for path in files]
     return hashlib.sha256(encoded("".join(sorted(lines, key=lambda line: encoded(line[66:]))))).hexdigest()
@@ -231,71 +229,69 @@ def sources_sum():
 # ---- proving and building
 
 
+def is_library(name):
+    return (ROOT / "crates" / name / "src/lib.rt").exists()
+
+
+def built(name):
+    """Where rt leaves a program, or a static library."""
+    return ROOT / "crates" / name / "out" / (f"lib{name}.a" if is_library(name) else name)
+
+
+def is_there(name):
+    return os.access(built(name), os.R_OK if is_library(name) else os.X_OK)
+
+
 def note_of(name):
     """What a program was built from is noted: another text's proof says nothing of this one."""
-    return TARGET / (name + ".sums"), f"{sources_sum()} {sum_of(TARGET / 'bin' / name)}\n"
+    return TARGET / (name + ".sums"), f"{sources_sum()} {sum_of(built(name))}\n"
 
 
 def is_built(name):
     path, wanted = note_of(name)
     try:
-        return path.read_text() == wanted and os.access(TARGET / "bin" / name, os.X_OK)
+        return path.read_text() == wanted and is_there(name)
     except OSError:
         return False
 
 
-def build(names, why):
-    """Proves and links programs, and shows how far that is."""
-    ask_rt(["check"] + names, names, why)
-    for name in names:
-        if not os.access(TARGET / "bin" / name, os.X_OK):
-            raise Bad(f"rt check {name} left no program target/bin/{name}")
-        path, text = note_of(name)
-        path.write_text(text)
+def note(name):
+    """Notes that a program was proved and built from the sources as they stand."""
+    path, text = note_of(name)
+    path.parent.mkdir(exist_ok=True)
+    path.write_text(text)
 
 
-def order_of(names):
-    """The crates that `rt check` proves for these names, in its order: by floors, as crates.txt lists what stands on what."""
-    needs = {}
-    for line in (ROOT / "crates.txt").read_text().splitlines():
-        name, colon, below = line.split("#")[0].partition(":")
-        if colon:
-            needs[name.strip()] = below.split()
-    floors = {}
-
-    def visit(name):
-        if name in needs and name not in floors:
-            for below in needs[name]:
-                visit(below)
-            floors[name] = 1 + max((floors[below] for below in needs[name] if below in floors), default=0)
-
-    for name in names:
-        visit(name)
-    return sorted(floors, key=floors.get)
+def build(name, why):
+    """Proves and links a program, or a static library, and shows how far that is. rt starts a program that it has built: it gets no input."""
+    verb = "lib" if is_library(name) else "run"
+    ask_rt(verb, name, why)
+    if not is_there(name):
+        raise Bad(f"rt {verb} left no {built(name).relative_to(ROOT)}")
+    note(name)
 
 
-def ask_rt(words, names, why):
-    """Has rt prove and build crates, what it says in a log, with a line that shows the crate under way."""
-    what = " and ".join(names)
+def ask_rt(verb, name, why):
+    """Has rt prove and build a crate, what it says in a log, with a line that shows the crate under way."""
     if not shutil.which("rt"):
-        raise Bad(f"{why}, and no 'rt' to prove and build {what}: install the Rattle kit and put its 'rt' on the path")
-    say(f"{why}: proving and building {what}; it takes some minutes where nothing is proved yet")
-    log = TARGET / (names[0] + ".log")
+        raise Bad(f"{why}, and no 'rt' to prove and build {name}: install the Rattle kit and put its 'rt' on the path")
+    say(f"{why}: proving and building {name}; it takes some minutes where nothing is proved yet")
+    log = TARGET / (name + ".log")
     try:
         log.parent.mkdir(exist_ok=True)
         with open(log, "wb") as out:
-            status = watched(["rt"] + words, out, Progress(order_of(names), log))
+            status = watched(["rt", verb], ROOT / "crates" / name, out, Progress(kit.order_of(name), log))
     except OSError as bad:
         raise Bad(f"{bad.filename or log}: {bad.strerror}") from None
     if status:
         for line in log.read_bytes().splitlines()[-5:]:
             say(line.decode(errors="replace"))
-        raise Bad(f"rt {' '.join(words)} failed; all that it said is in {log}")
+        raise Bad(f"rt {verb} failed in crates/{name}; all that it said is in {log}")
 
 
-def watched(words, out, progress):
+def watched(words, folder, out, progress):
     """Runs rt to its end, or ends it. It has a process group of its own, so that its provers end with it."""
-    rt = subprocess.Popen(words, cwd=ROOT, stdin=subprocess.DEVNULL, stdout=subprocess.PIPE, stderr=subprocess.STDOUT, start_new_session=True)
+    rt = subprocess.Popen(words, cwd=folder, stdin=subprocess.DEVNULL, stdout=subprocess.PIPE, stderr=subprocess.STDOUT, start_new_session=True)
     try:
         watch(rt, out, progress)
     except BaseException as ended:
@@ -344,13 +340,13 @@ class Progress:
         self.terminal = os.isatty(2)
 
     def take(self, line):
-        words = line.split()
-        if words[:1] == [b"rt:"] and words[2:3] in ([b"proved"], [b"NOT"]) and words[1].decode() in self.crates:
-            self.done += 1
+        """rt names each crate that it begins with, and passes over what an earlier call built."""
+        begun = re.match(rb"rt: (?:chose --jobs \d+ for (\w+)|(\w+): begins with )", line)
+        name = begun and (begun.group(1) or begun.group(2)).decode()
+        if name in self.crates:
+            self.done = max(self.done, self.crates.index(name))
 
     def at(self):
-        if self.done >= len(self.crates):
-            return f"the end, all {self.done} crates done"
         return f"crate {self.done + 1} of {len(self.crates)}, {self.crates[self.done]}"
 
     def show(self):

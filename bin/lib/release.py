@@ -4,31 +4,52 @@ import os
 import shutil
 import subprocess
 
-from . import programs
-from .calls import Bad
-from .programs import RELEASE, TARGET
+from . import kit, programs
+from .calls import ROOT, Bad
+from .programs import RELEASE
 
 PROGRAMS = ["feed_sheet", "outline_record", "replay_record", "replay_records", "write_record"]
-LIBRARY = "exports"
+LIBRARY, ARCHIVE = "exports_c", "lib/libtaleviqa.a"
 SUMS = """\
 # Built from the proved sources by bin/release. `sha256sum -c SUMS` in this folder holds each file to its sum.
 # sources {sources}
-# is what `find crates.txt crates -type f | LC_ALL=C sort | xargs sha256sum | sha256sum` prints above this folder.
+# is what `find crates.txt crates -type f -not -path '*/out/*' | LC_ALL=C sort | xargs sha256sum | sha256sum` prints above this folder.
 # kit {kit}
 """
 
 
 def made():
     """Each file of the folder, by its path below it, as the sources build it: proved first where that isn't done."""
-    why = "release/ is made of what is proved"
-    programs.build(PROGRAMS, why)
-    programs.ask_rt(["staticlib", LIBRARY], [LIBRARY], why)
-    files = {f"bin/{name}": (TARGET / "bin" / name).read_bytes() for name in PROGRAMS}
-    files["lib/libtaleviqa.a"] = (TARGET / f"staticlib/lib{LIBRARY}.a").read_bytes()
-    kit = subprocess.run(["rt", "version"], stdout=subprocess.PIPE, universal_newlines=True).stdout.strip()
+    for name in PROGRAMS + [LIBRARY]:
+        if not programs.is_built(name):
+            programs.build(name, "release/ is made of what is proved")
+    files = {f"bin/{name}": programs.built(name).read_bytes() for name in PROGRAMS}
+    files[ARCHIVE] = programs.built(LIBRARY).read_bytes()
     lines = [f"{hashlib.sha256(data).hexdigest()}  {path}\n" for path, data in files.items()]
-    files["SUMS"] = (SUMS.format(sources=programs.sources_sum(), kit=kit) + "".join(lines)).encode()
+    files["SUMS"] = (SUMS.format(sources=programs.sources_sum(), kit=version()) + "".join(lines)).encode()
     return files
+
+
+def version():
+    try:
+        return subprocess.run(["rt", "version"], stdout=subprocess.PIPE, universal_newlines=True).stdout.split("\n")[0].strip()
+    except OSError:
+        raise Bad("no 'rt' to say which kit built release/: install the Rattle kit and put its 'rt' on the path") from None
+
+
+def build_library():
+    """Builds the static library, which rt ci proves and doesn't build, over the libraries that rt ci has just left beside their crates; where it put older ones back,
+    rt does it."""
+    if not kit.left_by_ci(LIBRARY):
+        programs.build(LIBRARY, "rt ci proves the static library, and doesn't build it")
+        return
+    programs.built(LIBRARY).parent.mkdir(exist_ok=True)
+    words = kit.words("build", LIBRARY) + ["--toolchain", kit.home() / "toolchain", "--backend", "llvm", "-o", programs.built(LIBRARY)]
+    ran = subprocess.run(words, cwd=ROOT / "crates" / LIBRARY, stdin=subprocess.DEVNULL, stdout=subprocess.PIPE, stderr=subprocess.STDOUT)
+    said = ran.stdout.decode(errors="replace").splitlines()
+    if ran.returncode or not said or not said[-1].startswith("logic=proved "):
+        raise Bad("\n".join([f"crates/{LIBRARY} was not built:"] + said[-5:]))
+    programs.note(LIBRARY)
 
 
 def mode_of(path):

@@ -6,9 +6,13 @@ ROOT = pathlib.Path(__file__).resolve().parents[2]
 
 def dependencies():
     """What each crate depends on, in the order of crates.txt."""
-    deps = {}
+    return {name: below for name, _, below in lines()}
+
+
+def lines():
+    """The lines of crates.txt: a crate, what it is besides ('staticlib' or nothing), and what it depends on."""
     for line in (ROOT / "crates.txt").read_text().splitlines():
-        name, colon, rest = line.split("#")[0].partition(":")
+        head, colon, below = line.split("#")[0].partition(":")
         if colon:
-            deps[name.strip()] = rest.split()
-    return deps
+            name, *kind = head.split()
+            yield name, " ".join(kind), below.split()

@@ -1,5 +1,5 @@
 """A small repository to call the commands in, with no kit on the path and nothing proved: bin/, examples/, a few lines for sources, and a release/ made here of
-target/bin/ and `sha256sum`. Whatever is called, no traceback and no nameless file may be said."""
+the programs that rt ci built and `sha256sum`. Whatever is called, no traceback and no nameless file may be said."""
 import os
 import pathlib
 import platform
@@ -12,6 +12,11 @@ PROGRAMS = ("outline_record", "replay_record", "write_record")
 MANY = "replay_records"
 
 wrong = []
+
+
+def proved(name):
+    """The program that was just proved."""
+    return ROOT / "crates" / name / "out" / name
 
 
 def expect(holds, what):
@@ -28,8 +33,9 @@ class Repository:
         self.root, self.tools, self.shelf = folder / "repository", folder / "tools", folder / "shelf"
         for name in ("bin", "examples"):
             shutil.copytree(ROOT / name, self.root / name)
-        (self.root / "crates/low/src").mkdir(parents=True)
-        (self.root / "crates/low/src/lib.rt").write_text("// a source\n")
+        for crate, file in [("low", "lib.rt"), ("high", "lib.rt")] + [(name, "main.rt") for name in PROGRAMS]:
+            (self.root / "crates" / crate / "src").mkdir(parents=True)
+            (self.root / "crates" / crate / "src" / file).write_text("// a source\n")
         (self.root / "crates.txt").write_text("# what stands on what\noutline_record: high\nreplay_record: low high\nwrite_record: high\nhigh: low\nlow:\n")
         self.tools.mkdir()
         self.shelf.mkdir()
@@ -49,14 +55,14 @@ class Repository:
         for name in PROGRAMS:
             program = self.root / "release/bin" / name
             if stand_in is None or name not in names:
-                shutil.copy(ROOT / "target/bin" / name, program)
+                shutil.copy(proved(name), program)
             else:
                 program.write_text("#!/bin/sh\n" + stand_in)
             program.chmod(0o755)
         if many is not None:
             (self.root / "release/bin" / MANY).write_bytes(many)
             (self.root / "release/bin" / MANY).chmod(0o755)
-        shell = "printf '# sources %s\\n' $(find crates.txt crates -type f | LC_ALL=C sort | xargs sha256sum | sha256sum | cut -d' ' -f1) >release/SUMS"
+        shell = "printf '# sources %s\\n' $(find crates.txt crates -type f -not -path '*/out/*' | LC_ALL=C sort | xargs sha256sum | sha256sum | cut -d' ' -f1) >release/SUMS"
         subprocess.run(["sh", "-c", shell + "; cd release && sha256sum bin/* >>SUMS"], cwd=self.root, check=True)
 
     def start(self, words, **how):

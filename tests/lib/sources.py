@@ -6,10 +6,15 @@ from listed import ROOT, dependencies
 
 
 class Call:
-    def __init__(self, crate, path, name, parameters):
+    def __init__(self, crate, path, name, parameters, returns):
         self.crate, self.path, self.name = crate, path, name
         self.parameters = parameters  # (name, type), in order
-        self.requires, self.ensures = [], []
+        self.returns = returns  # its type, or nothing
+        self.requires, self.ensures = [], []  # the clauses' texts, without their names
+
+
+# The crates that read and write for a program, and those that have the oracle's cases and the tally of them.
+SYSTEM, TESTS = ("record_io", "feed_blocks"), ("test_cases", "test_tally")
 
 
 def product():
@@ -19,7 +24,7 @@ def product():
 
     @functools.lru_cache(maxsize=None)
     def outside(name):
-        return name in ("test_cases", "test_tally", "libc") or any(outside(d) for d in deps.get(name, []))
+        return name in SYSTEM + TESTS or any(outside(d) for d in deps.get(name, []))
     return [name for name in deps if not outside(name)]
 
 
@@ -39,7 +44,8 @@ def calls(crate):
         text = re.sub(r"//[^\n]*", "", path.read_text())
         for found in re.finditer(r"\bpub (?:extern \"C\" )?fn (\w+)(?:<[^>]*>)?\(([^)]*)\)", text):
             parameters = [tuple(part.strip() for part in one.split(":", 1)) for one in found.group(2).split(",") if ":" in one]
-            call = Call(crate, path.relative_to(ROOT), found.group(1), parameters)
+            returns = re.compile(r"\s*->\s*(.*?)\s*(?=\brequires\b|\bensures\b|\{)", re.S).match(text, found.end())
+            call = Call(crate, path.relative_to(ROOT), found.group(1), parameters, returns.group(1) if returns else "")
             at = found.end()
             while True:
                 clause = re.compile(r"\s*(requires|ensures)\b[^{]*(?={)").search(text, at)
@@ -49,6 +55,15 @@ def calls(crate):
                 inside, at = braced(text, clause.end())
                 (call.requires if clause.group(1) == "requires" else call.ensures).append(inside)
             yield call
+
+
+# A crate is a library or a static library, not both: what C calls stands in a crate of its own, whose calls are those of the library, word for word.
+FOR_C = {"exports_c": "exports"}
+
+
+def as_declared(call):
+    """What a caller of a call reads: its parameters, its result and its clauses."""
+    return call.parameters, call.returns, [" ".join(one.split()) for one in call.requires], [" ".join(one.split()) for one in call.ensures]
 
 
 # What users call, beside the direct calls. The calls of PURE are users' too: they are lent no list to change, but for those that are faces for that.
@@ -88,8 +103,8 @@ def outcomes(call):
 
 
 def law_of(call):
-    """The law in DIRECT on what a direct call says; with -has-one-outcome behind it, that in the face's file of outcomes."""
-    return call.name.replace("_", "-")
+    """The law in DIRECT on what a direct call says; with _has_one_outcome behind it, that in the face's file of outcomes."""
+    return call.name
 
 
 def stated(path, law):
@@ -99,18 +114,18 @@ def stated(path, law):
 
 
 def one_outcome(call):
-    """What `NAME-has-one-outcome` must end with: the contract twice, for r₁ and the lists left beside it and for r₂ and its lists, and that the parts are equal."""
+    """What `NAME_has_one_outcome` must end with: the contract twice, for r₁ and the lists left beside it and for r₂ and its lists, and that the parts are equal."""
     premises, left, answers = [], [], False
     for k in "₁₂":
-        for clause in call.ensures:
-            result, said = re.fullmatch(r"\s*λ (\w+)\. ⌜(.*)⌝\s*", clause, re.S).groups()
-            answers = answers or result != "_"
-            left += [name for name in re.findall(r"\((\w+) \.exit\)", said) if name not in left]
-            said = re.sub(rf"(?<![\w.]){result}(?!\w)", "r" + k, said)
-            for when, mark in (("exit", k), ("entry", "")):
-                said = re.sub(rf"now \((\w+) \.{when}\)", rf"\1{mark}", said)
-            said = re.sub(r"(\w+) \.entry\b", r"\1", said)  # a struct that holds a slice, and its slice
-            premises.append(" ".join(re.sub(r"\((\w+)\)", r"\1", said).split()))
+        for said in call.ensures:
+            answers = answers or re.search(r"\bresult\b", said) is not None
+            left += [name for name in re.findall(r"\b(\w+)\.new\b", said) if name not in left]
+            said = re.sub(r"(?<![\w.])result\b", "r" + k, said)
+            said = re.sub(r"(?<![\w.])(\w+)\.new\b", rf"\1{k}", said)
+            said = re.sub(r"(?<![\w.])(\w+)\.(?:old|now)\b", r"\1", said)
+            said = re.sub(r"(?<![\w.])(\w+)\.entry\b", r"\1", said)  # a struct that holds a slice, and its slice
+            said = " ".join(re.sub(r"\((\w+)\)", r"\1", said).split())
+            premises.append(f"({said})" if re.match(r"\(\w+ : \w+\) → ", said) else said)  # what holds for each value is one premise
     parts = [f"{name}₁ ≡ {name}₂" for name in ["r"] * answers + left]
     return " → ".join(premises + [parts[0] if len(parts) == 1 else " × ".join(f"({part})" for part in parts)])
 
@@ -131,4 +146,4 @@ def face_table():
     """The rows of docs/PROMISES.md's table of faces."""
     for call in faces():
         says = f"`{law_of(call)}` in `{DIRECT}`" if is_direct(call) else ""
-        yield f"| `{call.name}` in `{call.path}` | `{law_of(call)}-has-one-outcome` in `{outcomes(call)}` | {says} |".replace("|  |", "| |")
+        yield f"| `{call.name}` in `{call.path}` | `{law_of(call)}_has_one_outcome` in `{outcomes(call)}` | {says} |".replace("|  |", "| |")

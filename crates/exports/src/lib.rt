@@ -1,4 +1,5 @@
-// What programs in C call: one run of a sheet, a feed of it in pieces, and an outline step by step, by slices and numbers alone (include/taleviqa.h).
+// What programs in C call, through the crate exports_c: one run of a sheet, a feed of it in pieces, and an outline step by step, by slices and numbers
+// alone (include/taleviqa.h).
 //
 // `taleviqa_run` answers for every input, and what it returns and leaves in each list is one equation with `call_of` of specs/Call.antt. The state
 // goes in and comes back as the words of the crate state_words; words that are no state are refused with 16, and so is a number that names no rules
@@ -76,8 +77,7 @@ fn say(out: Outcome, answer: &mut [u64]) -> u32
 }
 
 // A run from a place of the sheet. The number is returned, and stands first in the answer.
-#[unsafe(no_mangle)]
-pub extern "C" fn taleviqa_run(
+pub fn taleviqa_run(
     rules: u32,
     start: usize,
     budget: u64,
@@ -121,8 +121,7 @@ pub extern "C" fn taleviqa_run(
 
 // ---- feeds
 // A piece of a sheet. The number is returned, and stands first in what is kept.
-#[unsafe(no_mangle)]
-pub extern "C" fn taleviqa_feed(
+pub fn taleviqa_feed(
     rules: u32,
     state: &mut [u32],
     piece: &[i32],
@@ -152,8 +151,7 @@ pub extern "C" fn taleviqa_feed(
 }
 
 // The last call of a feed, which has no words: the rules don't matter, and nothing changes but what is kept.
-#[unsafe(no_mangle)]
-pub extern "C" fn taleviqa_feed_end(
+pub fn taleviqa_feed_end(
     state: &[u32],
     carry: &[i32],
     controls: &[i32],
@@ -182,8 +180,7 @@ pub extern "C" fn taleviqa_feed_end(
 
 // ---- outlines
 // A pen for the outline of a glyph that can be drawn. The number is 0 then, and the pen is written.
-#[unsafe(no_mangle)]
-pub extern "C" fn taleviqa_outline_begin(
+pub fn taleviqa_outline_begin(
     gx: &[i32],
     gy: &[i32],
     gflags: &[u8],
@@ -196,8 +193,7 @@ pub extern "C" fn taleviqa_outline_begin(
 }
 
 // The next step of an outline, and the pen and the box behind it.
-#[unsafe(no_mangle)]
-pub extern "C" fn taleviqa_outline_next(
+pub fn taleviqa_outline_next(
     gx: &[i32],
     gy: &[i32],
     gflags: &[u8],
