@@ -14,11 +14,12 @@ import re
 import sys
 
 NAME = r"[^\s(){}\[\],.;«»\"`]+"
-DEFINED = re.compile(r"^(?:(?:abbrev|unfoldable|pub)\s+)*(" + NAME + r")\s+:\s")
+DEFINED = re.compile(r"^ *(?:(?:abbrev|unfoldable|pub)\s+)*(" + NAME + r")\s+:(?:\s|$)")
 FIELD = re.compile(r"^ +pub ([a-z][A-Za-z0-9'-]*) : ")
 # A lemma that would have its function's name gets _lem.
 LEMMAS = ["bit-and", "bit-or", "bit-xor", "place-seen", "older-measures", "start-at", "start-of", "mirrored-word", "state-words", "state-size",
-    "from-to", "moved-by", "whole-by", "made-from", "at-first", "walk-by", "by-mode", "begun-by", "counts-fit", "words-fit", "in-zone", "marked-y", "marked-x", "reads-short"]
+    "from-to", "moved-by", "whole-by", "made-from", "at-first", "walk-by", "by-mode", "begun-by", "counts-fit", "words-fit", "in-zone", "marked-y", "marked-x", "reads-short", "odd-signs",
+    "displaced-in", "on-entry", "by-found", "by-displaced"]
 # A definition that would fall together with a lemma of another crate.
 OTHERS = {"isOpen": "said_is_open", "hasRoom": "carry_has_room"}
 

@@ -38,42 +38,7 @@ use Rattle.moves.specs.declared.Move.{Move}
 use Rattle.moves.specs.declared.Reference.{Reference}
 use Rattle.direct_moves.specs.Direct.{displacedAfter, entry_by, moveAfter, outline_fits, pairs_fit, shiftAfter, tryDisplacementOf, tryMoveOriginalOf, tryMovePointOf, tryMoveZp2Of, zones_fit, zp2After}
 use Rattle.iup.specs.Iup.{Swept, sizes_fit, tried_of}
-
--- ---- the tests, and what is said by them
-pub record Test : Type 0 where
-  pub holds : Bool
-  -- where it doesn't
-  pub number : ℕ
-  pub detail : ℕ
-
-abbrev pub sizes : Bool → Test
-sizes fit = record { holds = fit; number = 2; detail = 0 }
-
-abbrev pub ends : Bool → Test
-ends rise = record { holds = rise; number = 14; detail = 0 }
-
-abbrev pub state : Bool → Test
-state usable = record { holds = usable; number = 3; detail = 0 }
-
-abbrev pub point : ℕ → Bool → Test
-point at isThere = record { holds = isThere; number = 7; detail = at }
-
-abbrev pub range : ℕ → Bool → Test
-range start isThere = record { holds = isThere; number = 11; detail = start }
-
--- "with place and lines 0"
-abbrev pub says : ℕ → ℕ → Said
-says number detail = record { number = number; place = 0; lines = 0; detail = detail }
-
--- the first that fails decides
-abbrev pub in_order : List Test → Said
-in_order [] = says 0 0
-in_order (t ∷ ts) = cond t.holds (in_order ts) (says t.number t.detail)
-
--- the list of the zone that is named
-abbrev pub of_zone : ZonePointer → List ℤ → List ℤ → List ℤ
-of_zone Glyph glyph twilight = glyph
-of_zone Twilight glyph twilight = twilight
+use Rattle.laws_direct.proofs.Tests.{sizes, ends, state, point, range, says, in_order, of_zone}
 
 -- what is said of what a test chooses
 by_test : {A : Type 0} (said : A → Said) (holds : Bool) {yes no : A} {done refused : Said}
@@ -120,14 +85,11 @@ module _ (flags : List ℕ) (at : ℕ) where
     try_is_touched = by_test said_of_touched (flags_fit flags) touched refl
 
 module _ (flags : List ℕ) (start end : ℕ) (on : Bool) where
-  set-on-curve : said_of_marked (set_on_curve_of flags start end on) ≡ in_order (range start (leb start end && leb end (length flags)) ∷ [])
-  unfolding set_on_curve_of
-  set-on-curve = by_test said_of_marked (leb start end && leb end (length flags)) refl refl
-
   pub try-set-on-curve :
       said_of_call (try_set_on_curve_of flags start end on).call
       ≡ in_order (sizes (flags_fit flags) ∷ range start (leb start end && leb end (length flags)) ∷ [])
-  try-set-on-curve = by_test said_of_marked (flags_fit flags) set-on-curve refl
+  unfolding set_on_curve_of
+  try-set-on-curve = by_test said_of_marked (flags_fit flags) (by_test said_of_marked (leb start end && leb end (length flags)) refl refl) refl
 
 -- ---- what takes a state and no list
 pub try_round : (s : RoundState) (d : ℤ) → said_of_rounded (rounded_of s d) ≡ in_order (state (usable s) ∷ [])
