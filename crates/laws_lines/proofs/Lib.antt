@@ -2,9 +2,13 @@ pub mod Measures
 pub mod Stays
 pub mod Rows
 pub mod Sets
+pub mod Kept
 pub mod Lengths
 pub mod Usable
+pub mod StillUsable
+pub mod AllRows
 pub mod Lines
 pub mod Colour
 pub mod Spans
+pub mod NoPoint
 pub mod Order

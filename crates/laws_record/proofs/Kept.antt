@@ -1,6 +1,6 @@
 -- What is read is written again: `words_kept` holds of every byte string that `read_of` keeps, whatever its edition: the state's words, completed where the
 -- edition is older, and all that stood between them and the trailer. Of the newest edition it is the same bytes: `written_as_read`. What older ones
--- are completed with is in `count_of_1` and `older_measures_lem`. Assumes nothing.
+-- are completed with is in `count_of_1` and Older.antt's `older_measures_lem`. Assumes nothing.
 use mathlib.Core.Bool.{true}
 use mathlib.Core.List.{List, [], ◌++◌, append-nil}
 use mathlib.Core.Path.{◌∙◌, ◌≡◌, ap, ap₂, refl, subst, sym}
@@ -48,7 +48,7 @@ pub record Older (s : GraphicsState) : Type 0 where
   pub last_pushed : s.tallies.last_pushed ≡ pos 0
   pub pushes : s.tallies.pushes ≡ 0
 
-older_state : (bytes : List ℕ) (k : ℕ) → k < edition → Older (state_of (part bytes 0 (kept_by k) ++ drop (kept_by k) (state_words fresh_state)))
+pub older_state : (bytes : List ℕ) (k : ℕ) → k < edition → Older (state_of (part bytes 0 (kept_by k) ++ drop (kept_by k) (state_words fresh_state)))
 unfolding state_of state_words
 older_state bytes zero h = record { measures = refl; last_pushed = refl; pushes = refl }
 older_state bytes (suc zero) h = record { measures = refl; last_pushed = refl; pushes = refl }
@@ -201,7 +201,7 @@ module _ (bytes : List ℕ) (f : Bytes bytes) where
 
 -- ---- over every byte string
 -- what was read, and that the bytes are sound
-sound_held : (bytes : List ℕ) (o : Opened) → open_of bytes ≡ o → (h : Held) → read_as bytes o ≡ Kept h → (held_in bytes (layout_of bytes) ≡ h) × Sound bytes (layout_of bytes)
+pub sound_held : (bytes : List ℕ) (o : Opened) → open_of bytes ≡ o → (h : Held) → read_as bytes o ≡ Kept h → (held_in bytes (layout_of bytes) ≡ h) × Sound bytes (layout_of bytes)
 sound_held bytes (Whole l) e h k = (ap (held_in bytes) (layout_is bytes l e) ∙ cc k, sound bytes l e)
 sound_held bytes (Damaged why) e h k = absurd (refused_or_kept k)
 
@@ -219,9 +219,3 @@ pub count_of_1 : (bytes : List ℕ) (h : Held) → read_of bytes ≡ Kept h → 
 count_of_1 bytes h e one =
     let r = sound_held bytes (open_of bytes) refl h e in
     ap (λ (g : Held). g.world.state.tallies.wrapped_roundings) (sym r.0) ∙ no_count bytes one
-
--- and no edition before the newest has a measure but the cut-in, or a push
-pub older_measures_lem : (bytes : List ℕ) (h : Held) → read_of bytes ≡ Kept h → trailer_word bytes 5 < edition → Older h.world.state
-older_measures_lem bytes h e older =
-    let r = sound_held bytes (open_of bytes) refl h e in
-    subst (λ (g : Held). Older g.world.state) r.0 (older_state bytes (trailer_word bytes 5) older)

@@ -24,7 +24,8 @@ use Rattle.record_read.specs.declared.Opened.TheVariants.{Damaged, Whole}
 use Rattle.laws_record.proofs.Keepable.{Keepable}
 use Rattle.laws_record.proofs.States.{state_words_lem}
 use Rattle.laws_record.proofs.Values.{words_at}
-use Rattle.laws_record.proofs.Whence.{refused_or_kept, whence}
+use Rattle.laws_record.proofs.Verdict.{whence}
+use Rattle.laws_record.proofs.Whence.{refused_or_kept}
 use Rattle.words.proofs.Widths.{Below, Numbers, no_word, one_word}
 use Rattle.record_read.proofs.Widths.{FixedInWidth, HeldInWidth, InWidth, StateInWidth}
 

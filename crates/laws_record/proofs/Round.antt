@@ -25,11 +25,8 @@ use Rattle.laws_record.proofs.Lies.{Lies, end_words, flag_words, lies_all, lies_
 use Rattle.record_read.proofs.Whole.{verdict}
 use Rattle.laws_record.proofs.States.{low_small, state_is, state_words_fit}
 use Rattle.laws_record.proofs.Whence.{both}
+use Rattle.laws_record.proofs.Flags.{flags_within}
 use Rattle.laws_record.proofs.Written.{b, controls_long, ends_at, ends_lies, flags_at, flags_lies, flags_long, glyph_long, joined_long, l, read_as_written, sheet_long, state_long, state_same, twilight_long, twilight_flags_at, twilight_flags_lies, twilight_flags_long}
-
-flags_within : {ws : List ℕ} → Below 256 ws → all_at_most 255 ws ≡ true
-flags_within no_word = refl
-flags_within (one_word {w} h f) = both (le-leb w 255 (omega arith)) (flags_within f)
 
 ends_within : {ws : List ℕ} → Below 65536 ws → all_at_most 65535 ws ≡ true
 ends_within no_word = refl

@@ -1,5 +1,5 @@
 -- What is known of what is read: it is within document 01's sizes, and its record is as long as the byte string, but for the words of the state that an older
--- edition hasn't. Assumes nothing.
+-- edition hasn't: `Whence`, of a byte string that is whole. Assumes nothing.
 use mathlib.Core.Bool.{Bool, ◌&&◌, true}
 use mathlib.Core.List.{List}
 use mathlib.Core.Path.{◌∙◌, ◌≡◌, ap, ap₂, refl, subst, sym}
@@ -92,7 +92,7 @@ pub record Whence (bytes : List ℕ) (h : Held) : Type 0 where
   pub some : 26 ≤ kept_in bytes
   pub short : length bytes ≤ most_bytes
 
-whence_whole : (bytes : List ℕ) (l : Layout) → open_of bytes ≡ Whole l → Whence bytes (held_in bytes l)
+pub whence_whole : (bytes : List ℕ) (l : Layout) → open_of bytes ≡ Whole l → Whence bytes (held_in bytes l)
 whence_whole bytes l e =
     let m = layout_of bytes in
     let s = sound bytes l e in
@@ -101,14 +101,3 @@ whence_whole bytes l e =
 
 pub refused_or_kept : {n : ℕ} {h : Held} → Refused n ≡ Kept h → ⊥
 refused_or_kept e = let z : ◌≡◌ {A = ℕ} 0 1 = cc in omega arith
-
-by_verdict : (bytes : List ℕ) (h : Held) (o : Opened) → open_of bytes ≡ o → read_as bytes o ≡ Kept h → Whence bytes h
-by_verdict bytes h (Whole l) e k = let g : held_in bytes l ≡ h = cc k in subst (Whence bytes) g (whence_whole bytes l e)
-by_verdict bytes h (Damaged why) e k = absurd (refused_or_kept k)
-
-pub whence : (bytes : List ℕ) (h : Held) → read_of bytes ≡ Kept h → Whence bytes h
-whence bytes h e = by_verdict bytes h (open_of bytes) refl e
-
--- of the newest edition as many bytes
-pub newest_size : (bytes : List ℕ) (h : Held) → read_of bytes ≡ Kept h → trailer_word bytes 5 ≡ edition → record_size (layout_for h) ≡ length bytes
-newest_size bytes h e newest = let all : kept_in bytes ≡ state_size = ap kept_by newest in omega (arith, (whence bytes h e).size, all)

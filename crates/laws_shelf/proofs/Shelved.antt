@@ -16,7 +16,9 @@ use Rattle.record_layout.specs.Order.{edition, most_bytes, record_size}
 use Rattle.record_read.specs.Format.{Held, layout, layout_for, record_of}
 use Rattle.record_read.specs.Read.{read_of, trailer_word}
 use Rattle.record_read.specs.Read.Read.{Kept}
-use Rattle.laws_record.proofs.Whence.{both, newest_size, whence}
+use Rattle.laws_record.proofs.Newest.{newest_size}
+use Rattle.laws_record.proofs.Verdict.{whence}
+use Rattle.laws_record.proofs.Whence.{both}
 use Rattle.record_write.specs.Written.{can_write, size_for, write_of, wrote}
 use Rattle.record_run.specs.After.{after, ran_from, said_of, shelved, shelved_as}
 use Rattle.record_replay.specs.Shelf.{on_read, shelf_within}
