@@ -25,7 +25,7 @@ loop-i-smaller c = omega arith
 
 pub loop-i-preserved : goal.loop-i-preserved
 loop-i-preserved c = let l = c.loop-i in let a = c.args in let w = a.words.now in
-    subst (λ (z : ℤ). Copying w a.kept.now a.at (set l.auto (a.at + l.i) z) (l.i + 1)) (sym (back32 (get_or w l.i (pos 0)) c.kept-1.given))
+    subst (λ (z : ℤ). Copying w a.kept.now a.at (set l.kept (a.at + l.i) z) (l.i + 1)) (sym (back32 (get_or w l.i (pos 0)) c.kept-1.given))
     (copy_turn l.invariant c.loop-i-test.true)
 
 pub overflow_add-result : goal.overflow_add-result

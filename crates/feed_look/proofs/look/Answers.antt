@@ -10,7 +10,7 @@ use Rattle.int.proofs.Words.{back32}
 use Rattle.int.specs.Word.{index_of}
 use Rattle.opcodes.proofs.Entries.{entry_in, in_table}
 use Rattle.opcodes.specs.Table.{need_of, unknown}
-use Rattle.feed_look.proofs.Looks.{all, by_both, by_opcode, no_opcode, no_word, not_known}
+use Rattle.feed_look.proofs.Looks.{all, by_both, by_opcode, no_count, no_opcode, no_word, not_all, not_known, too_long}
 use Rattle.feed_look.proofs.look.Goals as goal
 use Rattle.feed_look.proofs.look.Goals.{After-as_index-count, After-as_index-opcode, After-shared_slice_known-2-1, Else-wants}
 
@@ -28,7 +28,9 @@ entry_is : (c : After-shared_slice_known-2-1) → get_or c.args.needs.now c.as_i
 entry_is c = let c = c in entry_in c.as_index-opcode.result c.if-opcode-gt255.false c.requires
 
 known : (c : Else-wants) → need_of c.as_index-opcode.result ≡ unknown → ⊥
-known c q = c.if-wants.false (entry_is c ∙ q)
+known c q =
+    let entry_is : (get_or c.args.needs.now c.as_index-opcode.result 0 ≡ need_of c.as_index-opcode.result) = (entry_in c.as_index-opcode.result c.if-opcode-gt255.false c.requires) in
+    c.if-wants.false (entry_is ∙ q)
 
 some : (o : After-as_index-opcode) → 1 ≤ length o.args.words.now
 some o = o.if-words-lt1.false
@@ -46,6 +48,21 @@ bounds-needs-opcode c = in_table c.as_index-opcode.result c.if-opcode-gt255.fals
 pub returns-then-wants : goal.returns-then-wants
 returns-then-wants c = let l = c.args.words.now in
     sym (not_known (length l) c.as_index-opcode.result _ (some (goal.at.returns-then-wants c).After-as_index-opcode) c.if-opcode-gt255.false (sym (entry_is (goal.at.returns-then-wants c).After-shared_slice_known-2-1) ∙ c.if-wants.true)) ∙ by_opcode l (op_is (goal.at.returns-then-wants c).After-as_index-opcode)
+
+pub returns-then-words-lt2 : goal.returns-then-words-lt2
+returns-then-words-lt2 c = let l = c.args.words.now in
+    sym (no_count (length l) c.as_index-opcode.result _ (some (goal.at.returns-then-words-lt2 c).After-as_index-opcode) c.if-opcode-gt255.false (known (goal.at.returns-then-words-lt2 c).Else-wants) c.if-words-lt2.true) ∙ by_opcode l (op_is (goal.at.returns-then-words-lt2 c).After-as_index-opcode)
+
+pub returns-then-count-gt-OPERANDS : goal.returns-then-count-gt-OPERANDS
+returns-then-count-gt-OPERANDS c = let l = c.args.words.now in
+    c.long.ensures
+    ∙ sym (too_long (length l) c.as_index-opcode.result c.as_index-count.result (some (goal.at.returns-then-count-gt-OPERANDS c).After-as_index-opcode) c.if-opcode-gt255.false (known (goal.at.returns-then-count-gt-OPERANDS c).Else-wants) c.if-words-lt2.false c.if-count-gt-OPERANDS.true)
+    ∙ by_both l (op_is (goal.at.returns-then-count-gt-OPERANDS c).After-as_index-opcode) (count_is (goal.at.returns-then-count-gt-OPERANDS c).After-as_index-count)
+
+pub returns-then-words-whole : goal.returns-then-words-whole
+returns-then-words-whole c = let l = c.args.words.now in
+    sym (not_all (length l) c.as_index-opcode.result c.as_index-count.result (some (goal.at.returns-then-words-whole c).After-as_index-opcode) c.if-opcode-gt255.false (known (goal.at.returns-then-words-whole c).Else-wants) c.if-words-lt2.false c.if-count-gt-OPERANDS.false c.if-words-whole.true)
+    ∙ by_both l (op_is (goal.at.returns-then-words-whole c).After-as_index-opcode) (count_is (goal.at.returns-then-words-whole c).After-as_index-count)
 
 pub returns : goal.returns
 returns c = let l = c.args.words.now in
