@@ -21,7 +21,8 @@ use Rattle.feed_look.specs.Look.{look_of, most_line}
 use Rattle.feed_look.specs.declared.Seen.{Seen}
 use Rattle.feed_look.specs.declared.Seen.TheVariants.{Bad, Waits, Whole}
 use Rattle.feed_look.specs.declared.Seen.TheVariants.{Long as LongLine}
-use Rattle.laws_run.proofs.Keeps.{Left, left_by_both, step_keeps}
+use Rattle.laws_run.proofs.Left.{Left}
+use Rattle.laws_run.proofs.Keeps.{left_by_both, step_keeps}
 use Rattle.line.specs.World.{Alike, Fixed, World}
 use Rattle.run_lines.proofs.Loop.{still_alike}
 use Rattle.run_step.specs.Step.{step_of}

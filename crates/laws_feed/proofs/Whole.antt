@@ -24,7 +24,8 @@ use Rattle.feed_carry.specs.declared.Said.{Said}
 use Rattle.feed_carry.specs.declared.Said.TheVariants.{Ended, Long, Open, Refused}
 use Rattle.feed_look.specs.Look.{most_line}
 use Rattle.graphics.specs.State.{usable_state}
-use Rattle.laws_run.proofs.Keeps.{Left as LeftOf, all_left, still_fits, still_rising}
+use Rattle.laws_run.proofs.Left.{Left as LeftOf}
+use Rattle.laws_run.proofs.Keeps.{all_left, still_fits, still_rising}
 use Rattle.limits.specs.Limits.{most_control_values, most_words}
 use Rattle.line.specs.Sizes.{fits, world_fits}
 use Rattle.line.specs.World.{Fixed, World}

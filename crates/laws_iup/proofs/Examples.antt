@@ -33,14 +33,13 @@ use Rattle.laws_iup.specs.Agree.{FixedAgreeBut, RunsAgreeBut, WorldsAgreeBut}
 use Rattle.laws_iup.specs.Contours.{AgreeBut}
 use Rattle.laws_iup.specs.Sheets.{iup_sheet}
 use Rattle.laws_iup.proofs.Contour.{point_by_point}
-use Rattle.laws_iup.proofs.OneLine.{iup_runs_agree}
 
 abbrev eight : {A : Type 0} → A → A → A → A → A → A → A → A → List A
 eight a b c d e f g h = a ∷ b ∷ c ∷ d ∷ e ∷ f ∷ g ∷ h ∷ []
 
 -- ---- a pair that meets the premises
 -- points 0 to 2, 3 and 4, 5 and 6; point 7 lies behind them
-abbrev three : List ℕ
+abbrev pub three : List ℕ
 three = 2 ∷ 4 ∷ 6 ∷ []
 
 agree : {A : Type 0} {none a b c d e d' e' f g h : A} → AgreeBut none three 1 (eight a b c d e f g h) (eight a b c d' e' f g h)
@@ -52,10 +51,10 @@ glyph p q =
     let l = eight (pos 0) (pos 10) (pos 20) p q (pos 50) (pos 60) (pos 70) in
     fixed FreeType [] l l l l three
 
-abbrev drawn : Fixed
+abbrev pub drawn : Fixed
 drawn = glyph (pos 30) (pos 40)
 
-abbrev redrawn : Fixed
+abbrev pub redrawn : Fixed
 redrawn = glyph (pos 33) (pos 41)
 
 -- backward compatibility, so that IUP sets its mark
@@ -73,21 +72,17 @@ begun p q r s =
     world compatible l l (eight 6 0 0 r s 6 0 0) [] [] [] [] []
 
 -- before the repair point 3 is touched, and moved by 7; after it point 4 is, and moved by 10
-abbrev before : World
+abbrev pub before : World
 before = begun (pos 37) (pos 40) 6 0
 
-abbrev repaired : World
+abbrev pub repaired : World
 repaired = begun (pos 33) (pos 51) 0 6
 
-glyphs_agree : FixedAgreeBut 1 drawn redrawn
+pub glyphs_agree : FixedAgreeBut 1 drawn redrawn
 glyphs_agree = record { rules = refl; controls = refl; gux = agree; guy = agree; gox = agree; goy = agree; contours = refl }
 
-worlds_agree : WorldsAgreeBut three 1 before repaired
+pub worlds_agree : WorldsAgreeBut three 1 before repaired
 worlds_agree = record { state = refl; gx = agree; gy = agree; gflags = agree; tox = refl; toy = refl; tx = refl; ty = refl; tflags = refl }
-
-pub repairs_alike : (axis : Axis)
-    → RunsAgreeBut three 1 (run_of drawn (iup_sheet axis) 1 0 before) (run_of redrawn (iup_sheet axis) 1 0 repaired)
-repairs_alike axis = iup_runs_agree axis drawn 1 0 before 1 redrawn repaired (omega arith) glyphs_agree worlds_agree
 
 -- the mark is set in both, the second contour comes out another, and nothing else does
 abbrev coordinates : Axis → World → List ℤ

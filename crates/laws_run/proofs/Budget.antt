@@ -24,7 +24,9 @@ use Rattle.answer.specs.declared.Refusal.{Refusal}
 use Rattle.run_lines.proofs.Loop.{at_end}
 use Rattle.replay.proofs.Entry.{Entered, entered_by, not_entered, run_entered}
 use Rattle.graphics.specs.State.{usable_state}
-use Rattle.laws_run.proofs.Keeps.{run_keeps, run_place, still_fits, still_rising}
+use Rattle.laws_run.proofs.Keeps.{run_keeps, still_fits, still_rising}
+use Rattle.laws_run.proofs.Place.{run_place}
+use Rattle.laws_run.proofs.Counted.{counted}
 
 -- the run goes on with a further budget where the first was used up
 unfoldable pub on_answer : Fixed → List ℤ → ℕ → Ran → Answer → Ran
@@ -67,10 +69,6 @@ split f sheet (suc a) b n at w =
     (λ p v. split f sheet a b (suc n) p v)))
 
 -- ---- the count
--- the lines finished before a run are added to its count
-abbrev pub counted : ℕ → Ran → Ran
-counted m r = record { answer = r.answer; place = r.place; lines = m + r.lines; world = r.world }
-
 count_none : (m n at : ℕ) (w : World) (t : Bool)
     → cond t (ends OutOfBudget (m + n) at w) (ends Finished (m + n) at w) ≡ counted m (cond t (ends OutOfBudget n at w) (ends Finished n at w))
 count_none m n at w true = refl

@@ -29,11 +29,7 @@ use Rattle.contour_ends.specs.Ends.{ends_rise}
 use Rattle.graphics.specs.State.{usable_state}
 use Rattle.answer.specs.declared.Call.TheVariants.{Refused as RefusedCall}
 use Rattle.opcodes.specs.declared.Decoded.TheVariants.{Refused as RefusedLine}
-
--- what is left of a world: as long lists, and a usable state where there was one
-pub record Left (w v : World) : Type 0 where
-  pub lengths : sizes v ≡ sizes w
-  pub usable : usable_state w.state ≡ true → usable_state v.state ≡ true
+use Rattle.laws_run.proofs.Left.{Left}
 
 pub all_left : (w : World) → Left w w
 all_left w = record { lengths = refl; usable = λ h. h }
@@ -124,16 +120,11 @@ pub run_keeps : (f : Fixed) (sheet : List ℤ) (budget start : ℕ) (w : World) 
 unfolding run_of
 run_keeps f sheet budget start w = entry_keeps f sheet budget start w (entered f sheet start w) refl
 
-entry_place : (f : Fixed) (sheet : List ℤ) (budget start : ℕ) (w : World) (begun : Call) → start ≤ length sheet
+pub entry_place : (f : Fixed) (sheet : List ℤ) (budget start : ℕ) (w : World) (begun : Call) → start ≤ length sheet
     → (on_entry f sheet budget start w begun).place ≤ length sheet
 unfolding on_entry
 entry_place f sheet budget start w Done h = replay_place f sheet budget 0 start w h
 entry_place f sheet budget start w (RefusedCall why) h = h
-
-pub run_place : (f : Fixed) (sheet : List ℤ) (budget start : ℕ) (w : World) → start ≤ length sheet → (run_of f sheet budget start w).place ≤ length sheet
-unfolding run_of
-run_place f sheet budget start w h =
-    entry_place f sheet budget start w (entered f sheet start w) h
 
 -- ---- the entry, once more
 -- whether the sizes pass, by the lengths alone

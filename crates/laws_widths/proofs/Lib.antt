@@ -1,4 +1,6 @@
+pub mod PointsFit
 pub mod Steps
+pub mod Index
 pub mod Setters
 pub mod Contours
 pub mod Lines

@@ -45,7 +45,8 @@ use Rattle.line.specs.World.{Fixed, World}
 use Rattle.zone.specs.Zone.{Marked, flip_of, place_of, set_on_curve_of}
 use Rattle.laws_widths.proofs.Contours.{iup_fits}
 use Rattle.laws_widths.proofs.Setters.{references_fit, reset_fits, rp0_fits, rp1_fits, rp2_fits, with_facts_fits, with_push_fits, with_references_fits, with_rounding_fits}
-use Rattle.laws_widths.proofs.Steps.{PointsFit, apply_fits, flip_fits, move_small, on_curve_fits, or_fits, place_fits, untouched_fits, zp2_small}
+use Rattle.laws_widths.proofs.PointsFit.{PointsFit}
+use Rattle.laws_widths.proofs.Steps.{apply_fits, flip_fits, move_small, on_curve_fits, or_fits, place_fits, untouched_fits, zp2_small}
 
 -- ---- moves
 laid_fits : (zone : ZonePointer) (m : Move) → m.touch < 256 → (at : ℕ) (w : World) → InWidth w → InWidth (laid zone m at w)

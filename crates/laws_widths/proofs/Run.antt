@@ -25,7 +25,8 @@ use Rattle.words.proofs.Widths.{Numbers, every_drop, every_take}
 use Rattle.line.specs.Sizes.{world_fits}
 use Rattle.line.specs.World.{Fixed, World}
 use Rattle.laws_widths.proofs.Lines.{in_state_fits, isect_in_width, iup_in_width, stays_in_width}
-use Rattle.laws_widths.proofs.Setters.{along_within, dual_within, index_fits, measure_within, set_within, vector_within}
+use Rattle.laws_widths.proofs.Index.{index_fits}
+use Rattle.laws_widths.proofs.Setters.{along_within, dual_within, measure_within, set_within, vector_within}
 
 -- ---- one line
 sets_in_width : (op : ℕ) {operands : List ℤ} → Numbers operands → (w : World) → InWidth w → Sets op operands w InWidth

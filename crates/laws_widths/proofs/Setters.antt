@@ -47,11 +47,9 @@ use Rattle.normalize.specs.Unit.{unit_of}
 use Rattle.state_words.proofs.Back.{MeasuresFit, RoundFits, VectorFits, VectorsFit}
 use Rattle.words.proofs.Widths.{Numbers, every_at, no_word, one_word}
 use Rattle.laws_widths.proofs.Steps.{zero_fits}
+use Rattle.laws_widths.proofs.Index.{index_fits}
 
 -- ---- an operand as an index
-pub index_fits : {z : ℤ} → SFits w32 z → index_of z < 2 ^ 64
-index_fits f = (Fits-of_z (wide_fits f)).fits
-
 pub index_at_fits : {operands : List ℤ} → Numbers operands → (k : ℕ) → index_at operands k < 2 ^ 64
 index_at_fits f k = index_fits (every_at f zero_fits k)
 

@@ -31,6 +31,7 @@ use Rattle.projection.specs.Projection.{fdotp_of, freedom_axis_of}
 use Rattle.state_words.proofs.Back.{VectorFits}
 use Rattle.words.proofs.Widths.{Below, Numbers, every_at, every_drop, every_join, every_map, every_set, every_take}
 use Rattle.zone.specs.Zone.{Marked, change_at, marked_at, on_curve, or_at, over_part, place_of, set_on_curve_of}
+use Rattle.laws_widths.proofs.PointsFit.{PointsFit}
 
 -- ---- coordinates
 pub zero_fits : SFits w32 (pos 0)
@@ -106,11 +107,6 @@ unfolding zp2_move_of
 zp2_small v f dx dy touches = bits_small (is_not0 v.freedom.x && touches) (is_not0 v.freedom.y && touches)
 
 -- ---- points and flags
-pub record PointsFit (p : Points) : Type 0 where
-  pub xs : Numbers p.xs
-  pub ys : Numbers p.ys
-  pub flags : Below 256 p.flags
-
 pub apply_fits : (m : Move) → m.touch < 256 → (at : ℕ) (p : Points) → PointsFit p
     → let r = apply_of m at p.xs p.ys p.flags in PointsFit (points r.xs r.ys r.flags)
 unfolding apply_of
