@@ -32,6 +32,7 @@ use Rattle.line.specs.World.{Fixed, World}
 use Rattle.replay.specs.Run.{entry_of}
 use Rattle.laws_feed.specs.Cutting.{fed_end, fed_piece, fed_pieces, fed_through, given, started}
 use Rattle.laws_feed.proofs.Kept.{EndOf, Pushed, Sane, few_wait, goes_on, is_open, is_ended, none_of, not_open, pushes, unnumbered}
+use Rattle.laws_feed.proofs.Held.{Held}
 
 pub open_said : said_is_open Open ≡ true
 unfolding said_is_open
@@ -100,7 +101,7 @@ no_and : (t : Bool) → t && false ≡ false
 no_and true = refl
 no_and false = refl
 
-no_room : (base held words : ℕ) (carry : List ℤ) → most_words < base + held + words → carry_has_room base held words carry ≡ false
+pub no_room : (base held words : ℕ) (carry : List ℤ) → most_words < base + held + words → carry_has_room base held words carry ≡ false
 unfolding carry_has_room
 no_room base held words carry h = rw (lt-leb (base + held + words) most_words h) (no_and (leb most_line (length carry) && leb held (length carry) && waits (look_of (take held carry))))
 
@@ -113,9 +114,6 @@ module _ (f : Fixed) (c : Fed) (carry words : List ℤ) (w : World) (o : said_is
   pub not_taken : carry_has_room c.base c.held (length words) carry ≡ false → feed_of f c carry words w ≡ stopped (Refused Sizes) c carry w
   not_taken e =
       fed_refused f c carry words w o (no_sizes (world_fits f words w) (ends_rise (length w.gx) f.contours) (usable_state w.state) e)
-
-  pub limit : most_words < c.base + c.held + length words → feed_of f c carry words w ≡ stopped (Refused Sizes) c carry w
-  limit h = not_taken (no_room c.base c.held (length words) carry h)
 
 -- ---- what the tests tell
 pub both : (a b : Bool) → a && b ≡ true → (a ≡ true) × (b ≡ true)
@@ -159,12 +157,6 @@ has_room base held words carry r =
 -- ---- the carry
 pub same_length : (p carry : List ℤ) → length p ≤ length carry → length (p ++ drop (length p) carry) ≡ length carry
 same_length p carry h = omega (arith, h, length-append p (drop (length p) carry), length-drop (length p) carry)
-
--- less than a line is held, in a carry that is as long as it was
-pub record Held (carry : List ℤ) (l : Left) : Type 0 where
-  pub few : l.held < most_line
-  pub inside : l.held ≤ length l.carry
-  pub same : length l.carry ≡ length carry
 
 -- after a call: it stands at the carry's front and is the last words that came, and behind it nothing has changed. The place and what is held are never
 -- beyond the words that came, and while the feed is open they are all of them

@@ -36,6 +36,7 @@ use Rattle.laws_feed.specs.Cutting.{ending, ending_of, ending_of_run, fed_end, f
 use Rattle.laws_feed.proofs.Calls.{Room, end_entered, end_refused, end_repeats, fed_entered, fed_refused, has_room, held_in, open_said, piece_repeats, repeats, reread, same_length, stopped}
 use Rattle.laws_feed.proofs.Kept.{Sane, few_wait, is_open, not_open, nothing_waits, fed_unnumbered, pushes, unnumbered}
 use Rattle.laws_feed.proofs.Run.{close_by, closes, from}
+use Rattle.laws_feed.proofs.Start.{Fine, at_start}
 
 -- ---- the entry: that of the empty sheet
 fits_less : (f : Fixed) (sheet : List ℤ) (w : World) → length sheet ≤ most_words → world_fits f sheet w ≡ world_fits f [] w
@@ -71,15 +72,6 @@ entered_still f w v k e =
     rw (still_fits f [] w v k ∙ p.sized, still_rising f w v k ∙ p.rising, k.usable p.usable)
 
 -- ---- between calls
-record Fine (w : World) (n : ℕ) (l : Left) : Type 0 where
-  sane : Sane w n (held_in l)
-  long : most_line ≤ length l.carry
-  inside : l.held ≤ length l.carry
-
-at_start : (carry : List ℤ) (w : World) → most_line ≤ length carry → Fine w 0 (started carry w)
-at_start carry w h =
-    record { sane = record { waiting = nothing_waits; kept = all_left w; place = λ _. refl; most = omega arith; idle = is_open Open open_said }; long = h; inside = omega arith }
-
 open_is : (said : Said) → said_is_open said ≡ true → said ≡ Open
 unfolding said_is_open
 open_is Open e = refl

@@ -1,3 +1,5 @@
 pub mod Shelved
+pub mod Written
 pub mod Reread
+pub mod Replayed
 pub mod Sample

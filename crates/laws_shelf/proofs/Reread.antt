@@ -22,10 +22,7 @@ use Rattle.laws_shelf.proofs.Shelved.{after_fits, after_layout, shelved_whole}
 use Rattle.line.specs.World.{Fixed, under}
 use Rattle.rules.specs.declared.Rules.{Rules}
 use Rattle.record_read.proofs.Widths.{FixedInWidth}
-
--- the front of what a replay leaves, as many bytes as it says that it wrote
-abbrev pub written : Shelved → List ℕ
-written s = take s.said.size s.out
+use Rattle.laws_shelf.proofs.Written.{written}
 
 -- rules are no numbers
 under_fits : {rules : Rules} {f : Fixed} → FixedInWidth f → FixedInWidth (under rules f)

@@ -21,7 +21,6 @@ use Rattle.laws_record.proofs.Round.{kept_as_written, record_bytes, record_long}
 use Rattle.words.proofs.Widths.{Below, Numbers, no_word, one_word}
 use Rattle.record_run.specs.After.{after}
 use Rattle.record_replay.specs.Shelf.{shelf_of}
-use Rattle.laws_shelf.proofs.Reread.{replayed_reads, written}
 
 -- ---- the record
 abbrev pub sample : Held
@@ -94,7 +93,3 @@ sample_moves e =
     let y : three (pos 64) (pos 124) (pos 154) ≡ heights = ap (λ (w : World). w.gy) (sym sample_after) ∙ ap (λ (h : Held). h.world.gy) e in
     let z : ◌≡◌ {A = ℕ} 64 40 = cc y in
     omega arith
-
--- and reads back as that, written over the first
-pub sample_replayed : read_of (written (shelf_of FreeType (record_of sample) (record_of sample))) ≡ Kept (after FreeType sample)
-sample_replayed = replayed_reads FreeType (record_of sample) (record_of sample) sample (record_bytes sample) sample_reads (omega arith) (omega (arith, record_long sample sample_keepable))
