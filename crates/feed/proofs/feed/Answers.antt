@@ -1,0 +1,76 @@
+-- `feed::feed` meets its contract: by whether the feed has ended, by its tests, and then as `take_in` does. Assumes nothing.
+use mathlib.Core.Bool.{true}
+use mathlib.Core.List.{List}
+use mathlib.Core.Path.{◌≡◌, ◌∙◌, ap, sym}
+use Prim.Native.Nat.{◌-◌}
+use native.Mathlib.Omega.{arith}
+use borrow.Author.Tests.{not-false, not-true}
+use lib.IntN.{ℤ}
+use lib.ListN.{drop, length, take}
+use Rattle.opcodes.specs.Table.{needs_table}
+use Rattle.line.specs.World.{Fixed, World, fixed, world}
+use Rattle.feed_carry.specs.Carry.{said_is_open}
+use Rattle.feed.specs.Feed.{entered_feed, feed_of}
+use Rattle.feed.proofs.Entries.{entered_by, entry_is, feed_closed, feed_entered, feed_refused, words_from}
+use Rattle.feed.proofs.feed.Goals as goal
+use Rattle.feed.proofs.feed.Goals.{After-enter-begun, Start}
+
+abbrev held : Start → Fixed
+held s = fixed s.args.rules s.args.controls.now s.args.gux.now s.args.guy.now s.args.gox.now s.args.goy.now s.args.contours.now
+
+abbrev entry : Start → World
+entry s =
+    world s.args.c.state s.args.gx.now s.args.gy.now s.args.gflags.now s.args.tox.now s.args.toy.now s.args.tx.now s.args.ty.now s.args.tflags.now
+
+is_open : (k : After-enter-begun) → said_is_open k.args.c.said ≡ true
+is_open k = sym k.is_open.ensures ∙ not-false _ k.if-not-is_open.false-raw
+
+-- the words, as a part of the piece
+abbrev part : After-enter-begun → List ℤ
+part k = let w = k.args.piece.now in take (length w - k.place_in-start.result) (drop k.place_in-start.result w)
+
+part_is : (k : After-enter-begun) → part k ≡ drop k.args.at k.args.piece.now
+part_is k = let k = k in words_from k.args.piece.now k.args.at k.place_in-start.result k.place_in-start.ensures
+
+tested : (k : After-enter-begun) → let held : (Fixed) = (fixed k.args.rules k.args.controls.now k.args.gux.now k.args.guy.now k.args.gox.now k.args.goy.now k.args.contours.now) in
+    let entry : (World) = (world k.args.c.state k.args.gx.now k.args.gy.now k.args.gflags.now k.args.tox.now k.args.toy.now k.args.tx.now k.args.ty.now k.args.tflags.now) in
+    k.enter-begun.result ≡ entered_feed held k.args.c k.args.carry.now (part k) entry
+tested k =
+    let held : (Fixed) = (fixed k.args.rules k.args.controls.now k.args.gux.now k.args.guy.now k.args.gox.now k.args.goy.now k.args.contours.now) in
+    let entry : (World) = (world k.args.c.state k.args.gx.now k.args.gy.now k.args.gflags.now k.args.tox.now k.args.toy.now k.args.tx.now k.args.ty.now k.args.tflags.now) in
+    let k = k in
+    entry_is held k.args.c k.args.carry.now (part k) entry k.enter-begun.ensures (k.sizes_fit-sized.ensures k.args.rules) k.has_room-room.ensures k.ends_rise-rising.ensures k.is_usable.ensures
+
+pub returns-then-not-is_open : goal.returns-then-not-is_open
+returns-then-not-is_open c = feed_closed (held (goal.at.returns-then-not-is_open c).Start) c.args.c c.args.carry.now (entry (goal.at.returns-then-not-is_open c).Start) (drop c.args.at c.args.piece.now) (sym c.is_open.ensures ∙ not-true _ c.if-not-is_open.true-raw)
+
+pub offset_bounds-piece-start : goal.offset_bounds-piece-start
+offset_bounds-piece-start c = omega (arith, c.place_in-start.ensures.0, c.well_formed.1.1.1.0.1)
+
+pub slice_bounds-words-count : goal.slice_bounds-words-count
+slice_bounds-words-count c = omega (arith, c.place_in-start.ensures.0, c.well_formed.1.1.1.0.1)
+
+pub slice_bounds-words-start : goal.slice_bounds-words-start
+slice_bounds-words-start c = omega (arith, c.place_in-start.ensures.0, c.well_formed.1.1.1.0.1)
+
+pub slice_bounds-words-end : goal.slice_bounds-words-end
+slice_bounds-words-end c = omega (arith, c.place_in-start.ensures.0, c.well_formed.1.1.1.0.1)
+
+pub has_room-room-requires : goal.has_room-room-requires
+has_room-room-requires c = c.needs_table-needs.ensures
+
+pub slice_bounds-take_in-end : goal.slice_bounds-take_in-end
+unfolding needs_table
+slice_bounds-take_in-end c = sym (ap length c.needs_table-needs.ensures)
+
+pub take_in-requires : goal.take_in-requires
+take_in-requires c = let e = entered_by (held (goal.at.take_in-requires c).Start) c.args.c c.args.carry.now (part (goal.at.take_in-requires c).After-enter-begun) (entry (goal.at.take_in-requires c).Start) (tested (goal.at.take_in-requires c).After-enter-begun) c.in-Done.is in record { needs_value = c.needs_table-needs.ensures; sound = e.0; carry_value = e.1 }
+
+pub returns-in-Refused : goal.returns-in-Refused
+returns-in-Refused c = feed_refused (held (goal.at.returns-in-Refused c).Start) c.args.c c.args.carry.now (entry (goal.at.returns-in-Refused c).Start) (is_open (goal.at.returns-in-Refused c).After-enter-begun) (part (goal.at.returns-in-Refused c).After-enter-begun) (tested (goal.at.returns-in-Refused c).After-enter-begun) c.in-Refused.is c.stopped.ensures
+    ∙ ap (λ (l : List ℤ). feed_of (held (goal.at.returns-in-Refused c).Start) c.args.c c.args.carry.now l (entry (goal.at.returns-in-Refused c).Start)) (part_is (goal.at.returns-in-Refused c).After-enter-begun)
+
+pub returns-in-Done : goal.returns-in-Done
+returns-in-Done c = c.take_in.ensures
+    ∙ feed_entered (held (goal.at.returns-in-Done c).Start) c.args.c c.args.carry.now (entry (goal.at.returns-in-Done c).Start) (is_open (goal.at.returns-in-Done c).After-enter-begun) (part (goal.at.returns-in-Done c).After-enter-begun) (tested (goal.at.returns-in-Done c).After-enter-begun) c.in-Done.is
+    ∙ ap (λ (l : List ℤ). feed_of (held (goal.at.returns-in-Done c).Start) c.args.c c.args.carry.now l (entry (goal.at.returns-in-Done c).Start)) (part_is (goal.at.returns-in-Done c).After-enter-begun)
