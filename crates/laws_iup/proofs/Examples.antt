@@ -105,7 +105,7 @@ abbrev old_past : ℕ → ℕ → ℕ
 old_past end n = cond (ltb end n) (end + 1) n
 
 -- a contour that ends before the walk's place is skipped
-abbrev old_walk : ℕ → ℕ → List ℕ → List Dot → List ℤ
+abbrev pub old_walk : ℕ → ℕ → List ℕ → List Dot → List ℤ
 old_walk n at [] ps = current_of ps
 old_walk n at (end ∷ ends) ps =
     cond (ltb at (old_past end n))
@@ -113,7 +113,7 @@ old_walk n at (end ∷ ends) ps =
     (old_walk n at ends ps)
 
 -- the third contour is points 3 to 6, and the first ends at 4 and reaches into it
-abbrev sloppy : List ℕ
+abbrev pub sloppy : List ℕ
 sloppy = 4 ∷ 2 ∷ 6 ∷ []
 
 pub not_rising : ends_rise 8 sloppy ≡ false
@@ -128,7 +128,7 @@ pub moved_agree : (p q : ℤ) → AgreeBut (pos 0) sloppy 2 (moved p) (moved q)
 moved_agree p q = point_by_point (pos 0) sloppy 2 (moved p) (moved q) (record { size = refl; front = refl; back = refl })
 
 -- a walk of it, touched on both axes
-abbrev walked_by : (List ℕ → List Dot → List ℤ) → Axis → ℤ → List ℤ
+abbrev pub walked_by : (List ℕ → List Dot → List ℤ) → Axis → ℤ → List ℤ
 walked_by walk axis p = walk sloppy (points_of (touch_bit axis) (eight 0 0 0 6 0 0 0 0) (moved (pos 30)) (moved (pos 30)) (moved p))
 
 -- the first contour's points 0 to 2 come out others
@@ -147,14 +147,3 @@ pub untested_walk_disturbs : (axis : Axis) → Disturbs (walk_of 0) axis
 unfolding walk_of contour_of points_of touched_places add32 sub32 wrap32
 untested_walk_disturbs X = refl
 untested_walk_disturbs Y = refl
-
--- so that what K10 says is false of it
-pub old_walk_breaks : (axis : Axis) → AgreeBut (pos 0) sloppy 2 (walked_by (old_walk 8 0) axis (pos 37)) (walked_by (old_walk 8 0) axis (pos 40)) → ⊥
-old_walk_breaks axis a =
-    let e = old_walk_disturbs axis in
-    let l = walked_by (old_walk 8 0) axis in
-    let same : get_or (l (pos 37)) 0 (pos 0) ≡ get_or (l (pos 40)) 0 (pos 0) = a.others 0 (λ x. omega (arith, x.0)) in
-    let seven : get_or (l (pos 37)) 0 (pos 0) ≡ pos 7 = ap (λ (t : List (List ℤ)). get_or (get_or t 0 []) 0 (pos 0)) e in
-    let ten : get_or (l (pos 40)) 0 (pos 0) ≡ pos 10 = ap (λ (t : List (List ℤ)). get_or (get_or t 1 []) 0 (pos 0)) e in
-    let z : ◌≡◌ {A = ℕ} 7 10 = ap nat_abs (sym seven ∙ same ∙ ten) in
-    omega arith

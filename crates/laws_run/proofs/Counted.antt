@@ -1,6 +1,5 @@
 -- How two runs are counted as one. Assumes nothing.
 use Prim.Native.Nat.{◌+◌, ℕ}
-use Rattle.line.specs.World.{world}
 use Rattle.run_lines.specs.Onward.{Ran}
 
 -- the lines finished before a run are added to its count

@@ -1,6 +1,5 @@
 -- What a line and a run leave as it was. Assumes nothing.
 use mathlib.Core.Bool.{true}
-use Prim.Native.Nat.{◌-◌}
 use mathlib.Core.Path.{◌≡◌}
 use Rattle.line.specs.World.{World}
 use Rattle.run_lines.proofs.Loop.{sizes}

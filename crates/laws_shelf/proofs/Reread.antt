@@ -1,4 +1,4 @@
--- What a replay leaves reads back as what it left: `replayed_reads` and `rewritten_same` hold of every record that is read,
+-- What a replay leaves reads back as what it left: `replayed_reads` and Rewritten.antt's `rewritten_same` hold of every record that is read,
 -- where its newest edition has 24 KiB at most; one that is of the newest edition does. Assumes nothing.
 use mathlib.Core.List.{List, ◌++◌}
 use mathlib.Core.Path.{◌∙◌, ◌≡◌, ap, sym}
@@ -61,9 +61,3 @@ module _ (rules : Rules) where
     -- it reads back as what the replay leaves
     pub replayed_reads : read_of (written (shelf_of rules bytes out)) ≡ Kept (after rules h)
     replayed_reads = ap read_of written_is ∙ kept_as_written (after rules h) left-keepable
-
-    -- and what is read from it is written as the same bytes
-    pub rewritten_same : (g : Held) → read_of (written (shelf_of rules bytes out)) ≡ Kept g → record_of g ≡ written (shelf_of rules bytes out)
-    rewritten_same g r =
-        let same : after rules h ≡ g = cc (replayed_reads, r) in
-        ap record_of (sym same) ∙ sym written_is

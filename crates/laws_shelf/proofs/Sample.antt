@@ -86,10 +86,3 @@ pub sample_after : (after FreeType sample).world ≡ holding (state_with y_axis 
 sample_after =
     let run = numbers.run_3 in
     ap (λ (r : Ran). r.world) (finished_runs glyph whole 3 4 0 (at_first (state_with x_axis 0 0 0 false)) (ap (λ (r : Ran). r.answer) run) ∙ run)
-
--- which leaves another record
-pub sample_moves : after FreeType sample ≡ sample → ⊥
-sample_moves e =
-    let y : three (pos 64) (pos 124) (pos 154) ≡ heights = ap (λ (w : World). w.gy) (sym sample_after) ∙ ap (λ (h : Held). h.world.gy) e in
-    let z : ◌≡◌ {A = ℕ} 64 40 = cc y in
-    omega arith
