@@ -53,14 +53,12 @@ use Rattle.iup.specs.Iup.{iup_of, walk_of}
 use Rattle.contour_ends.specs.Ends.{rising_from}
 use Rattle.laws_axes.specs.Axes.{interpolates_across, mixes}
 use Rattle.moves.specs.Move.{move_of, step_by}
-use Rattle.laws_axes.proofs.Plain.{horizontal_runs_agree, vertical_runs_agree}
-use Rattle.laws_axes.proofs.Still.{vertical_run_still}
 
 abbrev vertical : GraphicsState
 vertical = with_vectors fresh_state (all_along y_axis)
 
 -- a glyph with these x and y coordinates, unscaled and original alike, on one contour
-abbrev held : List ℤ → List ℤ → Fixed
+abbrev pub held : List ℤ → List ℤ → Fixed
 held xs ys = fixed FreeType [] xs ys xs ys (4 ∷ [])
 
 abbrev started : GraphicsState → List ℤ → List ℤ → List ℕ → World
@@ -70,7 +68,7 @@ started s xs ys flags = world s xs ys flags [] [] [] [] []
 abbrev unmarked : List ℕ
 unmarked = 0 ∷ 0 ∷ 0 ∷ 0 ∷ 0 ∷ []
 
-abbrev start : List ℤ → List ℤ → World
+abbrev pub start : List ℤ → List ℤ → World
 start xs ys = started vertical xs ys unmarked
 
 abbrev level : List ℤ → List ℤ → World
@@ -79,47 +77,39 @@ level xs ys = started fresh_state xs ys unmarked
 abbrev five : ℤ → ℤ → ℤ → ℤ → ℤ → List ℤ
 five a b c d e = a ∷ b ∷ c ∷ d ∷ e ∷ []
 
-abbrev heights : List ℤ
+abbrev pub heights : List ℤ
 heights = five (pos 40) (pos 100) (pos 0) (pos 64) (pos 0)
 
 -- ---- pairs that meet the premises
-abbrev here : List ℤ
+abbrev pub here : List ℤ
 here = five (pos 0) (pos 10) (pos 20) (pos 30) (pos 40)
 
-abbrev there : List ℤ
+abbrev pub there : List ℤ
 there = five (pos 7) (negsuc 2) (pos 100) (pos 0) (pos 64)
 
 -- along an axis the heights, across it these coordinates: the glyph, and the start with every vector along the axis
-abbrev glyph : Axis → List ℤ → Fixed
+abbrev pub glyph : Axis → List ℤ → Fixed
 glyph X across = held heights across
 glyph Y across = held across heights
 
-abbrev begun : Axis → List ℤ → World
+abbrev pub begun : Axis → List ℤ → World
 begun X across = level heights across
 begun Y across = start across heights
 
-differ_in_x : OnlyXDiffers (glyph Y here) (glyph Y there) (begun Y here) (begun Y there)
+pub differ_in_x : OnlyXDiffers (glyph Y here) (glyph Y there) (begun Y here) (begun Y there)
 differ_in_x = search
 
-differ_in_y : OnlyYDiffers (glyph X here) (glyph X there) (begun X here) (begun X there)
+pub differ_in_y : OnlyYDiffers (glyph X here) (glyph X there) (begun X here) (begun X there)
 differ_in_y = search
 
 -- MDAP[1] of point 0, then IUP on both axes
-abbrev moving : List ℤ
+abbrev pub moving : List ℤ
 moving = pos 47 ∷ pos 1 ∷ pos 0 ∷ pos 48 ∷ pos 0 ∷ pos 49 ∷ pos 0 ∷ []
 
 pub reaches : (a : Axis) → lines_reached (glyph a here) moving 3 0 (begun a here) ≡ 47 ∷ 48 ∷ 49 ∷ []
 unfolding lines_reached reached_on_entry reached_from after_call entry_of rising_from fits glyph_fits twilight_fits pair_fits placed_fits usable_state vectors_in_range vector_in_range step_of on_decoded decode_of decode_by need_of line_of row_of set_of one two takeFive control_at point_or fetch_in made_in move_in laid_in apply_in put_touched outside_mdap mdap_of mdap_distance from_origin rounding_step grid along_of axis_of raw_fdotp not_small fetch_of apply_of move_of step_by freedom_axis_by add32 sub32 neg32 abs32 wrap32 max_z min_z multiple_below inward outward plus negated pastBits rounded_move_in step_from with_rounding marked_for iup_line_of iup_of walk_of contour_of points_of touched_places
 reaches X = refl
 reaches Y = refl
-
-pub ends_alike : SameVertically (run_of (glyph Y here) moving 3 0 (begun Y here)) (run_of (glyph Y there) moving 3 0 (begun Y there))
-ends_alike =
-    vertical_runs_agree (glyph Y here) (glyph Y there) moving 3 0 (begun Y here) (begun Y there) differ_in_x refl (ap (none (mixes Y)) (reaches Y))
-
-pub ends_alike_level : SameHorizontally (run_of (glyph X here) moving 3 0 (begun X here)) (run_of (glyph X there) moving 3 0 (begun X there))
-ends_alike_level =
-    horizontal_runs_agree (glyph X here) (glyph X there) moving 3 0 (begun X here) (begun X there) differ_in_y refl (ap (none (mixes X)) (reaches X))
 
 -- every point moves by 24 along the axis
 abbrev raised : List ℤ
@@ -139,18 +129,13 @@ rise-alike Y = (refl, refl)
 
 -- ---- a pair that is refused
 -- MDAP[1] of point 0, then MIAP[1] by control value 5, which isn't there
-abbrev refusing : List ℤ
+abbrev pub refusing : List ℤ
 refusing = pos 47 ∷ pos 1 ∷ pos 0 ∷ pos 63 ∷ pos 2 ∷ pos 5 ∷ pos 0 ∷ []
 
 -- the refused line is reached
 pub reaches_refused : lines_reached (held here heights) refusing 9 0 (start here heights) ≡ 47 ∷ 63 ∷ []
 unfolding lines_reached reached_on_entry reached_from after_call entry_of rising_from fits glyph_fits twilight_fits pair_fits placed_fits usable_state vectors_in_range vector_in_range step_of on_decoded decode_of decode_by need_of line_of row_of set_of one two takeFive control_at point_or fetch_in made_in move_in laid_in apply_in put_touched outside_mdap miap_of mdap_of mdap_distance from_origin rounding_step grid along_of axis_of raw_fdotp not_small fetch_of apply_of move_of step_by freedom_axis_by add32 sub32 neg32 abs32 wrap32 max_z min_z multiple_below inward outward plus negated pastBits rounded_move_in step_from with_rounding
 reaches_refused = refl
-
-pub refused_alike : SameVertically (run_of (held here heights) refusing 9 0 (start here heights)) (run_of (held there heights) refusing 9 0 (start there heights))
-refused_alike =
-    vertical_runs_agree (held here heights) (held there heights) refusing 9 0 (start here heights) (start there heights) differ_in_x refl
-    (ap (none (mixes Y)) reaches_refused)
 
 -- one line is finished, and point 0 has moved
 abbrev RefusedSecond : Ran → Type 0
@@ -164,17 +149,13 @@ refused-second = ((refl, refl, refl, refl), (refl, refl, refl, refl))
 
 -- ---- a pair that measures
 -- SMD of 128, SFVTPV, MDRP of point 1 from point 0, rounded and no nearer than the minimum distance, MIRP of point 2 by no control value, and GC of point 1
-abbrev measuring : List ℤ
+abbrev pub measuring : List ℤ
 measuring = pos 0x1A ∷ pos 1 ∷ pos 128 ∷ pos 0x0E ∷ pos 0 ∷ pos 0xCC ∷ pos 1 ∷ pos 1 ∷ pos 0xE0 ∷ pos 2 ∷ negsuc 0 ∷ pos 2 ∷ pos 0x46 ∷ pos 1 ∷ pos 1 ∷ []
 
 pub reaches_measuring : (a : Axis) → lines_reached (glyph a here) measuring 5 0 (begun a here) ≡ 0x1A ∷ 0x0E ∷ 0xCC ∷ 0xE0 ∷ 0x46 ∷ []
 unfolding lines_reached reached_on_entry reached_from after_call entry_of rising_from fits glyph_fits twilight_fits pair_fits placed_fits usable_state vectors_in_range vector_in_range step_of on_decoded decode_of decode_by need_of line_of row_of set_of one two point_or fetch_in place_in made_in move_in laid_in apply_in fetch_of apply_of move_of step_by freedom_axis_by axis_of raw_fdotp not_small along_of from_origin step_from rounded_move_in with_rounding with_push related_by both_there control_by mdrp_of mdrp_distance mirp_of mirp_distance gc_of outline_of unscaled_apart originals_apart single_outline single_control on_side_of flipped_of finished rounded_unless at_least minimum_of mul_div half_up with_sign grid inward outward plus negated pastBits multiple_below add32 sub32 neg32 abs32 wrap32 max_z min_z sizes_of measure_by size_by sized_by vector_of vector_by followed
 reaches_measuring X = refl
 reaches_measuring Y = refl
-
-pub measure_alike : SameVertically (run_of (glyph Y here) measuring 5 0 (begun Y here)) (run_of (glyph Y there) measuring 5 0 (begun Y there))
-measure_alike =
-    vertical_runs_agree (glyph Y here) (glyph Y there) measuring 5 0 (begun Y here) (begun Y there) differ_in_x refl (ap (none (mixes Y)) (reaches_measuring Y))
 
 -- what is pushed is among the state: the same of both, along either axis
 abbrev Measured : Axis → Ran → Type 0
@@ -188,11 +169,11 @@ measured Y = ((refl, refl, refl), (refl, refl, refl))
 
 -- ---- what stays across the axis
 -- MDAP[1] of point 0, then IUP[y]
-abbrev rising : List ℤ
+abbrev pub rising : List ℤ
 rising = pos 47 ∷ pos 1 ∷ pos 0 ∷ pos 48 ∷ pos 0 ∷ []
 
 -- points 0 and 2 have their x-touch mark
-abbrev marked : World
+abbrev pub marked : World
 marked = started vertical here heights (3 ∷ 1 ∷ 2 ∷ 0 ∷ 1 ∷ [])
 
 pub reaches_rising : lines_reached (held here heights) rising 2 0 marked ≡ 47 ∷ 48 ∷ []
@@ -205,12 +186,6 @@ pub rises :
     × ((run_of (held here heights) rising 2 0 marked).world.gflags ≡ 7 ∷ 1 ∷ 2 ∷ 0 ∷ 1 ∷ [])
 unfolding run_of runOnEntry entry_of rising_from fits glyph_fits twilight_fits pair_fits placed_fits usable_state vectors_in_range vector_in_range replay_of step_of on_decoded on_call decode_of decode_by need_of line_of row_of set_of one two takeFive control_at point_or fetch_in made_in move_in laid_in apply_in put_touched outside_mdap mdap_of mdap_distance from_origin rounding_step grid along_of axis_of raw_fdotp not_small fetch_of apply_of move_of step_by freedom_axis_by add32 sub32 neg32 abs32 wrap32 max_z min_z multiple_below inward outward plus negated pastBits rounded_move_in step_from with_rounding marked_for iup_line_of iup_of walk_of contour_of points_of touched_places
 rises = (refl, refl)
-
-pub stays-across :
-    ((run_of (held here heights) rising 2 0 marked).world.gx ≡ here)
-    × (map (bit 1) (run_of (held here heights) rising 2 0 marked).world.gflags ≡ 1 ∷ 0 ∷ 1 ∷ 0 ∷ 0 ∷ [])
-stays-across =
-    vertical_run_still (held here heights) rising 2 0 marked refl (ap (none (mixes Y)) reaches_rising) (ap (none (interpolates_across Y)) reaches_rising)
 
 -- ---- an interpolation across
 -- IUP[x], where point 0 was touched in x and moved from 0 to 7

@@ -13,5 +13,7 @@ pub mod RunSteps
 pub mod Apart
 pub mod Plain
 pub mod Points
+pub mod Across
 pub mod Still
+pub mod ByLaws
 pub mod Examples

@@ -28,10 +28,7 @@ use Rattle.flags.specs.Flag.{bit}
 use Rattle.opcodes.specs.Decode.{decode_of}
 use Rattle.laws_axes.proofs.Table.{line_still, or_left, or_right}
 use Rattle.laws_axes.proofs.RunSteps.{Named, all_named, free_here, step_straight}
-
--- a line that looks or works across the axis
-abbrev pub works_across : Axis → ℕ → Bool
-works_across a op = mixes a op || interpolates_across a op
+use Rattle.laws_axes.proofs.Across.{works_across}
 
 on_still : (a : Axis) (f : Fixed) (sheet : List ℤ) (at : ℕ) (w : World) → Straight a w.state → (op : ℕ) → works_across a op ≡ false → (d : Decoded) → Named op d
     → StillSince a w (on_decoded f sheet at w d).world
