@@ -6,17 +6,10 @@ use Rattle.record_layout.specs.declared.Layout.{Layout}
 use Rattle.record_read.specs.Format.{layout}
 use Rattle.record_run.specs.declared.Replayed.{Replayed}
 use Rattle.record_replay.specs.Shelf.{refused_as}
-use Rattle.record_replay.proofs.refuse.Statement.{statement}
-use Rattle.record_replay.proofs.refuse.Tie as tie
+use Rattle.record_replay.proofs.refuse.Goals as goal
 
 refused : (n : ℕ) {l : Layout} → l ≡ layout state_size 0 0 0 0 0 → ◌≡◌ {A = Replayed} (record { number = n; place = 0; lines = 0; detail = 0; size = 0; layout = l }) (refused_as n)
 refused n e = ap (λ l. record { number = n; place = 0; lines = 0; detail = 0; size = 0; layout = l }) e
 
-lay-out-requires : tie.Need-lay-out-requires
-lay-out-requires c κs = tt
-
-returns : tie.Need-returns
-returns c = refused _ c.lay-out.ensures
-
-pub refuse-spec : {M : Type 1} → statement M
-refuse-spec = tie.close (tie.spec lay-out-requires returns)
+pub returns : goal.returns
+returns c = refused _ c.lay_out-layout.ensures
