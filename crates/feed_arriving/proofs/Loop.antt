@@ -72,11 +72,11 @@ starts f g s first turns block words carry gx gy gflags tox toy tx ty tflags {c}
 module _ {f : Fixed} {first : Arrived} {next : Next} {block : List ℕ} {words : List ℤ} {lines turns : ℕ} {l : Left} (v : Arriving f first next block words lines turns l) where
   -- a piece is still to be fed
   pub pending : 0 < turns → next.more ≡ true
-  pending h = by-more next.more refl
+  pending h = by_more next.more refl
     where
-      by-more : (b : Bool) → next.more ≡ b → next.more ≡ true
-      by-more true e = e
-      by-more false e = absurd (omega (arith, h, v.over e))
+      by_more : (b : Bool) → next.more ≡ b → next.more ≡ true
+      by_more true e = e
+      by_more false e = absurd (omega (arith, h, v.over e))
 
   pub fed_few : (l' : Left) → 0 < turns → l' ≡ feed_of f (given l) l.carry (take next.count words) l.world → lines + l'.lines ≤ l'.base
   fed_few l' h e =
@@ -84,10 +84,10 @@ module _ {f : Fixed} {first : Arrived} {next : Next} {block : List ℕ} {words :
       let few : r.lines + l.base ≤ r.base = lines_few f (given l) l.carry (take next.count words) l.world (v.still_open (pending h)) in
       subst (λ (x : Left). lines + x.lines ≤ x.base) (sym e) (omega (arith, few, v.few))
 
-  fed-is : (l' : Left) → 0 < turns → l' ≡ feed_of f (given l) l.carry (take next.count words) l.world
+  fed_is : (l' : Left) → 0 < turns → l' ≡ feed_of f (given l) l.carry (take next.count words) l.world
       → arrived_by v.begun (lines + l'.lines) l' ≡ arrive_all f first v.blocks
   unfolding pending_by
-  fed-is l' h e =
+  fed_is l' h e =
       ap (λ (x : Left). arrived_by v.begun (lines + x.lines) x) e
       ∙ sym (ap (pending_by f v.begun lines l (take next.count words)) (pending h))
       ∙ v.is
@@ -98,14 +98,14 @@ module _ {f : Fixed} {first : Arrived} {next : Next} {block : List ℕ} {words :
       → (next'.more ≡ true → wanted ≡ true) → (next'.more ≡ false → turns' ≡ 0)
       → Arriving f first next' block' words' (lines + l'.lines) turns' l'
   unfolding pending_by
-  turn l' wanted next' block' words' turns' h long e o k p q w z = by-more next'.more refl
+  turn l' wanted next' block' words' turns' h long e o k p q w z = by_more next'.more refl
     where
-      by-more : (b : Bool) → next'.more ≡ b → Arriving f first next' block' words' (lines + l'.lines) turns' l'
-      by-more false m =
+      by_more : (b : Bool) → next'.more ≡ b → Arriving f first next' block' words' (lines + l'.lines) turns' l'
+      by_more false m =
           record {
             blocks = v.blocks;
             begun = v.begun;
-            is = ap (pending_by f v.begun (lines + l'.lines) l' (take next'.count words')) m ∙ fed-is l' h e;
+            is = ap (pending_by f v.begun (lines + l'.lines) l' (take next'.count words')) m ∙ fed_is l' h e;
             begun_long = q m ∙ v.begun_long;
             begun_are = λ t. absurd (true≢false (sym t ∙ m));
             still_open = λ t. absurd (true≢false (sym t ∙ m));
@@ -113,7 +113,7 @@ module _ {f : Fixed} {first : Arrived} {next : Next} {block : List ℕ} {words :
             kept = k;
             over = z;
           }
-      by-more true m =
+      by_more true m =
           let came = p m in
           let begun' = take next'.begun block' in
           let all : take next.begun block ++ came.block ≡ v.begun ++ came.block = ap (λ (x : List ℕ). x ++ came.block) (sym (v.begun_are (pending h))) in
@@ -125,7 +125,7 @@ module _ {f : Fixed} {first : Arrived} {next : Next} {block : List ℕ} {words :
                 ap (pending_by f begun' (lines + l'.lines) l' (take next'.count words')) m
                 ∙ ap₂ (λ (x : List ℕ) (y : List ℤ). fed_with f x (lines + l'.lines) l' y) (came.begun_are ∙ ap begun_in all) (came.words_are ∙ ap words_in all)
                 ∙ sym (arrive_open f (arrived_by v.begun (lines + l'.lines) l') came.block open')
-                ∙ ap (λ (x : Arrived). arrive f x came.block) (fed-is l' h e)
+                ∙ ap (λ (x : Arrived). arrive f x came.block) (fed_is l' h e)
                 ∙ sym (one_more f first v.blocks came.block);
             begun_long = sym (length-take-le next'.begun block' (omega (arith, k.0, long)));
             begun_are = λ t. refl;

@@ -28,7 +28,7 @@ use Rattle.zone.specs.declared.Fetched.{Fetched}
 use Rattle.zone.specs.declared.Touched.{Touched}
 use Rattle.moves.specs.Apply.{BothMoved, BothShifted, both_moved, both_shifted}
 use Rattle.moves.specs.declared.Displaced.{Displaced}
-use Rattle.direct_moves.specs.Direct.{tryDisplacementOf, tryMoveOriginalOf, tryMovePointOf, tryMoveZp2Of}
+use Rattle.direct_moves.specs.Direct.{try_displacement_of, try_move_original_of, try_move_point_of, try_move_zp2_of}
 use Rattle.iup.specs.Iup.{Swept, tried_of, swept}
 use Rattle.state_words.specs.Words.{written}
 use Rattle.line.specs.World.{fixed, world}
@@ -234,12 +234,12 @@ module _ (s : GraphicsState) (a b : Vector) (r₁ r₂ : Measured) where
   pub try_dual_project_has_one_outcome : r₁ ≡ measured_of s (dual_project_of s.vectors a b) → r₂ ≡ measured_of s (dual_project_of s.vectors a b) → r₁ ≡ r₂
   try_dual_project_has_one_outcome p q = one_outcome p q
 
-  pub try-dual-project-unscaled-has-one-outcome :
+  pub try_dual_project_unscaled_has_one_outcome :
       r₁ ≡ measured_of s (dual_project_of s.vectors a b) → r₂ ≡ measured_of s (dual_project_of s.vectors a b) → r₁ ≡ r₂
-  try-dual-project-unscaled-has-one-outcome p q = one_outcome p q
+  try_dual_project_unscaled_has_one_outcome p q = one_outcome p q
 
 pub try_point_displacement_has_one_outcome : (gox goy gx gy tox toy tx ty : List ℤ) (s : GraphicsState) (opcode : ℕ) (r₁ r₂ : Displaced)
-    → r₁ ≡ tryDisplacementOf gox goy gx gy tox toy tx ty s opcode → r₂ ≡ tryDisplacementOf gox goy gx gy tox toy tx ty s opcode → r₁ ≡ r₂
+    → r₁ ≡ try_displacement_of gox goy gx gy tox toy tx ty s opcode → r₂ ≡ try_displacement_of gox goy gx gy tox toy tx ty s opcode → r₁ ≡ r₂
 try_point_displacement_has_one_outcome gox goy gx gy tox toy tx ty s opcode r₁ r₂ p q = one_outcome p q
 
 -- ---- the direct calls that change flags
@@ -274,8 +274,8 @@ try_iup_has_one_outcome unscaled original current flags contours axis r₁ curre
 
 pub try_move_original_has_one_outcome : (s : GraphicsState) (zone : ZonePointer) (at : ℕ) (distance : ℤ) (gox goy tox toy : List ℤ)
     (r₁ : Call) (gox₁ goy₁ tox₁ toy₁ : List ℤ) (r₂ : Call) (gox₂ goy₂ tox₂ toy₂ : List ℤ)
-    → both_shifted r₁ gox₁ goy₁ tox₁ toy₁ ≡ tryMoveOriginalOf gox goy tox toy s zone at distance
-    → both_shifted r₂ gox₂ goy₂ tox₂ toy₂ ≡ tryMoveOriginalOf gox goy tox toy s zone at distance
+    → both_shifted r₁ gox₁ goy₁ tox₁ toy₁ ≡ try_move_original_of gox goy tox toy s zone at distance
+    → both_shifted r₂ gox₂ goy₂ tox₂ toy₂ ≡ try_move_original_of gox goy tox toy s zone at distance
     → (r₁ ≡ r₂) × (gox₁ ≡ gox₂) × (goy₁ ≡ goy₂) × (tox₁ ≡ tox₂) × (toy₁ ≡ toy₂)
 try_move_original_has_one_outcome s zone at distance gox goy tox toy r₁ gox₁ goy₁ tox₁ toy₁ r₂ gox₂ goy₂ tox₂ toy₂ p q = (
   one_part (λ (x : BothShifted). x.call) p q,
@@ -302,14 +302,14 @@ module _ (s : GraphicsState) (gx gy : List ℤ) (gflags : List ℕ) (tx ty : Lis
     )
 
     pub try_move_point_has_one_outcome : (zone : ZonePointer) (at : ℕ) (distance : ℤ)
-        → both_moved r₁ gx₁ gy₁ gflags₁ tx₁ ty₁ tflags₁ ≡ tryMovePointOf gx gy gflags tx ty tflags s zone at distance
-        → both_moved r₂ gx₂ gy₂ gflags₂ tx₂ ty₂ tflags₂ ≡ tryMovePointOf gx gy gflags tx ty tflags s zone at distance
+        → both_moved r₁ gx₁ gy₁ gflags₁ tx₁ ty₁ tflags₁ ≡ try_move_point_of gx gy gflags tx ty tflags s zone at distance
+        → both_moved r₂ gx₂ gy₂ gflags₂ tx₂ ty₂ tflags₂ ≡ try_move_point_of gx gy gflags tx ty tflags s zone at distance
         → (r₁ ≡ r₂) × (gx₁ ≡ gx₂) × (gy₁ ≡ gy₂) × (gflags₁ ≡ gflags₂) × (tx₁ ≡ tx₂) × (ty₁ ≡ ty₂) × (tflags₁ ≡ tflags₂)
     try_move_point_has_one_outcome zone at distance p q = both_moved p q
 
     pub try_move_zp2_point_has_one_outcome : (at : ℕ) (dx dy : ℤ) (touches : Bool)
-        → both_moved r₁ gx₁ gy₁ gflags₁ tx₁ ty₁ tflags₁ ≡ tryMoveZp2Of gx gy gflags tx ty tflags s at dx dy touches
-        → both_moved r₂ gx₂ gy₂ gflags₂ tx₂ ty₂ tflags₂ ≡ tryMoveZp2Of gx gy gflags tx ty tflags s at dx dy touches
+        → both_moved r₁ gx₁ gy₁ gflags₁ tx₁ ty₁ tflags₁ ≡ try_move_zp2_of gx gy gflags tx ty tflags s at dx dy touches
+        → both_moved r₂ gx₂ gy₂ gflags₂ tx₂ ty₂ tflags₂ ≡ try_move_zp2_of gx gy gflags tx ty tflags s at dx dy touches
         → (r₁ ≡ r₂) × (gx₁ ≡ gx₂) × (gy₁ ≡ gy₂) × (gflags₁ ≡ gflags₂) × (tx₁ ≡ tx₂) × (ty₁ ≡ ty₂) × (tflags₁ ≡ tflags₂)
     try_move_zp2_point_has_one_outcome at dx dy touches p q = both_moved p q
 

@@ -16,7 +16,7 @@ use Rattle.laws_axes.proofs.RunSteps.{Named, all_named, free_here}
 use Rattle.laws_axes.specs.Reached.{after_call, after_line, lines_reached, none, opcode_at, reached_from, reached_on_entry}
 use Rattle.laws_lines.proofs.Rows.{RowsHave, row_has}
 use Rattle.laws_lines.proofs.Rows.RowsHave.{◌▸◌, elsewhere}
-use Rattle.laws_rules.specs.Before.{line_before, msirp_before, onDecodedBy, onEntryBy, replayBy, row_before, ruled, run_before, run_by, step_by}
+use Rattle.laws_rules.specs.Before.{line_before, msirp_before, on_decoded_by, on_entry_by, replay_by, row_before, ruled, run_before, run_by, step_by}
 use Rattle.line.specs.Operands.{is_odd}
 use Rattle.line.specs.Sizes.{fits}
 use Rattle.line.specs.World.{Fixed, Lined, World, under}
@@ -181,14 +181,14 @@ module _ (f : Fixed) where
   in_table (r ∷ more) (here, alike) opcode operands w =
       chosen opcode operands w r (row_before r) (row_in more opcode) (row_in (map row_before more) opcode) (has r opcode) (here opcode operands w) (in_table more alike opcode operands w)
 
-  all-as-before : RowsAsBefore rows
-  all-as-before =
+  all_as_before : RowsAsBefore rows
+  all_as_before =
       (set_unruled Skrifa f, (to_line_unruled Skrifa f, (vector_unruled Skrifa f, (vector_unruled Skrifa f, (isect_unruled Skrifa f, (set_unruled Skrifa f, (set_unruled Skrifa f, (size_unruled Skrifa f, (size_unruled Skrifa f, (alignpts_unruled Skrifa f, (utp_unruled Skrifa f, (mdap_unruled Skrifa f, (iup_unruled Skrifa f, (shp_unruled Skrifa f, (shc_unruled Skrifa f, (shz_unruled Skrifa f, (shpix_unruled Skrifa f, (ip_unruled Skrifa f, (msirp_as_before f, (alignrp_unruled Skrifa f, (set_unruled Skrifa f, (miap_unruled Skrifa f, (gc_unruled Skrifa f, (md_unruled Skrifa f, (size_unruled Skrifa f, (set_unruled Skrifa f, (set_unruled Skrifa f, (set_unruled Skrifa f, (flippt_unruled Skrifa f, (fliprg_unruled Skrifa f, (to_dual_line_unruled Skrifa f, (mdrp_unruled Skrifa f, (mirp_unruled Skrifa f, tt)))))))))))))))))))))))))))))))))
 
 -- every line under the rules `skrifa` is the line before, whatever rules are named beside it
 pub lines_as_before : (f : Fixed) (opcode : ℕ) (operands : List ℤ) (w : World) → line_of (under Skrifa f) opcode operands w ≡ line_before f opcode operands w
 unfolding line_of row_of line_before
-lines_as_before f opcode operands w = in_table f rows (all-as-before f) opcode operands w
+lines_as_before f opcode operands w = in_table f rows (all_as_before f) opcode operands w
 
 -- of an opcode that the rules don't change
 module _ (rules : Rules) where
@@ -202,8 +202,8 @@ module _ (rules : Rules) where
   left_out : (opcode : ℕ) → ruled opcode ≡ true → Free opcode msirp_of
   left_out opcode h e = absurd (true≢false (sym h ∙ e))
 
-  all-free : RowsHave Free rows
-  all-free =
+  all_free : RowsHave Free rows
+  all_free =
       (λ op h. free _ set_unruled op)
       ▸ (λ op h. free _ to_line_unruled op)
       ▸ (λ op h. free _ vector_unruled op)
@@ -242,61 +242,61 @@ module _ (rules : Rules) where
 -- no line but MSIRP reads the rules
 pub only_msirp : (rules : Rules) (f : Fixed) (opcode : ℕ) (operands : List ℤ) (w : World) → ruled opcode ≡ false → line_of (under rules f) opcode operands w ≡ line_of f opcode operands w
 unfolding line_of row_of
-only_msirp rules f opcode operands w e = row_has (Free rules) rows (all-free rules) opcode e f operands w
+only_msirp rules f opcode operands w e = row_has (Free rules) rows (all_free rules) opcode e f operands w
 
 -- ---- runs
 -- lines that do the same, but for such that aren't reached, and an entry that says the same, make the same run
 module _ (line : Line) (f g : Fixed) (sheet : List ℤ) (such : ℕ → Bool)
     (lines-alike : (opcode : ℕ) (operands : List ℤ) (w : World) → such opcode ≡ false → line_of f opcode operands w ≡ line g opcode operands w)
   where
-    decoded-alike : (at : ℕ) (w : World) (opcode : ℕ) → such opcode ≡ false → (d : Decoded) → Named opcode d → on_decoded f sheet at w d ≡ onDecodedBy line g sheet at w d
-    unfolding on_decoded onDecodedBy Named
-    decoded-alike at w opcode e (Operands read first end) named = ap (landed_in at end) (lines-alike read (take (end - first) (drop first sheet)) w (ap such named ∙ e))
-    decoded-alike at w opcode e (RefusedLine why) named = refl
+    decoded_alike : (at : ℕ) (w : World) (opcode : ℕ) → such opcode ≡ false → (d : Decoded) → Named opcode d → on_decoded f sheet at w d ≡ on_decoded_by line g sheet at w d
+    unfolding on_decoded on_decoded_by Named
+    decoded_alike at w opcode e (Operands read first end) named = ap (landed_in at end) (lines-alike read (take (end - first) (drop first sheet)) w (ap such named ∙ e))
+    decoded_alike at w opcode e (RefusedLine why) named = refl
 
     step_alike : (at : ℕ) (w : World) → such (opcode_at sheet at) ≡ false → step_of f sheet at w ≡ step_by line g sheet at w
     unfolding step_of step_by
     step_alike at w e =
-        decoded-alike at w (opcode_at sheet at) e (decode_of sheet w.state.loop_counter at) (all_named sheet w.state.loop_counter at)
+        decoded_alike at w (opcode_at sheet at) e (decode_of sheet w.state.loop_counter at) (all_named sheet w.state.loop_counter at)
 
     -- the lines from any place on, with this budget
     abbrev Alike : ℕ → Type 0
-    Alike b = (lines at : ℕ) (w : World) → none such (reached_from f sheet b at w) ≡ true → replay_of f sheet b lines at w ≡ replayBy line g sheet b lines at w
+    Alike b = (lines at : ℕ) (w : World) → none such (reached_from f sheet b at w) ≡ true → replay_of f sheet b lines at w ≡ replay_by line g sheet b lines at w
 
     after : (b lines : ℕ) → Alike b → (call : Call) (place : ℕ) (w : World) → none such (after_call (reached_from f sheet b) place w call) ≡ true
-        → on_call (replay_of f sheet b (suc lines)) lines place w call ≡ on_call (replayBy line g sheet b (suc lines)) lines place w call
+        → on_call (replay_of f sheet b (suc lines)) lines place w call ≡ on_call (replay_by line g sheet b (suc lines)) lines place w call
     unfolding on_call after_call
     after b lines ih Done place w free = ih (suc lines) place w free
     after b lines ih (RefusedCall why) place w free = refl
 
     turn : (b lines at : ℕ) (w : World) → Alike b → not (such (opcode_at sheet at)) && none such (after_line (reached_from f sheet b) (step_of f sheet at w)) ≡ true
-        → on_went (replay_of f sheet b (suc lines)) lines (step_of f sheet at w) ≡ on_went (replayBy line g sheet b (suc lines)) lines (step_by line g sheet at w)
+        → on_went (replay_of f sheet b (suc lines)) lines (step_of f sheet at w) ≡ on_went (replay_by line g sheet b (suc lines)) lines (step_by line g sheet at w)
     turn b lines at w ih free =
         let here = step_of f sheet at w in
         let unlike = not (such (opcode_at sheet at)) in
         after b lines ih here.call here.place here.world (and_right unlike _ free)
-        ∙ ap (on_went (replayBy line g sheet b (suc lines)) lines) (step_alike at w (not-true (such (opcode_at sheet at)) (and_left unlike _ free)))
+        ∙ ap (on_went (replay_by line g sheet b (suc lines)) lines) (step_alike at w (not-true (such (opcode_at sheet at)) (and_left unlike _ free)))
 
     by_test : (t : Bool) (r s other : Ran) → (t ≡ true → r ≡ s) → cond t r other ≡ cond t s other
     by_test true r s other e = e refl
     by_test false r s other e = refl
 
-    replays-alike : (b : ℕ) → Alike b
-    unfolding replay_of replayBy reached_from
-    replays-alike zero lines at w free = refl
-    replays-alike (suc b) lines at w free =
-        by_test (ltb at (length sheet)) _ _ _ (λ here. turn b lines at w (replays-alike b) (free_here such (ltb at (length sheet)) _ _ here free))
+    replays_alike : (b : ℕ) → Alike b
+    unfolding replay_of replay_by reached_from
+    replays_alike zero lines at w free = refl
+    replays_alike (suc b) lines at w free =
+        by_test (ltb at (length sheet)) _ _ _ (λ here. turn b lines at w (replays_alike b) (free_here such (ltb at (length sheet)) _ _ here free))
 
-    on-entry : (budget start : ℕ) (w : World) (call : Call) → none such (reached_on_entry (reached_from f sheet budget start w) call) ≡ true
-        → on_entry f sheet budget start w call ≡ onEntryBy line g sheet budget start w call
-    unfolding on_entry onEntryBy reached_on_entry
-    on-entry budget start w Done free = replays-alike budget 0 start w free
-    on-entry budget start w (RefusedCall why) free = refl
+    on_entry_lem : (budget start : ℕ) (w : World) (call : Call) → none such (reached_on_entry (reached_from f sheet budget start w) call) ≡ true
+        → on_entry f sheet budget start w call ≡ on_entry_by line g sheet budget start w call
+    unfolding on_entry on_entry_by reached_on_entry
+    on_entry_lem budget start w Done free = replays_alike budget 0 start w free
+    on_entry_lem budget start w (RefusedCall why) free = refl
 
-    runs-alike : (budget start : ℕ) (w : World) → entered f sheet start w ≡ entered g sheet start w → none such (lines_reached f sheet budget start w) ≡ true
+    runs_alike : (budget start : ℕ) (w : World) → entered f sheet start w ≡ entered g sheet start w → none such (lines_reached f sheet budget start w) ≡ true
         → run_of f sheet budget start w ≡ run_by line g sheet budget start w
     unfolding run_of run_by lines_reached
-    runs-alike budget start w e free = on-entry budget start w (entered f sheet start w) free ∙ ap (onEntryBy line g sheet budget start w) e
+    runs_alike budget start w e free = on_entry_lem budget start w (entered f sheet start w) free ∙ ap (on_entry_by line g sheet budget start w) e
 
 -- the entry reads no rules
 entry_unruled : (rules : Rules) (f : Fixed) (sheet : List ℤ) (start : ℕ) (w : World) → entered (under rules f) sheet start w ≡ entered f sheet start w
@@ -310,17 +310,17 @@ none_at_all (opcode ∷ opcodes) = none_at_all opcodes
 -- what a run gives under the rules `skrifa` is what it gave before, on every input
 pub run_as_before : (f : Fixed) (sheet : List ℤ) (budget start : ℕ) (w : World) → run_of (under Skrifa f) sheet budget start w ≡ run_before f sheet budget start w
 run_as_before f sheet budget start w =
-    runs-alike line_before (under Skrifa f) f sheet (λ (opcode : ℕ). false) (λ opcode operands w e. lines_as_before f opcode operands w) budget start w
+    runs_alike line_before (under Skrifa f) f sheet (λ (opcode : ℕ). false) (λ opcode operands w e. lines_as_before f opcode operands w) budget start w
     (entry_unruled Skrifa f sheet start w) (none_at_all (lines_reached (under Skrifa f) sheet budget start w))
 
 -- a run by the table's own lines is the run
 by_its_own : (f : Fixed) (sheet : List ℤ) (budget start : ℕ) (w : World) → run_of f sheet budget start w ≡ run_by line_of f sheet budget start w
 by_its_own f sheet budget start w =
-    runs-alike line_of f f sheet (λ (opcode : ℕ). false) (λ opcode operands w e. refl) budget start w refl (none_at_all (lines_reached f sheet budget start w))
+    runs_alike line_of f f sheet (λ (opcode : ℕ). false) (λ opcode operands w e. refl) budget start w refl (none_at_all (lines_reached f sheet budget start w))
 
 -- a run that reaches no MSIRP is the same under all rules
 pub same_under_all : (rules : Rules) (f : Fixed) (sheet : List ℤ) (budget start : ℕ) (w : World) → none ruled (lines_reached f sheet budget start w) ≡ true
     → run_of (under rules f) sheet budget start w ≡ run_of f sheet budget start w
 same_under_all rules f sheet budget start w free =
     by_its_own (under rules f) sheet budget start w
-    ∙ sym (runs-alike line_of f (under rules f) sheet ruled (λ opcode operands w e. sym (only_msirp rules f opcode operands w e)) budget start w (sym (entry_unruled rules f sheet start w)) free)
+    ∙ sym (runs_alike line_of f (under rules f) sheet ruled (λ opcode operands w e. sym (only_msirp rules f opcode operands w e)) budget start w (sym (entry_unruled rules f sheet start w)) free)

@@ -49,24 +49,24 @@ line_before f opcode operands w = (row_in (map row_before rows) opcode).line f o
 
 -- ---- a run by any lines: the text of `step_of`, `replay_of` and `run_of` with the lines as an argument
 module _ (line : Line) where
-  unfoldable pub onDecodedBy : Fixed → List ℤ → ℕ → World → Decoded → Went
-  onDecodedBy f sheet at w (Operands op first end) = landed_in at end (line f op (take (end - first) (drop first sheet)) w)
-  onDecodedBy f sheet at w (RefusedLine why) = record { call = RefusedCall why; place = at; world = w }
+  unfoldable pub on_decoded_by : Fixed → List ℤ → ℕ → World → Decoded → Went
+  on_decoded_by f sheet at w (Operands op first end) = landed_in at end (line f op (take (end - first) (drop first sheet)) w)
+  on_decoded_by f sheet at w (RefusedLine why) = record { call = RefusedCall why; place = at; world = w }
 
   unfoldable pub step_by : Fixed → List ℤ → ℕ → World → Went
-  step_by f sheet at w = onDecodedBy f sheet at w (decode_of sheet w.state.loop_counter at)
+  step_by f sheet at w = on_decoded_by f sheet at w (decode_of sheet w.state.loop_counter at)
 
-  unfoldable pub replayBy : Fixed → List ℤ → ℕ → ℕ → ℕ → World → Ran
-  replayBy f sheet zero lines at w = cond (ltb at (length sheet)) (ends OutOfBudget lines at w) (ends Finished lines at w)
-  replayBy f sheet (suc budget) lines at w =
-      cond (ltb at (length sheet)) (on_went (replayBy f sheet budget (suc lines)) lines (step_by f sheet at w)) (ends Finished lines at w)
+  unfoldable pub replay_by : Fixed → List ℤ → ℕ → ℕ → ℕ → World → Ran
+  replay_by f sheet zero lines at w = cond (ltb at (length sheet)) (ends OutOfBudget lines at w) (ends Finished lines at w)
+  replay_by f sheet (suc budget) lines at w =
+      cond (ltb at (length sheet)) (on_went (replay_by f sheet budget (suc lines)) lines (step_by f sheet at w)) (ends Finished lines at w)
 
-  unfoldable pub onEntryBy : Fixed → List ℤ → ℕ → ℕ → World → Call → Ran
-  onEntryBy f sheet budget start w Done = replayBy f sheet budget 0 start w
-  onEntryBy f sheet budget start w (RefusedCall why) = ends (Refused why) 0 start w
+  unfoldable pub on_entry_by : Fixed → List ℤ → ℕ → ℕ → World → Call → Ran
+  on_entry_by f sheet budget start w Done = replay_by f sheet budget 0 start w
+  on_entry_by f sheet budget start w (RefusedCall why) = ends (Refused why) 0 start w
 
   unfoldable pub run_by : Fixed → List ℤ → ℕ → ℕ → World → Ran
-  run_by f sheet budget start w = onEntryBy f sheet budget start w (entered f sheet start w)
+  run_by f sheet budget start w = on_entry_by f sheet budget start w (entered f sheet start w)
 
 -- a run as it was
 abbrev pub run_before : Fixed → List ℤ → ℕ → ℕ → World → Ran

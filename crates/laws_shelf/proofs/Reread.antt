@@ -46,18 +46,18 @@ module _ (rules : Rules) where
 
   -- ---- a record whose newest edition has 24 KiB at most, and room
   module _ (bytes out : List ℕ) (h : Held) (f : Bytes bytes) (e : read_of bytes ≡ Kept h) (short : size_for h ≤ most_bytes) (room : size_for h ≤ length out) where
-    left-keepable : Keepable (after rules h)
-    left-keepable = after_keepable h (read_keepable bytes f h e short)
+    left_keepable : Keepable (after rules h)
+    left_keepable = after_keepable h (read_keepable bytes f h e short)
 
     -- what is written is the record of what the replay leaves
     pub written_is : written (shelf_of rules bytes out) ≡ record_of (after rules h)
     written_is =
         let rest = drop (size_for h) out in
-        let long : length (record_of (after rules h)) ≡ size_for h = record_long (after rules h) left-keepable ∙ ap record_size (after_layout rules h) in
+        let long : length (record_of (after rules h)) ≡ size_for h = record_long (after rules h) left_keepable ∙ ap record_size (after_layout rules h) in
         ap written (shelved_whole rules most_bytes bytes out h e short room)
         ∙ ap (λ (n : ℕ). take n (record_of (after rules h) ++ rest)) (sym long)
         ∙ take-append_seam (record_of (after rules h)) rest
 
     -- it reads back as what the replay leaves
     pub replayed_reads : read_of (written (shelf_of rules bytes out)) ≡ Kept (after rules h)
-    replayed_reads = ap read_of written_is ∙ kept_as_written (after rules h) left-keepable
+    replayed_reads = ap read_of written_is ∙ kept_as_written (after rules h) left_keepable

@@ -41,12 +41,12 @@ module _ (rules : Rules) where
   neither true c = refl
   neither false c = refl
 
-  blank-long : length blank ≡ room
+  blank_long : length blank ≡ room
   unfolding blank
-  blank-long = length-replicate {A = ℕ} room 0
+  blank_long = length-replicate {A = ℕ} room 0
 
-  after-size : (h : Held) → size_for (after rules h) ≡ size_for h
-  after-size h = ap record_size (after_layout h)
+  after_size : (h : Held) → size_for (after rules h) ≡ size_for h
+  after_size h = ap record_size (after_layout h)
 
   -- what a replay says and leaves, by whether its record can be written
   by_test : (most : ℕ) (bytes out : List ℕ) (h : Held) → read_of bytes ≡ Kept h → {t : Bool} → can_write most (after rules h) (length out) ≡ t
@@ -62,7 +62,7 @@ module _ (rules : Rules) where
         → shelf_within rules most bytes out ≡ shelved (said_of (layout_for h) (ran_from rules h) (size_for h)) (record_of (after rules h) ++ drop (size_for h) out)
     unfolding can_write
     shelved_whole short room =
-        let size = after-size h in
+        let size = after_size h in
         let can : can_write most (after rules h) (length out) ≡ true =
         both (both (after_fits h ∙ (whence bytes h e).fit) (le-leb (size_for (after rules h)) most (omega (arith, size, short)))) (le-leb (size_for (after rules h)) (length out) (omega (arith, size, room))) in
         by_test most bytes out h e can
@@ -72,7 +72,7 @@ module _ (rules : Rules) where
     pub shelved_none : most < size_for h → shelf_within rules most bytes out ≡ shelved (said_of (layout_for h) (ran_from rules h) 0) out
     unfolding can_write
     shelved_none long =
-        let no : leb (size_for (after rules h)) most ≡ false = lt-leb (size_for (after rules h)) most (omega (arith, after-size h, long)) in
+        let no : leb (size_for (after rules h)) most ≡ false = lt-leb (size_for (after rules h)) most (omega (arith, after_size h, long)) in
         by_test most bytes out h e
         (ap (λ (t : Bool). world_fits (after rules h).fixed (after rules h).sheet (after rules h).world && t && leb (size_for (after rules h)) (length out)) no
         ∙ neither (world_fits (after rules h).fixed (after rules h).sheet (after rules h).world) (leb (size_for (after rules h)) (length out)))
@@ -88,4 +88,4 @@ module _ (rules : Rules) where
   printed_whole bytes h e =
       let w = whence bytes h e in
       let short : size_for h ≤ room = omega (arith, w.size, w.some, w.short) in
-      ap text_of (shelved_whole room bytes blank h e short (omega (arith, short, blank-long)))
+      ap text_of (shelved_whole room bytes blank h e short (omega (arith, short, blank_long)))

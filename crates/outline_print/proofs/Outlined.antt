@@ -57,20 +57,20 @@ module _ {g : Glyph} {at : ℕ} {l₀ l : List ℕ} {w : Walk} {f : Framed} {nex
     more : List ℕ
     more = left g s.walk (with_spots (extent_in f) (spots_of s.stroke))
 
-    rest-is : left g w (extent_in f) ≡ stroke_line s.stroke ++ more
+    rest_is : left g w (extent_in f) ≡ stroke_line s.stroke ++ more
     unfolding more
-    rest-is =
+    rest_is =
         ap (λ (r : List Stroke). stroke_lines r ++ box_line (with_spots (extent_in f) (handed_out r))) goes
         ∙ append_assoc (stroke_line s.stroke) (stroke_lines (remaining g s.walk)) _
         ∙ ap (λ (k : Extent). stroke_line s.stroke ++ (stroke_lines (remaining g s.walk) ++ box_line k)) (spots_joined (extent_in f) (spots_of s.stroke) (handed_out (remaining g s.walk)))
 
     pub step_fits : next + length (stroke_line s.stroke) ≤ length l
-    step_fits = piece_fits v.putting (stroke_line s.stroke) more rest-is
+    step_fits = piece_fits v.putting (stroke_line s.stroke) more rest_is
 
     pub draw_on : {h : Framed} {then : ℕ} {l' : List ℕ} → Put (stroke_line s.stroke) next then l l' → extent_in h ≡ with_spots (extent_in f) (spots_of s.stroke) → Drawing g at l₀ l' s.walk h then
     unfolding more
     draw_on {h} {then} {l'} p e = record {
-      putting = subst (λ (k : Extent). Putting (outline_text g) at l₀ l' then (left g s.walk k)) (sym e) (put_piece v.putting rest-is p);
+      putting = subst (λ (k : Extent). Putting (outline_text g) at l₀ l' then (left g s.walk k)) (sym e) (put_piece v.putting rest_is p);
       near = subst AllNear (sym e) (step_within (extent_in f) s.stroke step_near v.near);
     }
 

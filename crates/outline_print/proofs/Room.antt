@@ -65,20 +65,20 @@ ended_most z end h = omega (arith, length-append (fraction z) (end ∷ []), frac
 
 -- ---- lines
 module _ (a b x y : ℤ) (e : near a && near b && near x && near y ≡ true) where
-  before-y : (near a && near b) && near x ≡ true
-  before-y = left_of ((near a && near b) && near x) (near y) e
+  before_y : (near a && near b) && near x ≡ true
+  before_y = left_of ((near a && near b) && near x) (near y) e
 
   both : near a && near b ≡ true
-  both = left_of (near a && near b) (near x) before-y
+  both = left_of (near a && near b) (near x) before_y
 
-  places-most : length (places_text a b x y) ≤ 64
-  places-most = omega (
+  places_most : length (places_text a b x y) ≤ 64
+  places_most = omega (
     arith,
     places_long a b x y,
     place_long x y,
     ended_most a 32 (left_of (near a) (near b) both),
     ended_most b 32 (right_of (near a) (near b) both),
-    ended_most x 32 (right_of (near a && near b) (near x) before-y),
+    ended_most x 32 (right_of (near a && near b) (near x) before_y),
     ended_most y 10 (right_of ((near a && near b) && near x) (near y) e),
   )
 
@@ -88,33 +88,33 @@ place_most x y e = omega (arith, place_long x y, ended_most x 32 (left_of (near 
 stroke_most : (d : Stroke) → is_near d ≡ true → length (stroke_line d) ≤ 70
 stroke_most (Move x y) e = omega (arith, move_long {x = x} {y = y} refl, place_most x y e)
 stroke_most (Line x y) e = omega (arith, line_long {x = x} {y = y} refl, place_most x y e)
-stroke_most (Curve a b x y) e = omega (arith, curve_long {cx = a} {cy = b} {x = x} {y = y} refl, places-most a b x y e)
+stroke_most (Curve a b x y) e = omega (arith, curve_long {cx = a} {cy = b} {x = x} {y = y} refl, places_most a b x y e)
 stroke_most Close e = omega (arith, close_long refl)
 
 box_most : (k : Extent) → AllNear k → length (box_line k) ≤ 70
 unfolding box_line
 box_most none n = omega arith
 box_most (box k) n =
-    omega (arith, length-append (98 ∷ 111 ∷ 120 ∷ 32 ∷ []) (places_text k.left k.bottom k.right k.top), places-most k.left k.bottom k.right k.top (λ i. n.0 i && n.1 i && n.2 i && n.3 i))
+    omega (arith, length-append (98 ∷ 111 ∷ 120 ∷ 32 ∷ []) (places_text k.left k.bottom k.right k.top), places_most k.left k.bottom k.right k.top (λ i. n.0 i && n.1 i && n.2 i && n.3 i))
 
 -- ---- how many steps
 visit_most : (g : Glyph) (s : Spot) (at n : ℕ) → (length (visit g s still at n) ≤ n + 1) × ((c : ℕ) → length (visit g s (off c) at n) ≤ n + 2)
 unfolding visit
 visit_most g s at zero = (omega arith, λ c. omega arith)
 visit_most g s at (suc n) = let v = visit_most g s (suc at) n in (
-  by-on (on g at) v.0 (v.1 at),
-  λ c. by-off c (on g at) v.0 (v.1 at),
+  by_on (on g at) v.0 (v.1 at),
+  λ c. by_off c (on g at) v.0 (v.1 at),
 )
   where
-    by-on : (t : Bool) → length (visit g s still (suc at) n) ≤ n + 1 → length (visit g s (off at) (suc at) n) ≤ n + 2
+    by_on : (t : Bool) → length (visit g s still (suc at) n) ≤ n + 1 → length (visit g s (off at) (suc at) n) ≤ n + 2
         → length (cond t (line_to (own g at) ∷ visit g s still (suc at) n) (visit g s (off at) (suc at) n)) ≤ suc n + 1
-    by-on true h k = omega arith
-    by-on false h k = omega arith
+    by_on true h k = omega arith
+    by_on false h k = omega arith
 
-    by-off : (c : ℕ) (t : Bool) → length (visit g s still (suc at) n) ≤ n + 1 → length (visit g s (off at) (suc at) n) ≤ n + 2
+    by_off : (c : ℕ) (t : Bool) → length (visit g s still (suc at) n) ≤ n + 1 → length (visit g s (off at) (suc at) n) ≤ n + 2
         → length (cond t (curve_to (own g c) (own g at) ∷ visit g s still (suc at) n) (curve_to (own g c) (between g c at) ∷ visit g s (off at) (suc at) n)) ≤ suc n + 2
-    by-off c true h k = omega arith
-    by-off c false h k = omega arith
+    by_off c true h k = omega arith
+    by_off c false h k = omega arith
 
 begun_most : (g : Glyph) (s : Spot) (at stop : ℕ) → length (begun g s at stop) ≤ (stop - at) + 2
 begun_most g s at stop = omega (arith, (visit_most g s at (stop - at)).0)

@@ -35,7 +35,7 @@ overflow_add-lines c =
 
 pub next_words-next-requires : goal.next_words-next-requires
 next_words-next-requires c =
-    record { begun_bound = (so_far (goal.at.next_words-next-requires c).At-loop-turns).kept.0; block_len = c.loop-turns.invariant.kept-long.block-long ∙ c.requires.block_len; words_len = c.loop-turns.invariant.kept-long.words_long ∙ c.requires.words_len; }
+    record { begun_bound = (so_far (goal.at.next_words-next-requires c).At-loop-turns).kept.0; block_len = c.loop-turns.invariant.kept-long.block-long ∙ c.requires.block_len; words_len = c.loop-turns.invariant.kept-long.words_long ∙ c.requires.words_len }
 
 pub turns_left-turns-requires : goal.turns_left-turns-requires
 turns_left-turns-requires c = testing (goal.at.turns_left-turns-requires c).After-feed-c
