@@ -22,14 +22,14 @@ both_right false t e = cc e
 
 -- ---- the ends from k on, where there is one
 module _ (least n : ℕ) (ends : List ℕ) (k : ℕ) (h : k < length ends) {end : ℕ} (is : end ≡ get_or ends k 0) where
-  next-is : rising_from least n (drop k ends) ≡ leb least end && (ltb end n && rising_from (suc end) n (drop (k + 1) ends))
+  next_is : rising_from least n (drop k ends) ≡ leb least end && (ltb end n && rising_from (suc end) n (drop (k + 1) ends))
   unfolding rising_from
-  next-is = rw (drop-cons ends k 0 h, add-one k, is)
+  next_is = rw (drop-cons ends k 0 h, add-one k, is)
 
   -- ---- what a test that was passed says
   pub in_order : rising_from least n (drop k ends) ≡ true → (least ≤ end) × (end < n) × (rising_from (end + 1) n (drop (k + 1) ends) ≡ true)
   in_order e =
-      let both = sym next-is ∙ e in
+      let both = sym next_is ∙ e in
       let rest = both_right (leb least end) _ both in
       (leb-true least end (both_left (leb least end) _ both), ltb-true end n (both_left (ltb end n) _ rest), ap (λ (i : ℕ). rising_from i n (drop (k + 1) ends)) (add-one end) ∙ both_right (ltb end n) _ rest)
 
@@ -86,11 +86,11 @@ first_pair n (e ∷ es) h g = sym (rw (leb-zero e)) ∙ by_pairs 0 n e es (subst
 module _ (ends : List ℕ) (k : ℕ) (rise : Bool) where
   pub next_pair : k < length ends → (rise && ltb (get_or ends (k - 1) 0) (get_or ends k 0)) && pairs_from (suc (get_or ends (k + 1 - 1) 0)) (drop (k + 1) ends) ≡ rise && pairs_from (suc (get_or ends (k - 1) 0)) (drop k ends)
   unfolding pairs_from
-  next_pair h = rw (drop-cons ends k 0 h, add-one k, less_one k) (in-turn rise _ _)
+  next_pair h = rw (drop-cons ends k 0 h, add-one k, less_one k) (in_turn rise _ _)
     where
-      in-turn : (r s t : Bool) → (r && s) && t ≡ r && (s && t)
-      in-turn true s t = refl
-      in-turn false s t = refl
+      in_turn : (r s t : Bool) → (r && s) && t ≡ r && (s && t)
+      in_turn true s t = refl
+      in_turn false s t = refl
 
   pub no_pair : (least : ℕ) → length ends ≤ k → rise ≡ rise && pairs_from least (drop k ends)
   unfolding pairs_from

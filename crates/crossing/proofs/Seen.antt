@@ -19,11 +19,11 @@ module _ (a0 a1 b0 b1 : Vector) {da db : Vector} {d d' e e' : ℤ} {t : Bool} (e
   unfolding crossing_of
   on_line h ew ev' ev eax eay edx edy ep' ep eq' eq = rw (seen h, ep', ep, eq', eq, eax, eay, edx, edy, ev', ev, ew, ed', ed, eda, edb) refl
 
-  pub in-middle :
+  pub in_middle :
       {ax bx cx dx ay by cy dy p p' q q' : ℤ} → t ≡ false → ax ≡ a0.x → bx ≡ a1.x → cx ≡ b0.x → dx ≡ b1.x → ay ≡ a0.y → by ≡ a1.y → cy ≡ b0.y → dy ≡ b1.y →
       p' ≡ p → p ≡ middle_by ax bx cx dx → q' ≡ q → q ≡ middle_by ay by cy dy → record { x = p'; y = q' } ≡ crossing_of a0 a1 b0 b1
   unfolding crossing_of
-  in-middle h eax ebx ecx edx eay eby ecy edy ep' ep eq' eq = rw (seen h, ep', ep, eq', eq, eax, ebx, ecx, edx, eay, eby, ecy, edy) refl
+  in_middle h eax ebx ecx edx eay eby ecy edy ep' ep eq' eq = rw (seen h, ep', ep, eq', eq, eax, ebx, ecx, edx, eay, eby, ecy, edy) refl
 
 pub from_to_lem : (p q : Vector) {px py qx qy d d' e e' : ℤ} → px ≡ p.x → py ≡ p.y → qx ≡ q.x → qy ≡ q.y → d' ≡ d → d ≡ sub32 qx px → e' ≡ e → e ≡ sub32 qy py → record { x = d'; y = e' } ≡ from_to p q
 from_to_lem p q epx epy eqx eqy ed' ed ee' ee = rw (ed', ed, ee', ee, epx, epy, eqx, eqy) refl

@@ -9,7 +9,7 @@ use lib.IntN.{ℤ}
 use lib.ListN.{length}
 use Rattle.answer.specs.declared.Call.{Call}
 use Rattle.answer.specs.declared.Call.TheVariants.{Done}
-use Rattle.direct_moves.specs.Direct.{entry_by, pairs_fit, zones_fit, outline_fits, shiftAfter, tryMoveOriginalOf, moveAfter, tryMovePointOf, zp2After, tryMoveZp2Of, displacedAfter, tryDisplacementOf}
+use Rattle.direct_moves.specs.Direct.{entry_by, pairs_fit, zones_fit, outline_fits, shift_after, try_move_original_of, move_after, try_move_point_of, zp2_after, try_move_zp2_of, displaced_after, try_displacement_of}
 use Rattle.graphics.specs.State.{usable_state}
 use Rattle.graphics.specs.declared.GraphicsState.{GraphicsState}
 use Rattle.graphics.specs.declared.ZonePointer.{ZonePointer}
@@ -74,31 +74,31 @@ zones_lengths gx gy gflags tx ty tflags e =
 
 -- ---- how each call goes on
 module _ (gx gy tx ty : List ℤ) (s : GraphicsState) (zone : ZonePointer) (at : ℕ) (distance : ℤ) {fits : Bool} {begun h : Call} where
-  pub original_begun : fits ≡ pairs_fit gx gy tx ty → begun ≡ entry_by fits (usable_state s) → begun ≡ h → shiftAfter gx gy tx ty zone (original_move_of s.vectors distance) at h ≡ tryMoveOriginalOf gx gy tx ty s zone at distance
-  unfolding tryMoveOriginalOf
-  original_begun p q e = ap (shiftAfter gx gy tx ty zone (original_move_of s.vectors distance) at) (begun_is (usable_state s) p q e)
+  pub original_begun : fits ≡ pairs_fit gx gy tx ty → begun ≡ entry_by fits (usable_state s) → begun ≡ h → shift_after gx gy tx ty zone (original_move_of s.vectors distance) at h ≡ try_move_original_of gx gy tx ty s zone at distance
+  unfolding try_move_original_of
+  original_begun p q e = ap (shift_after gx gy tx ty zone (original_move_of s.vectors distance) at) (begun_is (usable_state s) p q e)
 
 module _ (gx gy : List ℤ) (gflags : List ℕ) (tx ty : List ℤ) (tflags : List ℕ) (s : GraphicsState) (at : ℕ) {fits : Bool} {begun h : Call} (p : fits ≡ zones_fit gx gy gflags tx ty tflags) (q : begun ≡ entry_by fits (usable_state s)) (e : begun ≡ h) where
-  pub point_begun : (zone : ZonePointer) (distance : ℤ) → moveAfter gx gy gflags tx ty tflags zone (move_of s.vectors s.facts distance) at h ≡ tryMovePointOf gx gy gflags tx ty tflags s zone at distance
-  unfolding tryMovePointOf
-  point_begun zone distance = ap (moveAfter gx gy gflags tx ty tflags zone (move_of s.vectors s.facts distance) at) (begun_is (usable_state s) p q e)
+  pub point_begun : (zone : ZonePointer) (distance : ℤ) → move_after gx gy gflags tx ty tflags zone (move_of s.vectors s.facts distance) at h ≡ try_move_point_of gx gy gflags tx ty tflags s zone at distance
+  unfolding try_move_point_of
+  point_begun zone distance = ap (move_after gx gy gflags tx ty tflags zone (move_of s.vectors s.facts distance) at) (begun_is (usable_state s) p q e)
 
-  pub zp2_begun : (dx dy : ℤ) (touches : Bool) {m : Move} → m ≡ zp2_move_of s.vectors s.facts dx dy touches → zp2After gx gy gflags tx ty tflags s.pointers.zp2 m at h ≡ tryMoveZp2Of gx gy gflags tx ty tflags s at dx dy touches
-  unfolding tryMoveZp2Of
+  pub zp2_begun : (dx dy : ℤ) (touches : Bool) {m : Move} → m ≡ zp2_move_of s.vectors s.facts dx dy touches → zp2_after gx gy gflags tx ty tflags s.pointers.zp2 m at h ≡ try_move_zp2_of gx gy gflags tx ty tflags s at dx dy touches
+  unfolding try_move_zp2_of
   zp2_begun dx dy touches d =
-      ap (λ (m : Move). zp2After gx gy gflags tx ty tflags s.pointers.zp2 m at h) d
-      ∙ ap (zp2After gx gy gflags tx ty tflags s.pointers.zp2 (zp2_move_of s.vectors s.facts dx dy touches) at) (begun_is (usable_state s) p q e)
+      ap (λ (m : Move). zp2_after gx gy gflags tx ty tflags s.pointers.zp2 m at h) d
+      ∙ ap (zp2_after gx gy gflags tx ty tflags s.pointers.zp2 (zp2_move_of s.vectors s.facts dx dy touches) at) (begun_is (usable_state s) p q e)
 
 module _ (gx gy : List ℤ) (gflags : List ℕ) (tx ty : List ℤ) (tflags : List ℕ) (zone : ZonePointer) (m : Move) (at : ℕ) where
-  pub zp2_idle : is_idle m ≡ true → both_moved Done gx gy gflags tx ty tflags ≡ zp2After gx gy gflags tx ty tflags zone m at Done
+  pub zp2_idle : is_idle m ≡ true → both_moved Done gx gy gflags tx ty tflags ≡ zp2_after gx gy gflags tx ty tflags zone m at Done
   zp2_idle e = ap (λ (b : Bool). cond b (both_moved Done gx gy gflags tx ty tflags) (apply_in m at gx gy gflags tx ty tflags zone)) (sym e)
 
-  pub zp2_busy : is_idle m ≡ false → apply_in m at gx gy gflags tx ty tflags zone ≡ zp2After gx gy gflags tx ty tflags zone m at Done
+  pub zp2_busy : is_idle m ≡ false → apply_in m at gx gy gflags tx ty tflags zone ≡ zp2_after gx gy gflags tx ty tflags zone m at Done
   zp2_busy e = ap (λ (b : Bool). cond b (both_moved Done gx gy gflags tx ty tflags) (apply_in m at gx gy gflags tx ty tflags zone)) (sym e)
 
 module _ (gox goy gx gy tox toy tx ty : List ℤ) (s : GraphicsState) (opcode : ℕ) {g t : Bool} {begun h : Call} where
-  pub displacement_begun : g ≡ outline_fits gox goy gx gy → t ≡ outline_fits tox toy tx ty → begun ≡ entry_by (g && t) (usable_state s) → begun ≡ h → {p : Reference} → p ≡ reference_of s opcode → displacedAfter gox goy gx gy tox toy tx ty s p h ≡ tryDisplacementOf gox goy gx gy tox toy tx ty s opcode
-  unfolding tryDisplacementOf
+  pub displacement_begun : g ≡ outline_fits gox goy gx gy → t ≡ outline_fits tox toy tx ty → begun ≡ entry_by (g && t) (usable_state s) → begun ≡ h → {p : Reference} → p ≡ reference_of s opcode → displaced_after gox goy gx gy tox toy tx ty s p h ≡ try_displacement_of gox goy gx gy tox toy tx ty s opcode
+  unfolding try_displacement_of
   displacement_begun fg ft q e r =
-      ap (λ (p : Reference). displacedAfter gox goy gx gy tox toy tx ty s p h) r
-      ∙ ap (displacedAfter gox goy gx gy tox toy tx ty s (reference_of s opcode)) (begun_is (usable_state s) (ap₂ (λ (a b : Bool). a && b) fg ft) q e)
+      ap (λ (p : Reference). displaced_after gox goy gx gy tox toy tx ty s p h) r
+      ∙ ap (displaced_after gox goy gx gy tox toy tx ty s (reference_of s opcode)) (begun_is (usable_state s) (ap₂ (λ (a b : Bool). a && b) fg ft) q e)

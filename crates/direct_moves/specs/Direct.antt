@@ -36,39 +36,39 @@ outline_fits ox oy cx cy = eqb (length ox) (length cx) && pair_fits ox oy && pai
 
 -- ---- move_original
 module _ (gox goy tox toy : List ℤ) where
-  abbrev pub shiftAfter : ZonePointer → Move → ℕ → Call → BothShifted
-  shiftAfter zone m at Done = shift_in m at gox goy tox toy zone
-  shiftAfter zone m at (Refused why) = both_shifted (Refused why) gox goy tox toy
+  abbrev pub shift_after : ZonePointer → Move → ℕ → Call → BothShifted
+  shift_after zone m at Done = shift_in m at gox goy tox toy zone
+  shift_after zone m at (Refused why) = both_shifted (Refused why) gox goy tox toy
 
-  unfoldable pub tryMoveOriginalOf : GraphicsState → ZonePointer → ℕ → ℤ → BothShifted
-  tryMoveOriginalOf s zone at distance =
-      shiftAfter zone (original_move_of s.vectors distance) at (entry_by (pairs_fit gox goy tox toy) (usable_state s))
+  unfoldable pub try_move_original_of : GraphicsState → ZonePointer → ℕ → ℤ → BothShifted
+  try_move_original_of s zone at distance =
+      shift_after zone (original_move_of s.vectors distance) at (entry_by (pairs_fit gox goy tox toy) (usable_state s))
 
 -- ---- move_point and move_zp2_point
 module _ (gx gy : List ℤ) (gflags : List ℕ) (tx ty : List ℤ) (tflags : List ℕ) where
-  abbrev pub moveAfter : ZonePointer → Move → ℕ → Call → BothMoved
-  moveAfter zone m at Done = apply_in m at gx gy gflags tx ty tflags zone
-  moveAfter zone m at (Refused why) = both_moved (Refused why) gx gy gflags tx ty tflags
+  abbrev pub move_after : ZonePointer → Move → ℕ → Call → BothMoved
+  move_after zone m at Done = apply_in m at gx gy gflags tx ty tflags zone
+  move_after zone m at (Refused why) = both_moved (Refused why) gx gy gflags tx ty tflags
 
-  unfoldable pub tryMovePointOf : GraphicsState → ZonePointer → ℕ → ℤ → BothMoved
-  tryMovePointOf s zone at distance =
-      moveAfter zone (move_of s.vectors s.facts distance) at (entry_by (zones_fit gx gy gflags tx ty tflags) (usable_state s))
+  unfoldable pub try_move_point_of : GraphicsState → ZonePointer → ℕ → ℤ → BothMoved
+  try_move_point_of s zone at distance =
+      move_after zone (move_of s.vectors s.facts distance) at (entry_by (zones_fit gx gy gflags tx ty tflags) (usable_state s))
 
   -- an idle move looks at nothing
-  abbrev pub zp2After : ZonePointer → Move → ℕ → Call → BothMoved
-  zp2After zone m at Done = cond (is_idle m) (both_moved Done gx gy gflags tx ty tflags) (apply_in m at gx gy gflags tx ty tflags zone)
-  zp2After zone m at (Refused why) = both_moved (Refused why) gx gy gflags tx ty tflags
+  abbrev pub zp2_after : ZonePointer → Move → ℕ → Call → BothMoved
+  zp2_after zone m at Done = cond (is_idle m) (both_moved Done gx gy gflags tx ty tflags) (apply_in m at gx gy gflags tx ty tflags zone)
+  zp2_after zone m at (Refused why) = both_moved (Refused why) gx gy gflags tx ty tflags
 
-  unfoldable pub tryMoveZp2Of : GraphicsState → ℕ → ℤ → ℤ → Bool → BothMoved
-  tryMoveZp2Of s at dx dy touches =
-      zp2After s.pointers.zp2 (zp2_move_of s.vectors s.facts dx dy touches) at (entry_by (zones_fit gx gy gflags tx ty tflags) (usable_state s))
+  unfoldable pub try_move_zp2_of : GraphicsState → ℕ → ℤ → ℤ → Bool → BothMoved
+  try_move_zp2_of s at dx dy touches =
+      zp2_after s.pointers.zp2 (zp2_move_of s.vectors s.facts dx dy touches) at (entry_by (zones_fit gx gy gflags tx ty tflags) (usable_state s))
 
 -- ---- point_displacement
 module _ (gox goy gx gy tox toy tx ty : List ℤ) where
-  abbrev pub displacedAfter : GraphicsState → Reference → Call → Displaced
-  displacedAfter s p Done = displaced_in s.vectors p gox goy gx gy tox toy tx ty p.zone
-  displacedAfter s p (Refused why) = RefusedDisplacement why
+  abbrev pub displaced_after : GraphicsState → Reference → Call → Displaced
+  displaced_after s p Done = displaced_in s.vectors p gox goy gx gy tox toy tx ty p.zone
+  displaced_after s p (Refused why) = RefusedDisplacement why
 
-  unfoldable pub tryDisplacementOf : GraphicsState → ℕ → Displaced
-  tryDisplacementOf s opcode =
-      displacedAfter s (reference_of s opcode) (entry_by (outline_fits gox goy gx gy && outline_fits tox toy tx ty) (usable_state s))
+  unfoldable pub try_displacement_of : GraphicsState → ℕ → Displaced
+  try_displacement_of s opcode =
+      displaced_after s (reference_of s opcode) (entry_by (outline_fits gox goy gx gy && outline_fits tox toy tx ty) (usable_state s))

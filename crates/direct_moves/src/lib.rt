@@ -8,7 +8,7 @@
 ghost use Rattle.std.specs.Prelude.{◌≡◌};
 ghost use Rattle.graphics.specs.State.{usable_state};
 ghost use Rattle.moves.specs.Apply.{both_shifted, both_moved};
-ghost use Rattle.direct_moves.specs.Direct.{entry_by, pairs_fit, zones_fit, outline_fits, tryMoveOriginalOf, tryMovePointOf, tryMoveZp2Of, tryDisplacementOf};
+ghost use Rattle.direct_moves.specs.Direct.{entry_by, pairs_fit, zones_fit, outline_fits, try_move_original_of, try_move_point_of, try_move_zp2_of, try_displacement_of};
 
 use answer::{Call, Refusal};
 use graphics::{GraphicsState, ZonePointer};
@@ -63,7 +63,7 @@ pub fn try_move_original(
     tox: &mut [i32],
     toy: &mut [i32],
 ) -> Call
-    ensures { both_shifted result gox.new goy.new tox.new toy.new ≡ tryMoveOriginalOf gox.old goy.old tox.old toy.old s zone at distance }
+    ensures { both_shifted result gox.new goy.new tox.new toy.new ≡ try_move_original_of gox.old goy.old tox.old toy.old s zone at distance }
 {
     let vectors = s.vectors;
     let begun = entry(pairs_fit(gox, goy, tox, toy), s);
@@ -94,7 +94,7 @@ pub fn try_move_point(
     ty: &mut [i32],
     tflags: &mut [u8],
 ) -> Call
-    ensures { both_moved result gx.new gy.new gflags.new tx.new ty.new tflags.new ≡ tryMovePointOf gx.old gy.old gflags.old tx.old ty.old tflags.old s zone at distance }
+    ensures { both_moved result gx.new gy.new gflags.new tx.new ty.new tflags.new ≡ try_move_point_of gx.old gy.old gflags.old tx.old ty.old tflags.old s zone at distance }
 {
     let vectors = s.vectors;
     let facts = s.facts;
@@ -129,7 +129,7 @@ pub fn try_move_zp2_point(
     ty: &mut [i32],
     tflags: &mut [u8],
 ) -> Call
-    ensures { both_moved result gx.new gy.new gflags.new tx.new ty.new tflags.new ≡ tryMoveZp2Of gx.old gy.old gflags.old tx.old ty.old tflags.old s at dx dy touches }
+    ensures { both_moved result gx.new gy.new gflags.new tx.new ty.new tflags.new ≡ try_move_zp2_of gx.old gy.old gflags.old tx.old ty.old tflags.old s at dx dy touches }
 {
     let vectors = s.vectors;
     let facts = s.facts;
@@ -161,7 +161,7 @@ pub fn try_point_displacement(
     tx: &[i32],
     ty: &[i32],
 ) -> Displaced
-    ensures { result ≡ tryDisplacementOf gox.now goy.now gx.now gy.now tox.now toy.now tx.now ty.now s opcode }
+    ensures { result ≡ try_displacement_of gox.now goy.now gx.now gy.now tox.now toy.now tx.now ty.now s opcode }
 {
     let vectors = s.vectors;
     let fits = outline_fits(gox, goy, gx, gy) & outline_fits(tox, toy, tx, ty);

@@ -41,17 +41,17 @@ none_set l n p k d e = rw (ne_eqb (length l) answer_size e)
 
 -- ---- the state and the answer of a call that is taken
 module _ (words answer : List ℕ) (e : is_call words answer ≡ true) where
-  state-taken : is_state words ≡ true
+  state_taken : is_state words ≡ true
   unfolding is_call
-  state-taken = and_left (is_state words) (eqb (length answer) answer_size) e
+  state_taken = and_left (is_state words) (eqb (length answer) answer_size) e
 
   state_left : (s : GraphicsState) → written s words ≡ state_words s
   unfolding written
-  state_left s = rw (eq-eqb (length words) state_size (size_is words state-taken))
+  state_left s = rw (eq-eqb (length words) state_size (size_is words state_taken))
 
-  answer-left : (n p k d : ℕ) → answered n p k d answer ≡ n ∷ p ∷ k ∷ d ∷ []
+  answer_left : (n p k d : ℕ) → answered n p k d answer ≡ n ∷ p ∷ k ∷ d ∷ []
   unfolding answered is_call
-  answer-left n p k d = rw (and_right (is_state words) (eqb (length answer) answer_size) e)
+  answer_left n p k d = rw (and_right (is_state words) (eqb (length answer) answer_size) e)
 
 -- ---- the whole call
 module _
@@ -79,7 +79,7 @@ module _
         (ap (λ (m : ℕ). left m words' answer' gx' gy' gflags' tox' toy' tx' ty' tflags') number
         ∙ ap (λ (ws : List ℕ). left (number_of_answer o.answer) ws answer' gx' gy' gflags' tox' toy' tx' ty' tflags') (state ∙ state_left words answer call o.state)
         ∙ ap (λ (l : List ℕ). left (number_of_answer o.answer) (state_words o.state) l gx' gy' gflags' tox' toy' tx' ty' tflags')
-        (says ∙ answer-left words answer call (number_of_answer o.answer) o.place o.lines (detail_of_answer o.answer))
+        (says ∙ answer_left words answer call (number_of_answer o.answer) o.place o.lines (detail_of_answer o.answer))
         ∙ ap handed_back (runs ∙ ap (λ (t : GraphicsState). run_of (f rules) sheet budget start (world t gx gy gflags tox toy tx ty tflags)) reads))
 
     refusal : n ≡ bad_word → answer' ≡ answered bad_word start 0 0 answer → left n words answer' gx gy gflags tox toy tx ty tflags ≡ left bad_word words (answered bad_word start 0 0 answer) gx gy gflags tox toy tx ty tflags

@@ -55,25 +55,25 @@ module _ (f : Fixed) (base held lines : ℕ) (w : World) (words carry : List ℤ
   abbrev p : List ℤ
   p = take held carry
 
-  put-waits : look_of (p ++ words) ≡ Waits
+  put_waits : look_of (p ++ words) ≡ Waits
       → left_of (fed Open base (held + length words) lines w.state) (p ++ words ++ drop (held + length words) carry) w ≡ handed carry (fed_all f (going base lines p w) words)
   unfolding waits
-  put-waits e =
+  put_waits e =
       let n : held + length words ≡ length (p ++ words) = omega (arith, length-append p words, length-take-le held carry there) in
       ap (λ (m : ℕ). left_of (fed Open base m lines w.state) (p ++ words ++ drop m carry) w) n
       ∙ sym (ap (handed carry) (all_wait f base lines p w words waiting (ap waits e)))
 
-  put-by : (s : Seen) → look_of (p ++ words) ≡ s → whole_by s ≡ 0 → {d : Fed} {carry' : List ℤ} → kept d carry' ≡ rest_by base held lines w.state words carry s
+  put_by : (s : Seen) → look_of (p ++ words) ≡ s → whole_by s ≡ 0 → {d : Fed} {carry' : List ℤ} → kept d carry' ≡ rest_by base held lines w.state words carry s
       → left_of d carry' w ≡ handed carry (fed_all f (going base lines p w) words)
   unfolding rest_by whole_by
-  put-by Waits e z k = ap (λ (x : Kept). left_of x.fed x.carry w) k ∙ put-waits e
-  put-by Bad e z k = ap (λ (x : Kept). left_of x.fed x.carry w) k ∙ sym (ap (handed carry) (are_bad f base lines p w words waiting e))
-  put-by LongLine e z k = ap (λ (x : Kept). left_of x.fed x.carry w) k ∙ sym (ap (handed carry) (are_long f base lines p w words waiting e))
-  put-by (Whole n) e z k = let i = whole_is (length (p ++ words)) _ _ e in absurd (omega (arith, i.is, z))
+  put_by Waits e z k = ap (λ (x : Kept). left_of x.fed x.carry w) k ∙ put_waits e
+  put_by Bad e z k = ap (λ (x : Kept). left_of x.fed x.carry w) k ∙ sym (ap (handed carry) (are_bad f base lines p w words waiting e))
+  put_by LongLine e z k = ap (λ (x : Kept). left_of x.fed x.carry w) k ∙ sym (ap (handed carry) (are_long f base lines p w words waiting e))
+  put_by (Whole n) e z k = let i = whole_is (length (p ++ words)) _ _ e in absurd (omega (arith, i.is, z))
 
   pub put_away : whole_by (look_of (p ++ words)) ≡ 0 → {d : Fed} {carry' : List ℤ} → kept d carry' ≡ rest_by base held lines w.state words carry (look_of (p ++ words))
       → left_of d carry' w ≡ handed carry (fed_all f (going base lines p w) words)
-  put_away z k = put-by (look_of (p ++ words)) refl z k
+  put_away z k = put_by (look_of (p ++ words)) refl z k
 
 -- ---- whole lines, and the words behind them
 module _ (f : Fixed) (sheet : List ℤ) (origin before b at : ℕ) (w : World) (h : at ≤ length sheet) (runs : Runs sheet at b) (carry : List ℤ) where
@@ -85,12 +85,12 @@ module _ (f : Fixed) (sheet : List ℤ) (origin before b at : ℕ) (w : World) (
   goes = goes_by runs
 
   module _ (r : Ran) {d : Fed} {carry' : List ℤ} (k : kept d carry' ≡ ran_by origin r.place before r.lines r.world.state sheet carry (refusal sheet r)) where
-    off-by : How sheet r → left_of d carry' r.world ≡ handed carry (on_by f sheet origin before r (refusal sheet r))
+    off_by : How sheet r → left_of d carry' r.world ≡ handed carry (on_by f sheet origin before r (refusal sheet r))
     unfolding ran_by on_by
-    off-by (Stops why e) =
+    off_by (Stops why e) =
         ap (λ (x : Kept). left_of x.fed x.carry r.world) (k ∙ ap (ran_by origin r.place before r.lines r.world.state sheet carry) e)
         ∙ sym (ap (λ (c : Call). handed carry (on_by f sheet origin before r c)) e)
-    off-by (Rests e z) =
+    off_by (Rests e z) =
         put_away f (origin + r.place) 0 (before + r.lines) r.world (drop r.place sheet) carry (omega arith) none_waits z
         (k ∙ ap (ran_by origin r.place before r.lines r.world.state sheet carry) e)
         ∙ sym (ap (λ (c : Call). handed carry (on_by f sheet origin before r c)) e)
@@ -99,7 +99,7 @@ module _ (f : Fixed) (sheet : List ℤ) (origin before b at : ℕ) (w : World) (
       → kept d carry' ≡ ran_by origin r.place before r.lines r.world.state sheet carry (refusal sheet r)
       → left_of d carry' r.world ≡ handed carry (fed_all f (going (origin + at) before [] w) (drop at sheet))
   off_is r e k =
-      off-by r k (subst (How sheet) (sym e) goes.how)
+      off_by r k (subst (How sheet) (sym e) goes.how)
       ∙ ap (λ (x : Ran). handed carry (on_by f sheet origin before x (refusal sheet x))) e
       ∙ sym (ap (handed carry) goes.same)
       ∙ ap (λ (n : ℕ). handed carry (fed_all f (going (origin + at) n [] w) (drop at sheet))) (add-zero before)

@@ -49,8 +49,8 @@ module _ (f : Fixed) (sheet : List ℤ) (origin before n at : ℕ) (w : World) (
   abbrev count : ℕ
   count = index_of (get_or words 1 (pos 0))
 
-  op-at : op ≡ index_of (get_or sheet at (pos 0))
-  op-at = ap index_of (get_or-drop at sheet 0 (pos 0) ∙ ap (λ (i : ℕ). get_or sheet i (pos 0)) (add-zero at))
+  op_at : op ≡ index_of (get_or sheet at (pos 0))
+  op_at = ap index_of (get_or-drop at sheet 0 (pos 0) ∙ ap (λ (i : ℕ). get_or sheet i (pos 0)) (add-zero at))
 
   count_at : count ≡ index_of (get_or sheet (at + 1) (pos 0))
   count_at = ap index_of (get_or-drop at sheet 1 (pos 0))
@@ -81,20 +81,20 @@ module _ (f : Fixed) (sheet : List ℤ) (origin before n at : ℕ) (w : World) (
     unfolding whole_by
     by_tests (Empty g) ih = all_run (suc b) g
     by_tests (Beyond g a) ih =
-        unread g (ap whole_by (no_opcode (length words) op count g a)) (decode-no-opcode sheet w.state.loop_counter at op (here g) op-at a)
+        unread g (ap whole_by (no_opcode (length words) op count g a)) (decode-no-opcode sheet w.state.loop_counter at op (here g) op_at a)
     by_tests (Strange g a u) ih =
-        unread g (ap whole_by (not_known (length words) op count g a u)) (decode-not-known sheet w.state.loop_counter at op (here g) op-at a u)
+        unread g (ap whole_by (not_known (length words) op count g a u)) (decode-not-known sheet w.state.loop_counter at op (here g) op_at a u)
     by_tests (Single g a u c) ih =
         unread g (ap whole_by (no_count (length words) op count g a u c))
-        (decode-no-count sheet w.state.loop_counter at op (here g) op-at a u (omega (arith, c, h, length-drop at sheet)))
+        (decode-no-count sheet w.state.loop_counter at op (here g) op_at a u (omega (arith, c, h, length-drop at sheet)))
     by_tests (Longer a u c d) ih =
         let g : 1 ≤ length words = omega (arith, c) in
         unread g (ap whole_by (too_long (length words) op count g a u c d) ∙ none_long count)
-        (decode-too-long sheet w.state.loop_counter at op (here g) op-at a u count (omega (arith, c, length-drop at sheet)) count_at (omega (arith, d, few, length-drop at sheet)))
+        (decode-too-long sheet w.state.loop_counter at op (here g) op_at a u count (omega (arith, c, length-drop at sheet)) count_at (omega (arith, d, few, length-drop at sheet)))
     by_tests (Short a u c d e) ih =
         let g : 1 ≤ length words = omega (arith, c) in
         unread g (ap whole_by (not_all (length words) op count g a u c d e))
-        (decode-too-long sheet w.state.loop_counter at op (here g) op-at a u count (omega (arith, c, length-drop at sheet)) count_at (omega (arith, e, length-drop at sheet)))
+        (decode-too-long sheet w.state.loop_counter at op (here g) op_at a u count (omega (arith, c, length-drop at sheet)) count_at (omega (arith, e, length-drop at sheet)))
     by_tests (Full a u c d e) ih =
         one_line f sheet origin before b n at (count + 2) w (all (length words) op count (omega (arith, c)) a u c d e)
         (λ v. ih (count + 2) v (omega arith) (omega (arith, e, h, length-drop at sheet)))

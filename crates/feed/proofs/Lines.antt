@@ -67,8 +67,8 @@ module _ (f : Fixed) (sheet : List ℤ) (at : ℕ) (w : World) (k : ℕ) (e : lo
   reaches : at + 2 ≤ length sheet
   reaches = omega (arith, facts.is, facts.there, length-drop at sheet)
 
-  op-at : op ≡ index_of (get_or sheet at (pos 0))
-  op-at = ap index_of (get_or-drop at sheet 0 (pos 0) ∙ ap (λ (i : ℕ). get_or sheet i (pos 0)) (add-zero at))
+  op_at : op ≡ index_of (get_or sheet at (pos 0))
+  op_at = ap index_of (get_or-drop at sheet 0 (pos 0) ∙ ap (λ (i : ℕ). get_or sheet i (pos 0)) (add-zero at))
 
   count_at : count ≡ index_of (get_or sheet (at + 1) (pos 0))
   count_at = ap index_of (get_or-drop at sheet 1 (pos 0))
@@ -76,27 +76,27 @@ module _ (f : Fixed) (sheet : List ℤ) (at : ℕ) (w : World) (k : ℕ) (e : lo
   long : length line ≡ k
   long = length-take-le k words facts.there
 
-  op-in : op ≡ index_of (get_or line 0 (pos 0))
-  op-in = ap index_of (sym (get_or-take k words 0 (pos 0) (omega (arith, facts.is))))
+  op_in : op ≡ index_of (get_or line 0 (pos 0))
+  op_in = ap index_of (sym (get_or-take k words 0 (pos 0) (omega (arith, facts.is))))
 
-  count-in : count ≡ index_of (get_or line 1 (pos 0))
-  count-in = ap index_of (sym (get_or-take k words 1 (pos 0) (omega (arith, facts.is))))
+  count_in : count ≡ index_of (get_or line 1 (pos 0))
+  count_in = ap index_of (sym (get_or-take k words 1 (pos 0) (omega (arith, facts.is))))
 
-  in-line : 0 < length line
-  in-line = omega (arith, long, facts.is)
+  in_line : 0 < length line
+  in_line = omega (arith, long, facts.is)
 
-  line-reaches : 2 ≤ length line
-  line-reaches = omega (arith, long, facts.is)
+  line_reaches : 2 ≤ length line
+  line_reaches = omega (arith, long, facts.is)
 
-  line-room : count ≤ length line - 2
-  line-room = omega (arith, long, facts.is)
+  line_room : count ≤ length line - 2
+  line_room = omega (arith, long, facts.is)
 
   -- the operands are the same words
   abbrev operands : List ℤ
   operands = take count (drop 2 words)
 
-  in-sheet : take (at + 2 + count - (at + 2)) (drop (at + 2) sheet) ≡ operands
-  in-sheet =
+  in_sheet : take (at + 2 + count - (at + 2)) (drop (at + 2) sheet) ≡ operands
+  in_sheet =
       let n : at + 2 + count - (at + 2) ≡ count = omega arith in
       ap (λ (i : ℕ). take i (drop (at + 2) sheet)) n ∙ ap (take count) (sym (drop-drop 2 at sheet))
 
@@ -113,26 +113,26 @@ module _ (f : Fixed) (sheet : List ℤ) (at : ℕ) (w : World) (k : ℕ) (e : lo
   behind : at + 2 + count ≡ at + k
   behind = omega (arith, facts.is)
 
-  local-whole : count ≤ operands_of (row_of op).takes counter → step_of f sheet at w ≡ placed at (at + k) (step_of f line 0 w)
+  local_whole : count ≤ operands_of (row_of op).takes counter → step_of f sheet at w ≡ placed at (at + k) (step_of f line 0 w)
   unfolding step_of on_decoded
-  local-whole g =
-      ap (on_decoded f sheet at w) (whole sheet counter at op here op-at facts.opcode facts.known count reaches count_at room g)
-      ∙ ap (λ (l : List ℤ). landed_in at (at + 2 + count) (line_of f op l w)) in-sheet
+  local_whole g =
+      ap (on_decoded f sheet at w) (whole sheet counter at op here op_at facts.opcode facts.known count reaches count_at room g)
+      ∙ ap (λ (l : List ℤ). landed_in at (at + 2 + count) (line_of f op l w)) in_sheet
       ∙ ap (λ (i : ℕ). landed_in at i (line_of f op operands w)) behind
       ∙ ap (λ (l : List ℤ). landed_in at (at + k) (line_of f op l w)) (sym in_words)
       ∙ sym (ap (λ (r : Went). placed at (at + k) r)
-      (ap (on_decoded f line 0 w) (whole line counter 0 op in-line op-in facts.opcode facts.known count line-reaches count-in line-room g)))
+      (ap (on_decoded f line 0 w) (whole line counter 0 op in_line op_in facts.opcode facts.known count line_reaches count_in line_room g)))
 
-  local-many : operands_of (row_of op).takes counter < count → step_of f sheet at w ≡ placed at (at + k) (step_of f line 0 w)
+  local_many : operands_of (row_of op).takes counter < count → step_of f sheet at w ≡ placed at (at + k) (step_of f line 0 w)
   unfolding step_of on_decoded
-  local-many g =
-      ap (on_decoded f sheet at w) (too_many sheet counter at op here op-at facts.opcode facts.known count reaches count_at room g)
+  local_many g =
+      ap (on_decoded f sheet at w) (too_many sheet counter at op here op_at facts.opcode facts.known count reaches count_at room g)
       ∙ sym (ap (λ (r : Went). placed at (at + k) r)
-      (ap (on_decoded f line 0 w) (too_many line counter 0 op in-line op-in facts.opcode facts.known count line-reaches count-in line-room g)))
+      (ap (on_decoded f line 0 w) (too_many line counter 0 op in_line op_in facts.opcode facts.known count line_reaches count_in line_room g)))
 
   local_by : (t : Bool) → ltb (operands_of (row_of op).takes counter) count ≡ t → step_of f sheet at w ≡ placed at (at + k) (step_of f line 0 w)
-  local_by true t = local-many (ltb-true (operands_of (row_of op).takes counter) count t)
-  local_by false t = local-whole (ltb-false (operands_of (row_of op).takes counter) count t)
+  local_by true t = local_many (ltb-true (operands_of (row_of op).takes counter) count t)
+  local_by false t = local_whole (ltb-false (operands_of (row_of op).takes counter) count t)
 
   pub step_local : step_of f sheet at w ≡ placed at (at + k) (step_of f (take k (drop at sheet)) 0 w)
   step_local = local_by (ltb (operands_of (row_of op).takes counter) count) refl

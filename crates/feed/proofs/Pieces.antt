@@ -45,8 +45,8 @@ module _ (f : Fixed) (base : ℕ) (w : World) (q : List ℤ) (k : ℕ) (fits : k
   abbrev pub first : Feeding
   first = fed_all f (going base 0 [] w) (take k q)
 
-  line-is : look_of q ≡ Whole k → first ≡ after_line (going base 0 (take k q) w) (step_of f (take k q) 0 w)
-  line-is e =
+  line_is : look_of q ≡ Whole k → first ≡ after_line (going base 0 (take k q) w) (step_of f (take k q) 0 w)
+  line_is e =
       let l = take k q in
       let n : length l ≡ k = length-take-le k q fits in
       let whole-l : take k l ≡ l = ap (λ (m : ℕ). take m l) (sym n) ∙ take-length l in
@@ -55,11 +55,11 @@ module _ (f : Fixed) (base : ℕ) (w : World) (q : List ℤ) (k : ℕ) (fits : k
       ∙ ap (λ (x : List ℤ). fed_all f (after_line (going base 0 (take k l) w) (step_of f (take k l) 0 w)) x) none
       ∙ ap (λ (x : List ℤ). after_line (going base 0 x w) (step_of f x 0 w)) whole-l
 
-  done-by : (l : List ℤ) → length l ≡ k → (v : World) (call : Call) → said_is_open (after_call (going base 0 l w) v call).said ≡ true
+  done_by : (l : List ℤ) → length l ≡ k → (v : World) (call : Call) → said_is_open (after_call (going base 0 l w) v call).said ≡ true
       → let g = after_call (going base 0 l w) v call in g ≡ going (base + k) g.lines [] g.world
   unfolding after_call said_is_open
-  done-by l n v Done o = ap (λ (m : ℕ). going (base + m) 1 [] v) n
-  done-by l n v (RefusedCall why) o = absurd (true≢false (sym o))
+  done_by l n v Done o = ap (λ (m : ℕ). going (base + m) 1 [] v) n
+  done_by l n v (RefusedCall why) o = absurd (true≢false (sym o))
 
   -- where the feed goes on, it stands behind them, and nothing waits
   pub done : (k ≡ 0) ⊎ (look_of q ≡ Whole k) → said_is_open first.said ≡ true → first ≡ going (base + k) first.lines [] first.world
@@ -68,9 +68,9 @@ module _ (f : Fixed) (base : ℕ) (w : World) (q : List ℤ) (k : ℕ) (fits : k
       subst (λ (g : Feeding). g ≡ going (base + k) g.lines [] g.world) (sym e) (let b : base ≡ base + k = omega (arith, z) in ap (λ (m : ℕ). going m 0 [] w) b)
   done (inr e) o =
       let r = step_of f (take k q) 0 w in
-      let l = line-is e in
+      let l = line_is e in
       subst (λ (g : Feeding). g ≡ going (base + k) g.lines [] g.world) (sym l)
-      (done-by (take k q) (length-take-le k q fits) r.world r.call (subst (λ (g : Feeding). said_is_open g.said ≡ true) l o))
+      (done_by (take k q) (length-take-le k q fits) r.world r.call (subst (λ (g : Feeding). said_is_open g.said ≡ true) l o))
 
 -- words behind those that wait, cut at a place
 module _ (f : Fixed) (base : ℕ) (w : World) (p words : List ℤ) (k held : ℕ) (n : length p ≡ held) (waiting : waits (look_of p) ≡ true) (above : held ≤ k) (below : k ≤ held + length words) where
@@ -125,35 +125,35 @@ pub record Runs (c : Fed) (words carry carry' line : List ℤ) (k : ℕ) : Type 
 
 pub begins_run : (c : Fed) (words carry carry' line : List ℤ) (b : Begins) {k : ℕ} → FirstIs c words carry carry' line b → b ≡ Run k → Runs c words carry carry' line k
 unfolding FirstIs
-begins_run c words carry carry' line b {k} first-is t =
-    let i : FirstIs c words carry carry' line (Run k) = subst (FirstIs c words carry carry' line) t first-is in
+begins_run c words carry carry' line b {k} first_is t =
+    let i : FirstIs c words carry carry' line (Run k) = subst (FirstIs c words carry carry' line) t first_is in
     record { same = i.0; words_are = i.1; above = i.2; below = i.3; most = i.4; whole = i.5 }
 
 module _ (f : Fixed) (c : Fed) (w : World) (es : w.state ≡ c.state) (words carry carry' line : List ℤ) (there : c.held ≤ length carry) (waiting : waits (look_of (take c.held carry)) ≡ true) where
   pub begins_settled : (b : Begins) {d : Fed} → FirstIs c words carry carry' line b → b ≡ Settled d → left_of d carry' w ≡ handed carry (fed_all f (begun c carry w) words)
   unfolding FirstIs
-  begins_settled b {d} first-is t =
-      let i : FirstIs c words carry carry' line (Settled d) = subst (FirstIs c words carry carry' line) t first-is in
+  begins_settled b {d} first_is t =
+      let i : FirstIs c words carry carry' line (Settled d) = subst (FirstIs c words carry carry' line) t first_is in
       put_away f c.base c.held 0 w words carry there waiting i.1
       (i.0 ∙ ap (λ (s : GraphicsState). rest_by c.base c.held 0 s words carry (look_of (take c.held carry ++ words))) (sym es))
 
   module _ (k : ℕ) (x : Runs c words carry carry' line k) where
-    run-held : length (take c.held carry) ≡ c.held
-    run-held = length-take-le c.held carry there
+    run_held : length (take c.held carry) ≡ c.held
+    run_held = length-take-le c.held carry there
 
     module _ {d : Fed} {carry'' : List ℤ} (v : World) (e : left_of d carry'' v ≡ handed carry' (fed_all f (going (c.base + 0) 0 [] w) (take k line))) where
-      as-begun : left_of d carry'' v ≡ handed carry (fed_all f (going c.base 0 [] w) (take k (take c.held carry ++ words)))
-      as-begun =
+      as_begun : left_of d carry'' v ≡ handed carry (fed_all f (going c.base 0 [] w) (take k (take c.held carry ++ words)))
+      as_begun =
           e ∙ ap (λ (l : List ℤ). handed l (fed_all f (going (c.base + 0) 0 [] w) (take k line))) x.same
           ∙ ap (λ (l : List ℤ). handed carry (fed_all f (going (c.base + 0) 0 [] w) l)) x.words_are
           ∙ ap (λ (n : ℕ). handed carry (fed_all f (going n 0 [] w) (take k (take c.held carry ++ words)))) (add-zero c.base)
 
       pub run_stops : said_is_open d.said ≡ false → left_of d carry'' v ≡ handed carry (fed_all f (begun c carry w) words)
       run_stops o =
-          stopped_there f c.base w (take c.held carry) words carry k c.held run-held waiting x.above x.below x.whole v as-begun o
+          stopped_there f c.base w (take c.held carry) words carry k c.held run_held waiting x.above x.below x.whole v as_begun o
 
       pub run_goes : said_is_open d.said ≡ true → {r : Left}
           → r ≡ handed carry'' (fed_all f (going (c.base + c.held + (k - c.held)) d.lines [] (left_of d carry'' v).world) (drop (k - c.held) words))
           → r ≡ handed carry (fed_all f (begun c carry w) words)
       run_goes o i =
-          went_on f c.base w (take c.held carry) words carry k c.held run-held waiting x.above x.below x.whole v as-begun o i
+          went_on f c.base w (take c.held carry) words carry k c.held run_held waiting x.above x.below x.whole v as_begun o i

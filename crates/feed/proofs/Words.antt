@@ -61,9 +61,9 @@ module _ (f : Fixed) (base lines : ℕ) (w : World) where
   unfolding push_by
   pushed p x l = refl
 
-  push-waits : (p : List ℤ) (x : ℤ) (l : List ℤ) → waits (look_of (p ++ (x ∷ []))) ≡ true
+  push_waits : (p : List ℤ) (x : ℤ) (l : List ℤ) → waits (look_of (p ++ (x ∷ []))) ≡ true
       → fed_all f (going base lines p w) (x ∷ l) ≡ fed_all f (going base lines (p ++ (x ∷ [])) w) l
-  push-waits p x l e =
+  push_waits p x l e =
       pushed p x l ∙ ap (λ (h : Feeding). fed_all f h l) (seen_waits f (going base lines (p ++ (x ∷ [])) w) (look_of (p ++ (x ∷ []))) e)
 
 -- words that are settled stay so with more
@@ -80,7 +80,7 @@ waiting_all f base lines w [] p e = ap (λ (q : List ℤ). going base lines q w)
 waiting_all f base lines w (x ∷ l) p e =
     let a : (p ++ (x ∷ [])) ++ l ≡ p ++ (x ∷ l) = append_assoc p (x ∷ []) l in
     let t : waits (look_of ((p ++ (x ∷ [])) ++ l)) ≡ true = ap (λ (q : List ℤ). waits (look_of q)) a ∙ e in
-    push-waits f base lines w p x l (before (p ++ (x ∷ [])) l t)
+    push_waits f base lines w p x l (before (p ++ (x ∷ [])) l t)
     ∙ waiting_all f base lines w l (p ++ (x ∷ [])) t
     ∙ ap (λ (q : List ℤ). going base lines q w) a
 
@@ -112,7 +112,7 @@ settles_later p x l s held r =
       more = r.more;
       split = ap (λ (q : List ℤ). x ∷ q) r.split;
       ends = λ {k} t. ap length (sym a) ∙ r.ends t;
-      same = λ f base lines w. push-waits f base lines w p x l held ∙ r.same f base lines w
+      same = λ f base lines w. push_waits f base lines w p x l held ∙ r.same f base lines w
           ∙ ap (λ (q : List ℤ). fed_all f (on_seen f (going base lines q w) s) r.more) a;
     }
 

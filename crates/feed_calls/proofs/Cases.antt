@@ -63,18 +63,18 @@ module _
       unfolding open_call_of
       unnamed ruled number says = refusal number says ∙ sym (ap openly ruled) ∙ opened
 
-      not-stated : (rules : Rules) → named ≡ Known rules → is_state words ≡ false → carried carry (refused_call words (refused_feed feed) gx gy gflags tox toy tx ty tflags) ≡ openly named
+      not_stated : (rules : Rules) → named ≡ Known rules → is_state words ≡ false → carried carry (refused_call words (refused_feed feed) gx gy gflags tox toy tx ty tflags) ≡ openly named
       unfolding open_call_of
-      not-stated rules ruled state = rw (ruled, state)
+      not_stated rules ruled state = rw (ruled, state)
 
       pub unstated : (rules : Rules) → named ≡ Known rules → is_state words ≡ false → n ≡ bad_word → feed' ≡ refused_feed feed
           → carried carry (left n words feed' gx gy gflags tox toy tx ty tflags) ≡ called named
-      unstated rules ruled state number says = refusal number says ∙ not-stated rules ruled state ∙ opened
+      unstated rules ruled state number says = refusal number says ∙ not_stated rules ruled state ∙ opened
 
-      as-fed : (rules : Rules) → named ≡ Known rules → is_state words ≡ true
+      as_fed : (rules : Rules) → named ≡ Known rules → is_state words ≡ true
           → handed_on (feed_of (f rules) (fed_of (state_of words) feed) carry piece (world (state_of words) gx gy gflags tox toy tx ty tflags)) ≡ openly named
       unfolding open_call_of
-      as-fed rules ruled state = rw (ruled, state)
+      as_fed rules ruled state = rw (ruled, state)
 
       pub taken :
           (rules : Rules) (s : GraphicsState) (c fed : Fed) (words' : List ℕ) (carry' : List ℤ)
@@ -97,7 +97,7 @@ module _
           (feeds
           ∙ ap (λ (d : Fed). feed_of (f rules) d carry piece (world d.state gx gy gflags tox toy tx ty tflags)) stands
           ∙ ap (λ (t : GraphicsState). feed_of (f rules) (fed_of t feed) carry piece (world t gx gy gflags tox toy tx ty tflags)) reads)
-          ∙ as-fed rules ruled state
+          ∙ as_fed rules ruled state
           ∙ opened
 
 -- ---- the end
@@ -111,14 +111,14 @@ module _ (f : Fixed) (words feed : List ℕ) (carry : List ℤ) (w : GraphicsSta
     unfolding feed_end_call_of
     end_unstated state number says = rw (goes, state) (ap (λ (m : ℕ). told m feed') number ∙ ap (told bad_word) says)
 
-    abbrev toldOf : FeedLeft → Told
-    toldOf d = told (number_of_said d.said) (numbers_of d)
+    abbrev told_of : FeedLeft → Told
+    told_of d = told (number_of_said d.said) (numbers_of d)
 
-    as-ended : is_state words ≡ true → toldOf (end_of f (fed_of (state_of words) feed) carry (w (state_of words))) ≡ feed_end_call_of f words feed carry w
+    as_ended : is_state words ≡ true → told_of (end_of f (fed_of (state_of words) feed) carry (w (state_of words))) ≡ feed_end_call_of f words feed carry w
     unfolding feed_end_call_of
-    as-ended state = rw (goes, state)
+    as_ended state = rw (goes, state)
 
-    pub end-taken :
+    pub end_taken :
         (s : GraphicsState) (c : Fed) (d : FeedLeft)
         → is_state words ≡ true
         → s ≡ state_of words
@@ -127,9 +127,9 @@ module _ (f : Fixed) (words feed : List ℕ) (carry : List ℤ) (w : GraphicsSta
         → n ≡ number_of_said d.said
         → feed' ≡ fed_words (number_of_said d.said) d.base d.lines (detail_of_said d.said) d.held feed
         → told n feed' ≡ feed_end_call_of f words feed carry w
-    end-taken s c d state reads stands ends number says =
+    end_taken s c d state reads stands ends number says =
         ap (λ (m : ℕ). told m feed') number
         ∙ ap (told (number_of_said d.said)) (says ∙ feed_left feed (number_of_said d.said) d.base d.lines (detail_of_said d.said) d.held goes)
-        ∙ ap toldOf
+        ∙ ap told_of
         (ends ∙ ap (λ (e : Fed). end_of f e carry (w e.state)) stands ∙ ap (λ (t : GraphicsState). end_of f (fed_of t feed) carry (w t)) reads)
-        ∙ as-ended state
+        ∙ as_ended state

@@ -58,14 +58,14 @@ module _ (c : Fed) (words carry line : List ℤ) {r : ℕ} {seen : Seen} {whole 
   abbrev q : List ℤ
   q = p ++ words
 
-  held-is : length p ≡ c.held
-  held-is = length-take-le c.held carry there
+  held_is : length p ≡ c.held
+  held_is = length-take-le c.held carry there
 
-  as-all : seen ≡ look_of q
-  as-all = es ∙ ap look_of joined.0 ∙ look_front q
+  as_all : seen ≡ look_of q
+  as_all = es ∙ ap look_of joined.0 ∙ look_front q
 
   pub first_room : most_line ≤ length carry → seen ≡ Waits → c.held + length words ≤ length carry
-  first_room h t = omega (arith, h, waits_short q (sym as-all ∙ t), length-append p words, held-is)
+  first_room h t = omega (arith, h, waits_short q (sym as_all ∙ t), length-append p words, held_is)
 
   pub first_run : 0 < whole → FirstIs c words carry carry line (Run whole)
   unfolding FirstIs
@@ -79,12 +79,12 @@ module _ (c : Fed) (words carry line : List ℤ) {r : ℕ} {seen : Seen} {whole 
       let m : whole ≤ r = omega (arith, i.there, joined.1) in (
         refl,
         sym (take-take whole r line m) ∙ ap (take whole) joined.0 ∙ take-take whole most_line q (omega (arith, i.there, most)),
-        omega (arith, held-is, ends_behind p words (as_waits (look_of p) ∙ waiting) (sym as-all ∙ s)),
-        omega (arith, i.there, fits, length-append p words, held-is),
+        omega (arith, held_is, ends_behind p words (as_waits (look_of p) ∙ waiting) (sym as_all ∙ s)),
+        omega (arith, i.there, fits, length-append p words, held_is),
         omega (arith, i.there, most),
-        inr (sym as-all ∙ s),
+        inr (sym as_all ∙ s),
       )
 
   pub first_settled : {d : Fed} {carry' : List ℤ} → whole ≤ 0 → kept d carry' ≡ rest_by c.base c.held 0 c.state words carry seen → FirstIs c words carry carry' line (Settled d)
   unfolding FirstIs
-  first_settled h e = (e ∙ ap (rest_by c.base c.held 0 c.state words carry) as-all, ap whole_by (sym as-all) ∙ sym ew ∙ omega (arith, h))
+  first_settled h e = (e ∙ ap (rest_by c.base c.held 0 c.state words carry) as_all, ap whole_by (sym as_all) ∙ sym ew ∙ omega (arith, h))

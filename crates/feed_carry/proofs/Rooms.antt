@@ -29,19 +29,19 @@ module _ (base held words : ℕ) (carry : List ℤ) where
       no_beginning b = rw (le-leb most_line (length carry) h, le-leb held (length carry) a, sym b)
 
       module _ (b : true ≡ waits (look_of (take held carry))) where
-        by-words : leb (base + held + words) most_words ≡ carry_has_room base held words carry
+        by_words : leb (base + held + words) most_words ≡ carry_has_room base held words carry
         unfolding carry_has_room
-        by-words = rw (le-leb most_line (length carry) h, le-leb held (length carry) a, sym b)
+        by_words = rw (le-leb most_line (length carry) h, le-leb held (length carry) a, sym b)
 
         pub too_far : most_words < base + held → false ≡ carry_has_room base held words carry
-        too_far d = sym (lt-leb (base + held + words) most_words (omega (arith, d))) ∙ by-words
+        too_far d = sym (lt-leb (base + held + words) most_words (omega (arith, d))) ∙ by_words
 
         by_test : base + held ≤ most_words → (t : Bool) → leb words (most_words - base - held) ≡ t → t ≡ leb (base + held + words) most_words
         by_test d true e = sym (le-leb (base + held + words) most_words (omega (arith, d, leb-true words (most_words - base - held) e)))
         by_test d false e = sym (lt-leb (base + held + words) most_words (omega (arith, d, leb-false words (most_words - base - held) e)))
 
         pub as_left : base + held ≤ most_words → leb words (most_words - base - held) ≡ carry_has_room base held words carry
-        as_left d = by_test d (leb words (most_words - base - held)) refl ∙ by-words
+        as_left d = by_test d (leb words (most_words - base - held)) refl ∙ by_words
 
 -- what a call that has room was asked
 pub record Room (base held words : ℕ) (carry : List ℤ) : Type 0 where

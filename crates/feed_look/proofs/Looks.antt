@@ -137,31 +137,31 @@ whole_is n op count {k} e = whole_by_lem n op count k (tests n op count) e
 
 -- ---- more words: what isn't waited for is settled
 module _ (n m op count count' : ℕ) (more : n ≤ m) (same : 2 ≤ n → count ≡ count') where
-  grown-by : Tests n op count → is_waits (look_by n op count) ≡ false → look_by m op count' ≡ look_by n op count
+  grown_by : Tests n op count → is_waits (look_by n op count) ≡ false → look_by m op count' ≡ look_by n op count
   unfolding is_waits
-  grown-by (Empty h) e = absurd (true≢false (sym (ap is_waits (no_word n op count h)) ∙ e))
-  grown-by (Beyond h a) e = no_opcode m op count' (omega (arith, h, more)) a ∙ sym (no_opcode n op count h a)
-  grown-by (Strange h a b) e = not_known m op count' (omega (arith, h, more)) a b ∙ sym (not_known n op count h a b)
-  grown-by (Single h a b c) e = absurd (true≢false (sym (ap is_waits (no_count n op count h a b c)) ∙ e))
-  grown-by (Longer a b c d) e =
+  grown_by (Empty h) e = absurd (true≢false (sym (ap is_waits (no_word n op count h)) ∙ e))
+  grown_by (Beyond h a) e = no_opcode m op count' (omega (arith, h, more)) a ∙ sym (no_opcode n op count h a)
+  grown_by (Strange h a b) e = not_known m op count' (omega (arith, h, more)) a b ∙ sym (not_known n op count h a b)
+  grown_by (Single h a b c) e = absurd (true≢false (sym (ap is_waits (no_count n op count h a b c)) ∙ e))
+  grown_by (Longer a b c d) e =
       ap (look_by m op) (sym (same c)) ∙ too_long m op count (omega (arith, c, more)) a b (omega (arith, c, more)) d
       ∙ sym (too_long n op count (omega (arith, c)) a b c d)
-  grown-by (Short a b c d f) e = absurd (true≢false (sym (ap is_waits (not_all n op count (omega (arith, c)) a b c d f)) ∙ e))
-  grown-by (Full a b c d f) e =
+  grown_by (Short a b c d f) e = absurd (true≢false (sym (ap is_waits (not_all n op count (omega (arith, c)) a b c d f)) ∙ e))
+  grown_by (Full a b c d f) e =
       ap (look_by m op) (sym (same c)) ∙ all m op count (omega (arith, c, more)) a b (omega (arith, c, more)) d (omega (arith, f, more))
       ∙ sym (all n op count (omega (arith, c)) a b c d f)
 
 -- ---- words that wait, and one more: a line that is whole then ends with it
 module _ (n op count count' : ℕ) (same : 2 ≤ n → count ≡ count') where
-  waited-by : Tests n op count → {k : ℕ} → is_waits (look_by n op count) ≡ true → IsWhole (suc n) op count' k → n < k
+  waited_by : Tests n op count → {k : ℕ} → is_waits (look_by n op count) ≡ true → IsWhole (suc n) op count' k → n < k
   unfolding is_waits
-  waited-by (Empty h) e w = omega (arith, h, w.is)
-  waited-by (Beyond h a) e w = absurd (true≢false (sym e ∙ ap is_waits (no_opcode n op count h a)))
-  waited-by (Strange h a b) e w = absurd (true≢false (sym e ∙ ap is_waits (not_known n op count h a b)))
-  waited-by (Single h a b c) e w = omega (arith, c, w.is)
-  waited-by (Longer a b c d) e w = absurd (true≢false (sym e ∙ ap is_waits (too_long n op count (omega (arith, c)) a b c d) ∙ long_not_waits count))
-  waited-by (Short a b c d f) e w = omega (arith, f, same c, w.is)
-  waited-by (Full a b c d f) e w = absurd (true≢false (sym e ∙ ap is_waits (all n op count (omega (arith, c)) a b c d f)))
+  waited_by (Empty h) e w = omega (arith, h, w.is)
+  waited_by (Beyond h a) e w = absurd (true≢false (sym e ∙ ap is_waits (no_opcode n op count h a)))
+  waited_by (Strange h a b) e w = absurd (true≢false (sym e ∙ ap is_waits (not_known n op count h a b)))
+  waited_by (Single h a b c) e w = omega (arith, c, w.is)
+  waited_by (Longer a b c d) e w = absurd (true≢false (sym e ∙ ap is_waits (too_long n op count (omega (arith, c)) a b c d) ∙ long_not_waits count))
+  waited_by (Short a b c d f) e w = omega (arith, f, same c, w.is)
+  waited_by (Full a b c d f) e w = absurd (true≢false (sym e ∙ ap is_waits (all n op count (omega (arith, c)) a b c d f)))
 
 -- ---- words that wait are fewer than a line's most
 few_by : (n op count : ℕ) → Tests n op count → is_waits (look_by n op count) ≡ true → n < most_line
@@ -182,7 +182,7 @@ pub grown : (q l : List ℤ) → is_waits (look_of q) ≡ false → look_of (q +
 unfolding is_waits
 grown [] l e = absurd (true≢false (sym (ap is_waits (no_word 0 _ _ (omega arith))) ∙ e))
 grown (x ∷ q) l e =
-    grown-by (length (x ∷ q)) (length (x ∷ q ++ l)) (index_of x) _ _ (omega (arith, length-append q l))
+    grown_by (length (x ∷ q)) (length (x ∷ q ++ l)) (index_of x) _ _ (omega (arith, length-append q l))
     (λ h. ap index_of (sym (get_or-append (x ∷ q) l (pos 0) 1 h))) (tests (length (x ∷ q)) (index_of x) (index_of (get_or (x ∷ q) 1 (pos 0)))) e
 
 pub waited : (p : List ℤ) (x : ℤ) {k : ℕ} → is_waits (look_of p) ≡ true → look_of (p ++ (x ∷ [])) ≡ Whole k → k ≡ suc (length p)
@@ -191,7 +191,7 @@ waited (y ∷ p) x {k} e w =
     let n : length (y ∷ p ++ (x ∷ [])) ≡ suc (length (y ∷ p)) = ap suc (length-append p (x ∷ []) ∙ add-one (length p)) in
     let c = index_of (get_or (y ∷ p ++ (x ∷ [])) 1 (pos 0)) in
     let i : IsWhole (suc (length (y ∷ p))) (index_of y) c k = subst (λ (m : ℕ). IsWhole m (index_of y) c k) n (whole_is (length (y ∷ p ++ (x ∷ []))) (index_of y) c w) in
-    let h = waited-by (length (y ∷ p)) (index_of y) _ c (λ h. ap index_of (sym (get_or-append (y ∷ p) (x ∷ []) (pos 0) 1 h))) (tests (length (y ∷ p)) (index_of y) (index_of (get_or (y ∷ p) 1 (pos 0)))) e i in
+    let h = waited_by (length (y ∷ p)) (index_of y) _ c (λ h. ap index_of (sym (get_or-append (y ∷ p) (x ∷ []) (pos 0) 1 h))) (tests (length (y ∷ p)) (index_of y) (index_of (get_or (y ∷ p) 1 (pos 0)))) e i in
     omega (arith, h, i.there)
 
 -- ---- the two words as they were read

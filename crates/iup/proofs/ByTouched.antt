@@ -59,22 +59,22 @@ abbrev reach : List Point → ℕ
 reach ps = up_to_last (touch_of ps)
 
 -- p stands in front of ps, and is touched; a point of ps is touched or not, and others are behind it or not
-last-by :
+last_by :
     (other : Place) (p q : Point) (ps : List Point) (t : Bool) (k : ℕ) →
     q.touched ≡ t →
     reach ps ≡ k →
     ((x : Point) → last_of x.place (touched_places ps) ≡ head_place other (drop (reach ps) (x ∷ ps))) →
     last_of p.place (touched_places (q ∷ ps)) ≡ head_place other (drop (reach (q ∷ ps)) (p ∷ (q ∷ ps)))
 unfolding touched_places
-last-by other p q ps true zero t r f = let g = f q in rw (t, r) (rw r at g)
-last-by other p q ps true (suc k) t r f = let g = f q in rw (t, r) (rw r at g)
-last-by other p q ps false zero t r f = let g = f p in rw (t, r) (rw r at g)
-last-by other p q ps false (suc k) t r f = let g = f p in rw (t, r) (rw r at g)
+last_by other p q ps true zero t r f = let g = f q in rw (t, r) (rw r at g)
+last_by other p q ps true (suc k) t r f = let g = f q in rw (t, r) (rw r at g)
+last_by other p q ps false zero t r f = let g = f p in rw (t, r) (rw r at g)
+last_by other p q ps false (suc k) t r f = let g = f p in rw (t, r) (rw r at g)
 
 last_is : (other : Place) (ps : List Point) (p : Point) → last_of p.place (touched_places ps) ≡ head_place other (drop (reach ps) (p ∷ ps))
 unfolding touched_places
 last_is other [] p = refl
-last_is other (q ∷ ps) p = last-by other p q ps q.touched (reach ps) refl refl (last_is other ps)
+last_is other (q ∷ ps) p = last_by other p q ps q.touched (reach ps) refl refl (last_is other ps)
 
 clear_by : (p : Point) (ps : List Point) (t : Bool) (k : ℕ) → p.touched ≡ t → reach ps ≡ k → reach (p ∷ ps) ≡ 0 → (reach ps ≡ 0 → touched_places ps ≡ []) → touched_places (p ∷ ps) ≡ []
 unfolding touched_places
@@ -128,41 +128,41 @@ module _ {mask : ℕ} {fs : List ℕ} {us os cs : List ℤ} {ps : List Point} (s
     place_is : (i : ℕ) (other : Place) → place_at us os cs i other ≡ head_place other (drop i ps)
     place_is i other = ap₂ (λ (x y : List ℤ). place_at x y cs i other) s.unscaled s.original ∙ read_place ps cs i other (same_at i) s.size
 
-    first-is : first ≡ p.place
-    first-is = q ∙ place_is at first ∙ ap (head_place first) e
+    first_is : first ≡ p.place
+    first_is = q ∙ place_is at first ∙ ap (head_place first) e
 
-    behind-is : drop (at + 1) ps ≡ qs
-    behind-is = sym (drop-drop 1 at ps) ∙ ap (drop 1) e
+    behind_is : drop (at + 1) ps ≡ qs
+    behind_is = sym (drop-drop 1 at ps) ∙ ap (drop 1) e
 
-    touched-are : touched_places ps ≡ p.place ∷ touched_places qs
-    touched-are = touched_cut ps ∙ ap (λ (i : ℕ). from_touched (drop i ps)) (sym is_front) ∙ ap from_touched e
+    touched_are : touched_places ps ≡ p.place ∷ touched_places qs
+    touched_are = touched_cut ps ∙ ap (λ (i : ℕ). from_touched (drop i ps)) (sym is_front) ∙ ap from_touched e
 
-    more-is : more ≡ reach qs
-    more-is =
+    more_is : more ≡ reach qs
+    more_is =
         m
         ∙ ap (λ (l : List ℕ). up_to_last (marks mask l)) (take_all (length fs - (at + 1)) (drop (at + 1) fs) (omega (arith, length-drop (at + 1) fs)))
-        ∙ ap up_to_last (sym (map_drop (λ f. has_any f mask) (at + 1) fs) ∙ ap (drop (at + 1)) s.flags ∙ map_drop (λ x. x.touched) (at + 1) ps ∙ ap touch_of behind-is)
+        ∙ ap up_to_last (sym (map_drop (λ f. has_any f mask) (at + 1) fs) ∙ ap (drop (at + 1)) s.flags ∙ map_drop (λ x. x.touched) (at + 1) ps ∙ ap touch_of behind_is)
 
     -- more than one
-    several-of : {last : Place} → (more ≡ 0 → ⊥) → last ≡ place_at us os cs (at + more) first → spread last first ps ≡ contour_of ps
+    several_of : {last : Place} → (more ≡ 0 → ⊥) → last ≡ place_at us os cs (at + more) first → spread last first ps ≡ contour_of ps
     unfolding contour_of
-    several-of {last} h z =
+    several_of {last} h z =
         let l : last ≡ last_of p.place (touched_places qs) =
         z
         ∙ place_is (at + more) first
-        ∙ ap (head_place first) (sym (drop-drop more at ps) ∙ ap₂ (λ (i : ℕ) (x : List Point). drop i x) more-is e)
+        ∙ ap (head_place first) (sym (drop-drop more at ps) ∙ ap₂ (λ (i : ℕ) (x : List Point). drop i x) more_is e)
         ∙ sym (last_is first qs p) in
-        ap₂ (λ (x y : Place). spread x y ps) l first-is
-        ∙ sym (more_by ps p.place (touched_places qs) (λ g. h (more-is ∙ unreached qs g)))
-        ∙ ap (by_touched ps) (sym touched-are)
+        ap₂ (λ (x y : Place). spread x y ps) l first_is
+        ∙ sym (more_by ps p.place (touched_places qs) (λ g. h (more_is ∙ unreached qs g)))
+        ∙ ap (by_touched ps) (sym touched_are)
 
     -- exactly one
     module _ {d : ℤ} (z : d ≡ offset first) (h : more ≡ 0) where
       abbrev xs : List ℤ
       xs = shift_all d (current_of (take at ps))
 
-      size-xs : length xs ≡ at
-      size-xs =
+      size_xs : length xs ≡ at
+      size_xs =
           length-map (current_of (take at ps)) (λ x. add32 x d)
           ∙ length-map (take at ps) (λ x. x.place.current)
           ∙ length-take-le at ps (omega (arith, front_le ps, is_front))
@@ -172,13 +172,13 @@ module _ {mask : ℕ} {fs : List ℕ} {us os cs : List ℤ} {ps : List Point} (s
       whole_is =
           let t : p.touched ≡ true = hit ps p qs (ap (λ (i : ℕ). drop i ps) (sym is_front) ∙ e) in
           let y : shifted_by d p ≡ p.place.current = rw t in
-          ap (by_touched ps) (touched-are ∙ ap (λ (l : List Place). p.place ∷ l) (clear qs (sym more-is ∙ h)))
-          ∙ ap (λ (x : ℤ). map (shifted_by x) ps) (sym (z ∙ ap offset first-is))
+          ap (by_touched ps) (touched_are ∙ ap (λ (l : List Place). p.place ∷ l) (clear qs (sym more_is ∙ h)))
+          ∙ ap (λ (x : ℤ). map (shifted_by x) ps) (sym (z ∙ ap offset first_is))
           ∙ ap (map (shifted_by d)) (sym (take-append-drop at ps) ∙ ap (λ (l : List Point). take at ps ++ l) e)
           ∙ map-append (shifted_by d) (take at ps) (p ∷ qs)
           ∙ ap₂ (λ (a b : List ℤ). a ++ b)
           (shift_clear d (take at ps) (ap (λ (i : ℕ). touched_places (take i ps)) is_front ∙ front_clear ps))
-          (ap₂ (λ (x : ℤ) (l : List ℤ). x ∷ l) y (shift_clear d qs (clear qs (sym more-is ∙ h))))
+          (ap₂ (λ (x : ℤ) (l : List ℤ). x ∷ l) y (shift_clear d qs (clear qs (sym more_is ∙ h))))
 
       one_of :
           {l l' : List ℤ} →
@@ -189,8 +189,8 @@ module _ {mask : ℕ} {fs : List ℕ} {us os cs : List ℤ} {ps : List Point} (s
           let w : l ≡ xs ++ (p.place.current ∷ current_of qs) =
           f
           ∙ ap₂ (λ (a b : List ℤ). shift_all d a ++ b) (ap (take at) s.current ∙ map_take (λ x. x.place.current) at ps) (same_at at ∙ ap current_of e) in
-          let a : take (at + 1) l ≡ xs ++ (p.place.current ∷ []) = ap₂ (λ (i : ℕ) (x : List ℤ). take (i + 1) x) (sym size-xs) w ∙ take-append-add xs (p.place.current ∷ current_of qs) 1 in
-          let b : drop (at + 1) l ≡ current_of qs = ap₂ (λ (i : ℕ) (x : List ℤ). drop (i + 1) x) (sym size-xs) w ∙ drop-append-add xs (p.place.current ∷ current_of qs) 1 in
+          let a : take (at + 1) l ≡ xs ++ (p.place.current ∷ []) = ap₂ (λ (i : ℕ) (x : List ℤ). take (i + 1) x) (sym size_xs) w ∙ take-append-add xs (p.place.current ∷ current_of qs) 1 in
+          let b : drop (at + 1) l ≡ current_of qs = ap₂ (λ (i : ℕ) (x : List ℤ). drop (i + 1) x) (sym size_xs) w ∙ drop-append-add xs (p.place.current ∷ current_of qs) 1 in
           g
           ∙ to_end (shift_all d) (at + 1) l
           ∙ ap₂ (λ (x y : List ℤ). x ++ shift_all d y) a b
@@ -205,7 +205,7 @@ module _ {mask : ℕ} {fs : List ℕ} {us os cs : List ℤ} {ps : List Point} (s
     cut = drop-cons ps at dummy (omega (arith, sizes s))
 
     pub several : {last : Place} → (more ≡ 0 → ⊥) → last ≡ place_at us os cs (at + more) first → spread last first ps ≡ contour_of ps
-    several = several-of q m (get_or ps at dummy) (drop (suc at) ps) cut
+    several = several_of q m (get_or ps at dummy) (drop (suc at) ps) cut
 
     pub one :
         {d : ℤ} {l l' : List ℤ} →

@@ -135,14 +135,14 @@ module _ {first : Place} {ps : List Point} {r l : List ℤ} {before : Place} {at
   abbrev ys : List ℤ
   ys = go_between before (head_or first (touched_places qs)) (take k qs)
 
-  size-xs : length xs ≡ at
-  size-xs = length-take-le at l (omega (arith, v.size))
+  size_xs : length xs ≡ at
+  size_xs = length-take-le at l (omega (arith, v.size))
 
-  size-ys : length ys ≡ k
-  size-ys = length-map (take k qs) (λ p. between before (head_or first (touched_places qs)) p.place) ∙ length-take-le k qs (front_le qs)
+  size_ys : length ys ≡ k
+  size_ys = length-map (take k qs) (λ p. between before (head_or first (touched_places qs)) p.place) ∙ length-take-le k qs (front_le qs)
 
-  size-front : length (xs ++ ys) ≡ at + k
-  size-front = length-append xs ys ∙ omega (arith, size-xs, size-ys)
+  size_front : length (xs ++ ys) ≡ at + k
+  size_front = length-append xs ys ∙ omega (arith, size_xs, size_ys)
 
   behind : drop (at + k) l ≡ current_of (drop k qs)
   behind = sym (drop-drop k at l) ∙ ap (drop k) v.same ∙ map_drop (λ p. p.place.current) k qs
@@ -154,8 +154,8 @@ module _ {first : Place} {ps : List Point} {r l : List ℤ} {before : Place} {at
   step {l'} e g =
       let ds : List Point = drop k qs in
       let w : l' ≡ (xs ++ ys) ++ current_of ds = e ∙ sym (append_assoc xs ys (drop (at + k) l)) ∙ ap (λ (z : List ℤ). (xs ++ ys) ++ z) behind in
-      let t : take (at + k + 1) l' ≡ (xs ++ ys) ++ take 1 (current_of ds) = ap₂ (λ (n : ℕ) (z : List ℤ). take (n + 1) z) (sym size-front) w ∙ take-append-add (xs ++ ys) (current_of ds) 1 in
-      let d : drop (at + k + 1) l' ≡ drop 1 (current_of ds) = ap₂ (λ (n : ℕ) (z : List ℤ). drop (n + 1) z) (sym size-front) w ∙ drop-append-add (xs ++ ys) (current_of ds) 1 in
+      let t : take (at + k + 1) l' ≡ (xs ++ ys) ++ take 1 (current_of ds) = ap₂ (λ (n : ℕ) (z : List ℤ). take (n + 1) z) (sym size_front) w ∙ take-append-add (xs ++ ys) (current_of ds) 1 in
+      let d : drop (at + k + 1) l' ≡ drop 1 (current_of ds) = ap₂ (λ (n : ℕ) (z : List ℤ). drop (n + 1) z) (sym size_front) w ∙ drop-append-add (xs ++ ys) (current_of ds) 1 in
       let p : drop (at + k + 1) ps ≡ drop 1 ds = sym (drop-drop 1 (at + k) ps) ∙ ap (drop 1) (sym (drop-drop k at ps)) in
       record {
         done =

@@ -55,8 +55,8 @@ module _ (mask : ℕ) (fs : List ℕ) (us os cs : List ℤ) (a : length us ≡ l
   s = (shown mask fs us os cs a b c).current
 
   -- the points of the parts are the part of the points
-  part-is : (m : ℕ) → points_of mask (take m (drop at fs)) (take m (drop at us)) (take m (drop at os)) (take m (drop at l)) ≡ take m (drop at ps)
-  part-is m =
+  part_is : (m : ℕ) → points_of mask (take m (drop at fs)) (take m (drop at us)) (take m (drop at os)) (take m (drop at l)) ≡ take m (drop at ps)
+  part_is m =
       ap (λ (x : List ℤ). points_of mask (take m (drop at fs)) (take m (drop at us)) (take m (drop at os)) (take m x)) (v.same ∙ sym (ap (drop at) s ∙ map_drop (λ x. x.place.current) at ps))
       ∙ points_take mask m (drop at fs) (drop at us) (drop at os) (drop at cs)
       ∙ ap (take m) (points_drop mask at fs us os cs a b c)
@@ -70,7 +70,7 @@ module _ (mask : ℕ) (fs : List ℕ) (us os cs : List ℤ) (a : length us ≡ l
       Walking es ps (put_mid at (e - at) l ys) e (k + 1)
   over {e} {ys} h q y z =
       let (g, w, r) = next_part v h q in
-      let y' : ys ≡ contour_of (take (e - at) (drop at ps)) = y ∙ ap contour_of (part-is (e - at)) in
+      let y' : ys ≡ contour_of (take (e - at) (drop at ps)) = y ∙ ap contour_of (part_is (e - at)) in
       let m : length ys ≡ e - at = z ∙ mid_len at e l w in
       let n : length (take at l ++ ys) ≡ e = length-append (take at l) ys ∙ omega (arith, length-take-le at l (omega (arith, g, w)), m, g) in
       let d : drop (e - at) (drop at ps) ≡ drop e ps = Post-is at e ps (omega (arith, g)) in

@@ -34,9 +34,9 @@ module _ (a : Axis) (f g : Fixed) (sheet : List ℤ) (ef : fixed_seen a f ≡ fi
       → SameAlong a (ends answer n place w) (ends answer n place' v)
   same_ends answer n place place' w v ep ew = record { answer = refl; place = ep; lines = refl; worlds = ew }
 
-  same-by-test : (t : Bool) (r r' s s' : Ran) → (t ≡ true → SameAlong a r s) → SameAlong a r' s' → SameAlong a (cond t r r') (cond t s s')
-  same-by-test true r r' s s' p q = p refl
-  same-by-test false r r' s s' p q = q
+  same_by_test : (t : Bool) (r r' s s' : Ran) → (t ≡ true → SameAlong a r s) → SameAlong a r' s' → SameAlong a (cond t r r') (cond t s s')
+  same_by_test true r r' s s' p q = p refl
+  same_by_test false r r' s s' p q = q
 
   -- the rest of two runs, after a line that said the same
   after : (b n : ℕ) → ((at : ℕ) (w v : World) → world_seen a w ≡ world_seen a v → Straight a w.state → none (mixes a) (reached_from f sheet b at w) ≡ true
@@ -71,9 +71,9 @@ module _ (a : Axis) (f g : Fixed) (sheet : List ℤ) (ef : fixed_seen a f ≡ fi
       → SameAlong a (replay_of f sheet b n at w) (replay_of g sheet b n at v)
   unfolding replay_of reached_from
   replays_apart zero n at w v ew e free =
-      same-by-test (ltb at (length sheet)) _ _ _ _ (λ _. same_ends OutOfBudget n at at w v refl ew) (same_ends Finished n at at w v refl ew)
+      same_by_test (ltb at (length sheet)) _ _ _ _ (λ _. same_ends OutOfBudget n at at w v refl ew) (same_ends Finished n at at w v refl ew)
   replays_apart (suc b) n at w v ew e free =
-      same-by-test (ltb at (length sheet)) _ _ _ _
+      same_by_test (ltb at (length sheet)) _ _ _ _
       (λ here. turn b n at w v (λ p x y. replays_apart b (suc n) p x y) ew e (free_here (mixes a) (ltb at (length sheet)) _ _ here free))
       (same_ends Finished n at at w v refl ew)
 

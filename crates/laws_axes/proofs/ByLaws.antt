@@ -28,8 +28,8 @@ pub measure_alike : SameVertically (run_of (glyph Y here) measuring 5 0 (begun Y
 measure_alike =
     vertical_runs_agree (glyph Y here) (glyph Y there) measuring 5 0 (begun Y here) (begun Y there) differ_in_x refl (ap (none (mixes Y)) (reaches_measuring Y))
 
-pub stays-across :
+pub stays_across :
     ((run_of (held here heights) rising 2 0 marked).world.gx ≡ here)
     × (map (bit 1) (run_of (held here heights) rising 2 0 marked).world.gflags ≡ 1 ∷ 0 ∷ 1 ∷ 0 ∷ 0 ∷ [])
-stays-across =
+stays_across =
     vertical_run_still (held here heights) rising 2 0 marked refl (ap (none (mixes Y)) reaches_rising) (ap (none (interpolates_across Y)) reaches_rising)

@@ -55,15 +55,15 @@ abbrev fetched_at : Fixed → World → ZonePointer → ℕ → Fetched
 fetched_at f w zone at = fetch_in at f.gox f.goy w.tox w.toy zone
 
 module _ (a : Axis) (f : Fixed) {v w : World} (e : Alike a v w) where
-  fetched-alike : (zone : ZonePointer) (at : ℕ) → fetched_seen a (fetched_at (fixed_seen a f) v zone at) ≡ fetched_seen a (fetched_at f w zone at)
+  fetched_alike : (zone : ZonePointer) (at : ℕ) → fetched_seen a (fetched_at (fixed_seen a f) v zone at) ≡ fetched_seen a (fetched_at f w zone at)
   unfolding fetch_in
-  fetched-alike Glyph at = ap (fetched_seen a) (fetch_seen a f.gox f.goy at) ∙ fetched_again a (fetch_of f.gox f.goy at)
-  fetched-alike Twilight at = sym (fetch_seen a v.tox v.toy at) ∙ ap (λ (u : World). fetch_in at u.gx u.gy u.tox u.toy Twilight) e.seen ∙ fetch_seen a w.tox w.toy at
+  fetched_alike Glyph at = ap (fetched_seen a) (fetch_seen a f.gox f.goy at) ∙ fetched_again a (fetch_of f.gox f.goy at)
+  fetched_alike Twilight at = sym (fetch_seen a v.tox v.toy at) ∙ ap (λ (u : World). fetch_in at u.gx u.gy u.tox u.toy Twilight) e.seen ∙ fetch_seen a w.tox w.toy at
 
   pub original_seen : (zone : ZonePointer) (at : ℕ) (out out' : Refusal → Lined) (rest rest' : Vector → Lined) → ((why : Refusal) → Same a (out why) (out' why))
       → ((p q : Vector) → place_seen a p ≡ place_seen a q → Same a (rest p) (rest' q)) → Same a (original_or (fixed_seen a f) zone at v out rest) (original_or f zone at w out' rest')
   unfolding original_or
-  original_seen zone at out out' rest rest' o h = by_fetched_seen a out out' rest rest' o h (fetched_at (fixed_seen a f) v zone at) (fetched_at f w zone at) (fetched-alike zone at)
+  original_seen zone at out out' rest rest' o h = by_fetched_seen a out out' rest rest' o h (fetched_at (fixed_seen a f) v zone at) (fetched_at f w zone at) (fetched_alike zone at)
 
   pub originals_seen : (u : Vectors) → u ≡ all_along (unit_of a) → (p : ZonePointer) (i : ℕ) (q : ZonePointer) (j : ℕ)
       → originals_apart u.dual p i q j (x_seen a f.gox) (y_seen a f.goy) v.tox v.toy ≡ originals_apart u.dual p i q j f.gox f.goy w.tox w.toy
@@ -83,12 +83,12 @@ module _ (a : Axis) (w : World) where
   same : Alike a (world_seen a w) w
   same = world_again a w
 
-  pushes-seen : (d d' : ℤ) → d ≡ d' → Same a (pushes d (world_seen a w)) (pushes d' w)
-  pushes-seen d d' e = ap (λ (value : ℤ). lined_seen a (pushes value (world_seen a w))) e ∙ ap (pushes d') same.seen
+  pushes_seen : (d d' : ℤ) → d ≡ d' → Same a (pushes d (world_seen a w)) (pushes d' w)
+  pushes_seen d d' e = ap (λ (value : ℤ). lined_seen a (pushes value (world_seen a w))) e ∙ ap (pushes d') same.seen
 
   zero_seen : (why : Refusal) → Same a (zero_or (world_seen a w) why) (zero_or w why)
   unfolding zero_or
-  zero_seen why = seen_by_test (lined_seen a) w.state.facts.pedantic (refused_seen a same why) (pushes-seen (pos 0) (pos 0) refl)
+  zero_seen why = seen_by_test (lined_seen a) w.state.facts.pedantic (refused_seen a same why) (pushes_seen (pos 0) (pos 0) refl)
 
 pub gc_seen : (a : Axis) → LineSeen a gc_of
 unfolding gc_of
@@ -98,20 +98,20 @@ gc_seen a f op operands w straight =
     one_seen a (same a w) operands _ _ λ point.
     let at = index_of point in
     seen_by_test (lined_seen a) (is_odd op)
-    (original_seen a f (same a w) zone at _ _ _ _ (zero_seen a w) λ p q h. pushes-seen a w _ _ (dual_alike a s.vectors straight p q origin origin h refl))
-    (point_seen a _ _ _ _ (zero_seen a w) (λ p q h. pushes-seen a w _ _ (from_origin_seen a s.vectors straight p q h)) zone at (same a w))
+    (original_seen a f (same a w) zone at _ _ _ _ (zero_seen a w) λ p q h. pushes_seen a w _ _ (dual_alike a s.vectors straight p q origin origin h refl))
+    (point_seen a _ _ _ _ (zero_seen a w) (λ p q h. pushes_seen a w _ _ (from_origin_seen a s.vectors straight p q h)) zone at (same a w))
 
 md_original_seen : (a : Axis) (f : Fixed) (w : World) → Straight a w.state → (i j : ℕ) → Same a (md_original (fixed_seen a f) i j (world_seen a w)) (md_original f i j w)
 unfolding md_original
 md_original_seen a f w straight i j =
     let p = w.state.pointers.zp0 in
     let q = w.state.pointers.zp1 in
-    let measured = pushes-seen a w _ _ (outline_seen a f w straight p i q j) in
+    let measured = pushes_seen a w _ _ (outline_seen a f w straight p i q j) in
     let pedantic = w.state.facts.pedantic in
     seen_by_test (lined_seen a) (is_twilight p || is_twilight q)
     (original_seen a f (same a w) p i _ _ _ _ (zero_seen a w) λ _ _ _. original_seen a f (same a w) q j _ _ _ _ (zero_seen a w) λ _ _ _. measured)
     (ap (λ (n : ℕ). lined_seen a (cond (pedantic || (ltb i n && ltb j n)) (pushes (outline_in (fixed_seen a f) (world_seen a w) p i q j) (world_seen a w)) (pushes (pos 0) (world_seen a w)))) (x_length a f.gux)
-    ∙ seen_by_test (lined_seen a) (pedantic || (ltb i (length f.gux) && ltb j (length f.gux))) measured (pushes-seen a w (pos 0) (pos 0) refl))
+    ∙ seen_by_test (lined_seen a) (pedantic || (ltb i (length f.gux) && ltb j (length f.gux))) measured (pushes_seen a w (pos 0) (pos 0) refl))
 
 pub md_seen : (a : Axis) → LineSeen a md_of
 unfolding md_of
@@ -120,7 +120,7 @@ md_seen a f op operands w straight =
     two_seen a (same a w) operands _ _ λ from to.
     seen_by_test (lined_seen a) (is_odd op)
     (point_seen a _ _ _ _ (zero_seen a w)
-    (λ p q h. point_seen a _ _ _ _ (zero_seen a w) (λ r t k. pushes-seen a w _ _ (project_alike a s.vectors straight p q r t h k)) s.pointers.zp1 (index_of from) (same a w))
+    (λ p q h. point_seen a _ _ _ _ (zero_seen a w) (λ r t k. pushes_seen a w _ _ (project_alike a s.vectors straight p q r t h k)) s.pointers.zp1 (index_of from) (same a w))
     s.pointers.zp0 (index_of to) (same a w))
     (md_original_seen a f w straight (index_of to) (index_of from))
 
@@ -188,29 +188,29 @@ made_by_seen a f freedom control zp0 rp0 at zone w =
 
 -- what MIRP does with its control value
 module _ (a : Axis) (f : Fixed) (op at : ℕ) (w : World) (straight : Straight a w.state) (control : ℤ) where
-  abbrev madeFor : Fixed → World → World
-  madeFor g v = let s = v.state in
+  abbrev made_for : Fixed → World → World
+  made_for g v = let s = v.state in
       made_in at (mirp_place s.vectors.freedom control (original_at g v s.pointers.zp0 s.references.rp0)) v s.pointers.zp1
 
-  abbrev apartFor : Fixed → World → ℤ
-  apartFor g v = let s = v.state in
-      originals_apart s.vectors.dual s.pointers.zp1 at s.pointers.zp0 s.references.rp0 g.gox g.goy (madeFor g v).tox (madeFor g v).toy
+  abbrev apart_for : Fixed → World → ℤ
+  apart_for g v = let s = v.state in
+      originals_apart s.vectors.dual s.pointers.zp1 at s.pointers.zp0 s.references.rp0 g.gox g.goy (made_for g v).tox (made_for g v).toy
 
   by_control : Fixed → World → Lined
   by_control g v = let s = v.state in
-      brought s.vectors (sets_rp0 op) (mirp_distance op (same_zone s.pointers.zp0 s.pointers.zp1) s.facts.native_clear_type_x s.round s.measures control) s.pointers.zp1 at s.pointers.zp0 s.references.rp0 (refused_in (madeFor g v)) (apartFor g v) (madeFor g v)
+      brought s.vectors (sets_rp0 op) (mirp_distance op (same_zone s.pointers.zp0 s.pointers.zp1) s.facts.native_clear_type_x s.round s.measures control) s.pointers.zp1 at s.pointers.zp0 s.references.rp0 (refused_in (made_for g v)) (apart_for g v) (made_for g v)
 
-  by-control-seen : Same a (by_control (fixed_seen a f) (world_seen a w)) (by_control f w)
+  by_control_seen : Same a (by_control (fixed_seen a f) (world_seen a w)) (by_control f w)
   unfolding by_control
-  by-control-seen =
+  by_control_seen =
       let s = w.state in
       let zp0 = s.pointers.zp0 in
       let zp1 = s.pointers.zp1 in
       let rp0 = s.references.rp0 in
       let alike = made_by_seen a f s.vectors.freedom control zp0 rp0 at zp1 w in
       brought_seen a s.vectors straight (sets_rp0 op) (mirp_distance op (same_zone zp0 zp1) s.facts.native_clear_type_x s.round s.measures control) zp1 at zp0 rp0
-      (refused_in (madeFor (fixed_seen a f) (world_seen a w))) (refused_in (madeFor f w)) (refused_seen a alike)
-      (apartFor (fixed_seen a f) (world_seen a w)) (apartFor f w)
+      (refused_in (made_for (fixed_seen a f) (world_seen a w))) (refused_in (made_for f w)) (refused_seen a alike)
+      (apart_for (fixed_seen a f) (world_seen a w)) (apart_for f w)
       (originals_seen a f alike s.vectors straight zp1 at zp0 rp0)
       alike
 
@@ -225,5 +225,5 @@ mirp_seen a f op operands w straight =
     let control = single_control s.measures.single_width_cut_in s.measures.single_width value in
     both_there_seen a at w (related_or sets at (world_seen a w)) (related_or sets at w) (by_control a f op at w straight control (fixed_seen a f) (world_seen a w)) (by_control a f op at w straight control f w)
     (related_or_seen a sets at w)
-    (by-control-seen a f op at w straight control)
+    (by_control_seen a f op at w straight control)
     s.pointers.zp1

@@ -119,13 +119,13 @@ abbrev coordinates : Axis → World → List ℤ
 coordinates X w = w.gx
 coordinates Y w = w.gy
 
-pub rise-alike :
+pub rise_alike :
     (a : Axis)
     → (coordinates a (run_of (glyph a here) moving 3 0 (begun a here)).world ≡ raised)
     × (coordinates a (run_of (glyph a there) moving 3 0 (begun a there)).world ≡ raised)
 unfolding run_of runOnEntry entry_of rising_from fits glyph_fits twilight_fits pair_fits placed_fits usable_state vectors_in_range vector_in_range replay_of step_of on_decoded on_call decode_of decode_by need_of line_of row_of set_of one two takeFive control_at point_or fetch_in made_in move_in laid_in apply_in put_touched outside_mdap mdap_of mdap_distance from_origin rounding_step grid along_of axis_of raw_fdotp not_small fetch_of apply_of move_of step_by freedom_axis_by add32 sub32 neg32 abs32 wrap32 max_z min_z multiple_below inward outward plus negated pastBits rounded_move_in step_from with_rounding marked_for iup_line_of iup_of walk_of contour_of points_of touched_places
-rise-alike X = (refl, refl)
-rise-alike Y = (refl, refl)
+rise_alike X = (refl, refl)
+rise_alike Y = (refl, refl)
 
 -- ---- a pair that is refused
 -- MDAP[1] of point 0, then MIAP[1] by control value 5, which isn't there
@@ -142,10 +142,10 @@ abbrev RefusedSecond : Ran → Type 0
 RefusedSecond r =
     (r.answer ≡ Refused (ControlValue 5)) × (r.place ≡ 3) × (r.lines ≡ 1) × (r.world.gy ≡ five (pos 64) (pos 100) (pos 0) (pos 64) (pos 0))
 
-pub refused-second :
+pub refused_second :
     RefusedSecond (run_of (held here heights) refusing 9 0 (start here heights)) × RefusedSecond (run_of (held there heights) refusing 9 0 (start there heights))
 unfolding run_of runOnEntry entry_of rising_from fits glyph_fits twilight_fits pair_fits placed_fits usable_state vectors_in_range vector_in_range replay_of step_of on_decoded on_call decode_of decode_by need_of line_of row_of set_of one two takeFive control_at point_or fetch_in made_in move_in laid_in apply_in put_touched outside_mdap miap_of mdap_of mdap_distance from_origin rounding_step grid along_of axis_of raw_fdotp not_small fetch_of apply_of move_of step_by freedom_axis_by add32 sub32 neg32 abs32 wrap32 max_z min_z multiple_below inward outward plus negated pastBits rounded_move_in step_from with_rounding
-refused-second = ((refl, refl, refl, refl), (refl, refl, refl, refl))
+refused_second = ((refl, refl, refl, refl), (refl, refl, refl, refl))
 
 -- ---- a pair that measures
 -- SMD of 128, SFVTPV, MDRP of point 1 from point 0, rounded and no nearer than the minimum distance, MIRP of point 2 by no control value, and GC of point 1
@@ -200,10 +200,10 @@ unfolding lines_reached reached_on_entry reached_from after_call entry_of rising
 reaches_sliding = refl
 
 -- it mixes no axes
-pub slides-free :
+pub slides_free :
     (none (mixes Y) (lines_reached (held here heights) sliding 1 0 moved) ≡ true)
     × (none (interpolates_across Y) (lines_reached (held here heights) sliding 1 0 moved) ≡ false)
-slides-free = (ap (none (mixes Y)) reaches_sliding, ap (none (interpolates_across Y)) reaches_sliding)
+slides_free = (ap (none (mixes Y)) reaches_sliding, ap (none (interpolates_across Y)) reaches_sliding)
 
 -- all but point 0 move by 7
 pub slides : (run_of (held here heights) sliding 1 0 moved).world.gx ≡ five (pos 7) (pos 4) (pos 107) (pos 7) (pos 71)
@@ -222,18 +222,18 @@ upright x = five x x (negsuc 63) (pos 64) (pos 0)
 abbrev height4 : Ran → List ℤ
 height4 r = r.world.gy
 
-pub mixed-by-isect :
+pub mixed_by_isect :
     none (mixes Y) (lines_reached (held (upright (pos 0)) heights) crossing 1 0 (start (upright (pos 0)) heights)) ≡ false
 unfolding lines_reached reached_on_entry reached_from entry_of rising_from fits glyph_fits twilight_fits pair_fits placed_fits usable_state vectors_in_range vector_in_range
-mixed-by-isect = refl
+mixed_by_isect = refl
 
-pub differs-by-isect :
+pub differs_by_isect :
     height4 (run_of (held (upright (pos 0)) heights) crossing 1 0 (start (upright (pos 0)) heights))
     ∷ height4 (run_of (held (upright (pos 32)) heights) crossing 1 0 (start (upright (pos 32)) heights))
     ∷ []
     ≡ five (pos 40) (pos 100) (pos 0) (pos 64) (pos 32) ∷ five (pos 40) (pos 100) (pos 0) (pos 64) (pos 48) ∷ []
 unfolding run_of runOnEntry entry_of rising_from fits glyph_fits twilight_fits pair_fits placed_fits usable_state vectors_in_range vector_in_range replay_of step_of on_decoded on_call decode_of decode_by need_of line_of row_of set_of one two takeFive control_at point_or fetch_in made_in move_in laid_in apply_in put_touched outside_mdap isect_of fetch_of crossing_of meet middle_by cross_of dot_of add32 sub32 neg32 abs32 mul32 quot32 mul_div half_up with_sign wrap32 moved_of
-differs-by-isect = refl
+differs_by_isect = refl
 
 -- ---- a vector along a line
 -- SPVTL[0] from point 4 to point 2, whose heights are the same
@@ -245,26 +245,26 @@ unfolding lines_reached reached_on_entry reached_from entry_of rising_from fits 
 mixed_by_line = refl
 
 -- leftward here, and rightward there
-pub differs-by-line :
+pub differs_by_line :
     ((run_of (glyph Y here) lining 1 0 (begun Y here)).world.state.vectors.projection ≡ record { x = negsuc 16383; y = pos 0 })
     × ((run_of (glyph Y there) lining 1 0 (begun Y there)).world.state.vectors.projection ≡ x_axis)
 unfolding run_of runOnEntry entry_of rising_from fits glyph_fits twilight_fits pair_fits placed_fits usable_state vectors_in_range vector_in_range replay_of step_of on_decoded on_call decode_of decode_by need_of line_of row_of two point_or fetch_in fetch_of to_line_of along_at line_vector unit_of sub32 neg32 wrap32
-differs-by-line = (refl, refl)
+differs_by_line = (refl, refl)
 
 -- ---- a vector that is turned across
 -- SPVTCA[x], then MDAP[1] of point 0: measured along x and moved along y
 abbrev turning : List ℤ
 turning = pos 3 ∷ pos 0 ∷ pos 47 ∷ pos 1 ∷ pos 0 ∷ []
 
-pub mixed-by-turning :
+pub mixed_by_turning :
     none (mixes Y) (lines_reached (held (upright (pos 0)) heights) turning 2 0 (start (upright (pos 0)) heights)) ≡ false
 unfolding lines_reached reached_on_entry reached_from entry_of rising_from fits glyph_fits twilight_fits pair_fits placed_fits usable_state vectors_in_range vector_in_range
-mixed-by-turning = refl
+mixed_by_turning = refl
 
-pub differs-by-turning :
+pub differs_by_turning :
     height4 (run_of (held (upright (pos 0)) heights) turning 2 0 (start (upright (pos 0)) heights))
     ∷ height4 (run_of (held (upright (pos 40)) heights) turning 2 0 (start (upright (pos 40)) heights))
     ∷ []
     ≡ heights ∷ five (pos 64) (pos 100) (pos 0) (pos 64) (pos 0) ∷ []
 unfolding run_of runOnEntry entry_of rising_from fits glyph_fits twilight_fits pair_fits placed_fits usable_state vectors_in_range vector_in_range replay_of step_of on_decoded on_call decode_of decode_by need_of line_of row_of set_of one two takeFive control_at point_or fetch_in made_in move_in laid_in apply_in put_touched outside_mdap set_by vectors_by axis_by mdap_of mdap_distance from_origin rounding_step grid along_of axis_of raw_fdotp not_small fetch_of apply_of move_of step_by freedom_axis_by add32 sub32 neg32 abs32 mul32 mul_div half_up with_sign wrap32 max_z min_z multiple_below inward outward plus negated pastBits rounded_move_in step_from with_rounding
-differs-by-turning = refl
+differs_by_turning = refl

@@ -89,9 +89,9 @@ left_alike a v straight {t} {t'} e o o' p q h k =
     (project_alike a v straight p q t.current t'.current k e.current)
 
 module _ (a : Axis) (outline outline' : ℕ → Vector) (alike : (at : ℕ) → place_seen a (outline at) ≡ place_seen a (outline' at)) {t t' : Stretch} (e : Stretches a t t') where
-  interpolate-level : (z : ℤ) (w : World) → Straight a w.state → Same a (interpolate outline t z (world_seen a w)) (interpolate outline' t' z w)
+  interpolate_level : (z : ℤ) (w : World) → Straight a w.state → Same a (interpolate outline t z (world_seen a w)) (interpolate outline' t' z w)
   unfolding interpolate
-  interpolate-level z w straight =
+  interpolate_level z w straight =
       let s = w.state in
       let same = world_again a w in
       let at = index_of z in
@@ -105,8 +105,8 @@ interpolate_alike : (a : Axis) (outline outline' : ℕ → Vector) → ((at : �
     → (z : ℤ) (v w : World) → Alike a v w → Straight a w.state → Same a (interpolate outline t z v) (interpolate outline' t' z w)
 interpolate_alike a outline outline' alike {t} {t'} e =
     step_alike a (interpolate outline t) (interpolate outline' t')
-    (interpolate-level a outline outline (λ at. refl) (record { original = refl; current = refl; was = refl; is = refl }))
-    (interpolate-level a outline outline' alike e)
+    (interpolate_level a outline outline (λ at. refl) (record { original = refl; current = refl; was = refl; is = refl }))
+    (interpolate_level a outline outline' alike e)
 
 pub ip_seen : (a : Axis) → LineSeen a ip_of
 unfolding ip_of

@@ -58,12 +58,12 @@ module _ (a : Axis) (f g : Fixed) (sheet : List ℤ) (ef : fixed_seen a f ≡ fi
       by_test (ltb at (length sheet)) (opcode_at sheet at) _ _
       (λ here. turn b at w v (same_from b) ew e (free_here (mixes a) (ltb at (length sheet)) _ _ here free))
 
-  on-entry : (b start : ℕ) (w v : World) → world_seen a w ≡ world_seen a v → Straight a w.state → (call : Call)
+  on_entry_lem : (b start : ℕ) (w v : World) → world_seen a w ≡ world_seen a v → Straight a w.state → (call : Call)
       → none (mixes a) (reached_on_entry (reached_from f sheet b start w) call) ≡ true
       → reached_on_entry (reached_from f sheet b start w) call ≡ reached_on_entry (reached_from g sheet b start v) call
   unfolding reached_on_entry
-  on-entry b start w v ew e Done free = same_from b start w v ew e free
-  on-entry b start w v ew e (RefusedCall why) free = refl
+  on_entry_lem b start w v ew e Done free = same_from b start w v ew e free
+  on_entry_lem b start w v ew e (RefusedCall why) free = refl
 
 -- the runs of `axes_apart`
 pub same_lines : (a : Axis) (f g : Fixed) (sheet : List ℤ) (budget start : ℕ) (w v : World) → fixed_seen a f ≡ fixed_seen a g → world_seen a w ≡ world_seen a v
@@ -71,5 +71,5 @@ pub same_lines : (a : Axis) (f g : Fixed) (sheet : List ℤ) (budget start : ℕ
     → lines_reached f sheet budget start w ≡ lines_reached g sheet budget start v
 unfolding lines_reached
 same_lines a f g sheet budget start w v ef ew e free =
-    on-entry a f g sheet ef budget start w v ew e (entered f sheet start w) free
+    on_entry_lem a f g sheet ef budget start w v ew e (entered f sheet start w) free
     ∙ ap (reached_on_entry (reached_from g sheet budget start v)) (entry_alike a f g sheet start w v ef ew)

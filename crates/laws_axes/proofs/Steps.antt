@@ -141,14 +141,14 @@ applied_level a Twilight m at w =
     ∙ ap (on_twilight (world_seen a w)) (apply_seen a m at w.tx w.ty w.tflags)
 
 module _ (a : Axis) (rest rest' : World → Lined) (there : (v w : World) → Alike a v w → Same a (rest v) (rest' w)) where
-  by-call-seen : (call : Call) (v w : World) → Alike a v w → Same a (by_call v rest call) (by_call w rest' call)
-  by-call-seen Done v w e = there v w e
-  by-call-seen (Refused why) v w e = refused_seen a e why
+  by_call_seen : (call : Call) (v w : World) → Alike a v w → Same a (by_call v rest call) (by_call w rest' call)
+  by_call_seen Done v w e = there v w e
+  by_call_seen (Refused why) v w e = refused_seen a e why
 
   -- after what was said alike of worlds that look alike
   pub after_seen : (l k : Lined) → Same a l k → Same a (by_call l.world rest l.call) (by_call k.world rest' k.call)
   after_seen l k e =
-      by-call-seen l.call l.world k.world (record { seen = ap (λ (x : Lined). x.world) e })
+      by_call_seen l.call l.world k.world (record { seen = ap (λ (x : Lined). x.world) e })
       ∙ ap (λ (call : Call). lined_seen a (by_call k.world rest' call)) (ap (λ (x : Lined). x.call) e)
 
   pub laid_seen : (zone : ZonePointer) (m : Move) (at : ℕ) {v w : World} → Alike a v w → Same a (laid_in zone m at v rest) (laid_in zone m at w rest')
@@ -208,15 +208,15 @@ first_seen a e (z ∷ more) rest rest' h = h z more
 module _ (a : Axis) (step step' : ℤ → World → Lined) (alike : (z : ℤ) (v w : World) → Alike a v w → Straight a w.state → Same a (step z v) (step' z w))
     (still : (z : ℤ) (w : World) → (step' z w).world.state ≡ w.state) where
   -- the rest of two loops, after a step that said the same
-  rest-seen : (rest rest' : World → Lined) → ((v w : World) → Alike a v w → Straight a w.state → Same a (rest v) (rest' w))
+  rest_seen : (rest rest' : World → Lined) → ((v w : World) → Alike a v w → Straight a w.state → Same a (rest v) (rest' w))
       → (call : Call) (v w : World) → Alike a v w → Straight a w.state → Same a (by_call v rest call) (by_call w rest' call)
-  rest-seen rest rest' h Done v w e straight = h v w e straight
-  rest-seen rest rest' h (Refused why) v w e straight = refused_seen a e why
+  rest_seen rest rest' h Done v w e straight = h v w e straight
+  rest_seen rest rest' h (Refused why) v w e straight = refused_seen a e why
 
-  next-seen : (rest rest' : World → Lined) → ((v w : World) → Alike a v w → Straight a w.state → Same a (rest v) (rest' w))
+  next_seen : (rest rest' : World → Lined) → ((v w : World) → Alike a v w → Straight a w.state → Same a (rest v) (rest' w))
       → (l k : Lined) → Same a l k → Straight a k.world.state → Same a (by_call l.world rest l.call) (by_call k.world rest' k.call)
-  next-seen rest rest' h l k same straight =
-      rest-seen rest rest' h l.call l.world k.world (record { seen = ap (λ (x : Lined). x.world) same }) straight
+  next_seen rest rest' h l k same straight =
+      rest_seen rest rest' h l.call l.world k.world (record { seen = ap (λ (x : Lined). x.world) same }) straight
       ∙ ap (λ (call : Call). lined_seen a (by_call k.world rest' call)) (ap (λ (x : Lined). x.call) same)
 
   pub each_alike : (n : ℕ) (operands : List ℤ) (v w : World) → Alike a v w → Straight a w.state → Same a (each_in step n operands v) (each_in step' n operands w)
@@ -224,7 +224,7 @@ module _ (a : Axis) (step step' : ℤ → World → Lined) (alike : (z : ℤ) (v
   each_alike zero operands v w e straight = done_seen a v w e
   each_alike (suc n) [] v w e straight = refused_seen a e Missing
   each_alike (suc n) (z ∷ more) v w e straight =
-      next-seen (each_in step n more) (each_in step' n more) (each_alike n more) (step z v) (step' z w) (alike z v w e straight) (ap (λ (s : GraphicsState). s.vectors) (still z w) ∙ straight)
+      next_seen (each_in step n more) (each_in step' n more) (each_alike n more) (step z v) (step' z w) (alike z v w e straight) (ap (λ (s : GraphicsState). s.vectors) (still z w) ∙ straight)
 
 -- a step that sees nothing across comes from worlds that look alike to what another comes to from the one, where it does so from the world seen
 pub step_alike : (a : Axis) (step step' : ℤ → World → Lined) → ((z : ℤ) (w : World) → Straight a w.state → Same a (step z (world_seen a w)) (step z w))

@@ -70,21 +70,21 @@ module _ (a : Axis) (f : Fixed) (sheet : List ℤ) where
       (step_straight a f sheet at w e (or_left (mixes a (opcode_at sheet at)) (interpolates_across a (opcode_at sheet at)) m))
       (and_right (not (works_across a (opcode_at sheet at))) _ free)
 
-  replay-still : (b n at : ℕ) (w : World) → Straight a w.state → none (works_across a) (reached_from f sheet b at w) ≡ true
+  replay_still : (b n at : ℕ) (w : World) → Straight a w.state → none (works_across a) (reached_from f sheet b at w) ≡ true
       → StillSince a w (replay_of f sheet b n at w).world
   unfolding replay_of reached_from
-  replay-still zero n at w e free =
+  replay_still zero n at w e free =
       by_test w (ltb at (length sheet)) _ _ (λ _. stays a w.gx w.gy w.gflags) (stays a w.gx w.gy w.gflags)
-  replay-still (suc b) n at w e free =
+  replay_still (suc b) n at w e free =
       by_test w (ltb at (length sheet)) _ _
-      (λ here. turn b n at w (λ p x. replay-still b (suc n) p x) e (free_here (works_across a) (ltb at (length sheet)) _ _ here free))
+      (λ here. turn b n at w (λ p x. replay_still b (suc n) p x) e (free_here (works_across a) (ltb at (length sheet)) _ _ here free))
       (stays a w.gx w.gy w.gflags)
 
 entry_still : (a : Axis) (f : Fixed) (sheet : List ℤ) (budget start : ℕ) (w : World) → Straight a w.state → (call : Call)
     → none (works_across a) (reached_on_entry (reached_from f sheet budget start w) call) ≡ true
     → StillSince a w (runOnEntry f sheet budget start w call).world
 unfolding runOnEntry reached_on_entry
-entry_still a f sheet budget start w e Done free = replay-still a f sheet budget 0 start w e free
+entry_still a f sheet budget start w e Done free = replay_still a f sheet budget 0 start w e free
 entry_still a f sheet budget start w e (RefusedCall why) free = stays a w.gx w.gy w.gflags
 
 -- no glyph point's coordinate or touch mark across the axis has changed

@@ -57,20 +57,20 @@ each_false p q r s t e =
 
 -- the rows whose lines mix both
 module _ (a : Axis) (op : ℕ) (m : mixes a op ≡ false) where
-  none-mixes : (along_line op ≡ false) × (along_dual_line op ≡ false) × (from_stack op ≡ false) × (intersects op ≡ false)
-  none-mixes = each_false (along_line op) (along_dual_line op) (from_stack op) (intersects op) (turns_across a op) m
+  none_mixes : (along_line op ≡ false) × (along_dual_line op ≡ false) × (from_stack op ≡ false) × (intersects op ≡ false)
+  none_mixes = each_false (along_line op) (along_dual_line op) (from_stack op) (intersects op) (turns_across a op) m
 
   no_line : within 0x06 0x09 op ≡ true → ⊥
-  no_line h = true≢false (sym h ∙ none-mixes.0)
+  no_line h = true≢false (sym h ∙ none_mixes.0)
 
-  no-dual-line : within 0x86 0x87 op ≡ true → ⊥
-  no-dual-line h = true≢false (sym h ∙ none-mixes.1)
+  no_dual_line : within 0x86 0x87 op ≡ true → ⊥
+  no_dual_line h = true≢false (sym h ∙ none_mixes.1)
 
   no_stack : within 0x0A 0x0B op ≡ true → ⊥
-  no_stack h = true≢false (sym h ∙ none-mixes.2)
+  no_stack h = true≢false (sym h ∙ none_mixes.2)
 
-  no-intersection : within 0x0F 0x0F op ≡ true → ⊥
-  no-intersection h = true≢false (sym h ∙ none-mixes.3)
+  no_intersection : within 0x0F 0x0F op ≡ true → ⊥
+  no_intersection h = true≢false (sym h ∙ none_mixes.3)
 
 -- ---- what is seen after a line
 abbrev SeenAt : Axis → ℕ → Line → Type 0
@@ -98,7 +98,7 @@ rows_seen a =
     ▸ (λ op h m. absurd (no_line a op m h))
     ▸ (λ op h. vector_seen a op)
     ▸ (λ op h. vector_seen a op)
-    ▸ (λ op h m. absurd (no-intersection a op m h))
+    ▸ (λ op h m. absurd (no_intersection a op m h))
     ▸ (λ op h. set_seen a op)
     ▸ (λ op h. set_seen a op)
     ▸ (λ op h. size_seen a op)
@@ -124,7 +124,7 @@ rows_seen a =
     ▸ (λ op h. set_seen a op)
     ▸ (λ op h m f operands w s. flippt_seen a f op operands w s)
     ▸ (λ op h m f operands w s. fliprg_seen a f op operands w s)
-    ▸ (λ op h m. absurd (no-dual-line a op m h))
+    ▸ (λ op h m. absurd (no_dual_line a op m h))
     ▸ (λ op h m f operands w s. mdrp_seen a f op operands w s)
     ▸ (λ op h m f operands w s. mirp_seen a f op operands w s)
     ▸ elsewhere (set_seen a)
@@ -214,7 +214,7 @@ sets_straight a op operands w m = let s = w.state in record {
   by_setter = λ e. set_by_straight a s e op operands (or_right (mixes_both op) (turns_across a op) m) (ltb op 0x06) refl;
   by_size = λ e. measure_held s op operands ∙ e;
   along_line = λ h. absurd (no_line a op m h);
-  along_dual_line = λ h. absurd (no-dual-line a op m h);
+  along_dual_line = λ h. absurd (no_dual_line a op m h);
   from_stack = λ h. absurd (no_stack a op m h);
   following = λ h e. follow_straight a s e op operands h;
 }
@@ -224,7 +224,7 @@ pub line_straight : (a : Axis) (f : Fixed) (op : ℕ) (operands : List ℤ) (w :
 line_straight a f op operands w e m =
     line_leaves (λ _. Unit {0}) (λ _. Unit {0}) (λ z u. u) (λ op f w. mixes a op ≡ false) (StraightSince a) (λ op f w g h. h) (λ op f w g. stays_straight a f w)
     (λ op f operands w g o. sets_straight a op operands w g)
-    (λ op h f operands w g o. absurd (no-intersection a op g h))
+    (λ op h f operands w g o. absurd (no_intersection a op g h))
     (λ op h f operands w g o k. iup_held f op operands w ∙ k)
     op f operands w m (no_question operands) e
 
@@ -254,6 +254,6 @@ pub line_still : (a : Axis) (f : Fixed) (op : ℕ) (operands : List ℤ) (w : Wo
 line_still a f op operands w e m n =
     line_leaves (λ _. Unit {0}) (λ _. Unit {0}) (λ z u. u) (λ op f w. Along a op w) (StillSince a) (λ op f w g. stays a w.gx w.gy w.gflags) (λ op f w g. stays_still a f w w.state g.straight)
     (λ op f operands w g o. any_state op operands w (λ s. stays a w.gx w.gy w.gflags))
-    (λ op h f operands w g o. absurd (no-intersection a op g.mixes_not h))
+    (λ op h f operands w g o. absurd (no_intersection a op g.mixes_not h))
     (λ op h f operands w g o. iup_still a f op operands w (along_code a op h g.across_not))
     op f operands w (record { straight = e; mixes_not = m; across_not = n }) (no_question operands)

@@ -36,7 +36,7 @@ use Rattle.moves.specs.Displacement.{displaced_at, displaced_from, displaced_in,
 use Rattle.moves.specs.Move.{is_idle, move_of, original_move_of, zp2_move_of}
 use Rattle.moves.specs.declared.Move.{Move}
 use Rattle.moves.specs.declared.Reference.{Reference}
-use Rattle.direct_moves.specs.Direct.{displacedAfter, entry_by, moveAfter, outline_fits, pairs_fit, shiftAfter, tryDisplacementOf, tryMoveOriginalOf, tryMovePointOf, tryMoveZp2Of, zones_fit, zp2After}
+use Rattle.direct_moves.specs.Direct.{displaced_after, entry_by, move_after, outline_fits, pairs_fit, shift_after, try_displacement_of, try_move_original_of, try_move_point_of, try_move_zp2_of, zones_fit, zp2_after}
 use Rattle.iup.specs.Iup.{Swept, sizes_fit, tried_of}
 use Rattle.laws_direct.proofs.Tests.{sizes, ends, state, point, range, says, in_order, of_zone}
 
@@ -85,11 +85,11 @@ module _ (flags : List ℕ) (at : ℕ) where
     try_is_touched = by_test said_of_touched (flags_fit flags) touched refl
 
 module _ (flags : List ℕ) (start end : ℕ) (on : Bool) where
-  pub try-set-on-curve :
+  pub try_set_on_curve :
       said_of_call (try_set_on_curve_of flags start end on).call
       ≡ in_order (sizes (flags_fit flags) ∷ range start (leb start end && leb end (length flags)) ∷ [])
   unfolding set_on_curve_of
-  try-set-on-curve = by_test said_of_marked (flags_fit flags) (by_test said_of_marked (leb start end && leb end (length flags)) refl refl) refl
+  try_set_on_curve = by_test said_of_marked (flags_fit flags) (by_test said_of_marked (leb start end && leb end (length flags)) refl refl) refl
 
 -- ---- what takes a state and no list
 pub try_round : (s : RoundState) (d : ℤ) → said_of_rounded (rounded_of s d) ≡ in_order (state (usable s) ∷ [])
@@ -122,10 +122,10 @@ at_entry said true false unfit unusable begun = unusable
 at_entry said false usable unfit unusable begun = unfit
 
 -- what does nothing looks at no point
-unless_idle : {A : Type 0} (said : A → Said) (idle isThere : Bool) (refused : Said) {stays moves : A} {done : Said}
-    → said stays ≡ done → said moves ≡ cond isThere done refused → said (cond idle stays moves) ≡ cond (idle || isThere) done refused
-unless_idle said true isThere refused p q = p
-unless_idle said false isThere refused p q = q
+unless_idle : {A : Type 0} (said : A → Said) (idle is_there : Bool) (refused : Said) {stays moves : A} {done : Said}
+    → said stays ≡ done → said moves ≡ cond is_there done refused → said (cond idle stays moves) ≡ cond (idle || is_there) done refused
+unless_idle said true is_there refused p q = p
+unless_idle said false is_there refused p q = q
 
 shifted : (m : Move) (at : ℕ) (gx gy tx ty : List ℤ) (zone : ZonePointer)
     → said_of_call (shift_in m at gx gy tx ty zone).call ≡ in_order (point at (ltb at (length (of_zone zone gx tx))) ∷ [])
@@ -134,11 +134,11 @@ shifted m at gx gy tx ty Glyph = by_test (λ (s : Shifted). said_of_call s.call)
 shifted m at gx gy tx ty Twilight = by_test (λ (s : Shifted). said_of_call s.call) (ltb at (length tx)) refl refl
 
 pub try_move_original : (gx gy tx ty : List ℤ) (s : GraphicsState) (zone : ZonePointer) (at : ℕ) (distance : ℤ)
-    → said_of_call (tryMoveOriginalOf gx gy tx ty s zone at distance).call
+    → said_of_call (try_move_original_of gx gy tx ty s zone at distance).call
     ≡ in_order (sizes (pairs_fit gx gy tx ty) ∷ state (usable_state s) ∷ point at (ltb at (length (of_zone zone gx tx))) ∷ [])
-unfolding tryMoveOriginalOf
+unfolding try_move_original_of
 try_move_original gx gy tx ty s zone at distance = let m = original_move_of s.vectors distance in
-    at_entry (λ (c : Call). said_of_call (shiftAfter gx gy tx ty zone m at c).call) (pairs_fit gx gy tx ty) (usable_state s) refl refl
+    at_entry (λ (c : Call). said_of_call (shift_after gx gy tx ty zone m at c).call) (pairs_fit gx gy tx ty) (usable_state s) refl refl
     (λ fit. shifted m at gx gy tx ty zone)
 
 module _ (gx gy : List ℤ) (gflags : List ℕ) (tx ty : List ℤ) (tflags : List ℕ) (s : GraphicsState) where
@@ -149,54 +149,54 @@ module _ (gx gy : List ℤ) (gflags : List ℕ) (tx ty : List ℤ) (tflags : Lis
   moved m at Twilight = by_test (λ (a : Moved). said_of_call a.call) (ltb at (length tx)) refl refl
 
   pub try_move_point : (zone : ZonePointer) (at : ℕ) (distance : ℤ)
-      → said_of_call (tryMovePointOf gx gy gflags tx ty tflags s zone at distance).call
+      → said_of_call (try_move_point_of gx gy gflags tx ty tflags s zone at distance).call
       ≡ in_order (sizes (zones_fit gx gy gflags tx ty tflags) ∷ state (usable_state s) ∷ point at (ltb at (length (of_zone zone gx tx))) ∷ [])
-  unfolding tryMovePointOf
+  unfolding try_move_point_of
   try_move_point zone at distance = let m = move_of s.vectors s.facts distance in
-      at_entry (λ (c : Call). said_of_call (moveAfter gx gy gflags tx ty tflags zone m at c).call) (zones_fit gx gy gflags tx ty tflags) (usable_state s) refl refl
+      at_entry (λ (c : Call). said_of_call (move_after gx gy gflags tx ty tflags zone m at c).call) (zones_fit gx gy gflags tx ty tflags) (usable_state s) refl refl
       (λ fit. moved m at zone)
 
   -- a move that does nothing looks at no point
   pub try_move_zp2_point : (at : ℕ) (dx dy : ℤ) (touches : Bool)
-      → said_of_call (tryMoveZp2Of gx gy gflags tx ty tflags s at dx dy touches).call
+      → said_of_call (try_move_zp2_of gx gy gflags tx ty tflags s at dx dy touches).call
       ≡ in_order (sizes (zones_fit gx gy gflags tx ty tflags) ∷ state (usable_state s)
       ∷ point at (is_idle (zp2_move_of s.vectors s.facts dx dy touches) || ltb at (length (of_zone s.pointers.zp2 gx tx))) ∷ [])
-  unfolding tryMoveZp2Of
+  unfolding try_move_zp2_of
   try_move_zp2_point at dx dy touches = let m = zp2_move_of s.vectors s.facts dx dy touches in
-      at_entry (λ (c : Call). said_of_call (zp2After gx gy gflags tx ty tflags s.pointers.zp2 m at c).call) (zones_fit gx gy gflags tx ty tflags) (usable_state s) refl refl
+      at_entry (λ (c : Call). said_of_call (zp2_after gx gy gflags tx ty tflags s.pointers.zp2 m at c).call) (zones_fit gx gy gflags tx ty tflags) (usable_state s) refl refl
       (λ fit. unless_idle (λ (b : BothMoved). said_of_call b.call) (is_idle m) (ltb at (length (of_zone s.pointers.zp2 gx tx))) (says 7 at) refl (moved m at s.pointers.zp2))
 
 module _ (v : Vectors) (p : Reference) where
   -- both places are read at one index
-  measured-from : (original current : Vector) (isThere : Bool)
+  measured_from : (original current : Vector) (is_there : Bool)
       → said_of_displaced
-      (displaced_from v p (cond isThere (At original) (RefusedPlace (Point p.at))) (cond isThere (At current) (RefusedPlace (Point p.at))))
-      ≡ in_order (point p.at isThere ∷ [])
-  measured-from original current true = refl
-  measured-from original current false = refl
+      (displaced_from v p (cond is_there (At original) (RefusedPlace (Point p.at))) (cond is_there (At current) (RefusedPlace (Point p.at))))
+      ≡ in_order (point p.at is_there ∷ [])
+  measured_from original current true = refl
+  measured_from original current false = refl
 
   displaced : (ox oy cx cy : List ℤ) → outline_fits ox oy cx cy ≡ true
       → said_of_displaced (displaced_at v p ox oy cx cy) ≡ in_order (point p.at (ltb p.at (length cx)) ∷ [])
   unfolding displaced_at fetch_of outline_fits
   displaced ox oy cx cy fit =
       let same : length ox ≡ length cx = eqb-true _ _ (and_left (eqb (length ox) (length cx)) _ (and_left (eqb (length ox) (length cx) && pair_fits ox oy) _ fit)) in
-      rw same (measured-from (place_of ox oy p.at) (place_of cx cy p.at) (ltb p.at (length cx)))
+      rw same (measured_from (place_of ox oy p.at) (place_of cx cy p.at) (ltb p.at (length cx)))
 
 module _ (gox goy gx gy tox toy tx ty : List ℤ) where
-  displaced-in : (v : Vectors) (p : Reference) (zone : ZonePointer) → outline_fits gox goy gx gy && outline_fits tox toy tx ty ≡ true
+  displaced_in_lem : (v : Vectors) (p : Reference) (zone : ZonePointer) → outline_fits gox goy gx gy && outline_fits tox toy tx ty ≡ true
       → said_of_displaced (displaced_in v p gox goy gx gy tox toy tx ty zone) ≡ in_order (point p.at (ltb p.at (length (of_zone zone gx tx))) ∷ [])
   unfolding displaced_in
-  displaced-in v p Glyph fit = displaced v p gox goy gx gy (and_left (outline_fits gox goy gx gy) _ fit)
-  displaced-in v p Twilight fit = displaced v p tox toy tx ty (and_right (outline_fits gox goy gx gy) _ fit)
+  displaced_in_lem v p Glyph fit = displaced v p gox goy gx gy (and_left (outline_fits gox goy gx gy) _ fit)
+  displaced_in_lem v p Twilight fit = displaced v p tox toy tx ty (and_right (outline_fits gox goy gx gy) _ fit)
 
   pub try_point_displacement : (s : GraphicsState) (opcode : ℕ)
-      → said_of_displaced (tryDisplacementOf gox goy gx gy tox toy tx ty s opcode)
+      → said_of_displaced (try_displacement_of gox goy gx gy tox toy tx ty s opcode)
       ≡ in_order (sizes (outline_fits gox goy gx gy && outline_fits tox toy tx ty) ∷ state (usable_state s)
       ∷ point (reference_of s opcode).at (ltb (reference_of s opcode).at (length (of_zone (reference_of s opcode).zone gx tx))) ∷ [])
-  unfolding tryDisplacementOf
+  unfolding try_displacement_of
   try_point_displacement s opcode = let p = reference_of s opcode in
-      at_entry (λ (c : Call). said_of_displaced (displacedAfter gox goy gx gy tox toy tx ty s p c)) (outline_fits gox goy gx gy && outline_fits tox toy tx ty) (usable_state s) refl refl
-      (displaced-in s.vectors p p.zone)
+      at_entry (λ (c : Call). said_of_displaced (displaced_after gox goy gx gy tox toy tx ty s p c)) (outline_fits gox goy gx gy && outline_fits tox toy tx ty) (usable_state s) refl refl
+      (displaced_in_lem s.vectors p p.zone)
 
 -- ---- IUP
 module _ (axis : Axis) (flags contours : List ℕ) (unscaled original current : List ℤ) where

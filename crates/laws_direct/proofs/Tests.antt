@@ -23,10 +23,10 @@ abbrev pub state : Bool → Test
 state usable = record { holds = usable; number = 3; detail = 0 }
 
 abbrev pub point : ℕ → Bool → Test
-point at isThere = record { holds = isThere; number = 7; detail = at }
+point at is_there = record { holds = is_there; number = 7; detail = at }
 
 abbrev pub range : ℕ → Bool → Test
-range start isThere = record { holds = isThere; number = 11; detail = start }
+range start is_there = record { holds = is_there; number = 11; detail = start }
 
 -- "with place and lines 0"
 abbrev pub says : ℕ → ℕ → Said

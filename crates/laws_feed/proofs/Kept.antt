@@ -84,14 +84,14 @@ module _ (f : Fixed) (w : World) (alike : Alike f w) where
       record { sane = record { waiting = nothing_waits; kept = k; place = λ o. add-zero (base + length words) ∙ p; most = omega (arith, p); idle = λ o. refl }; last = none_of words }
   by_call n base lines words u v (RefusedCall why) p k = stopped n words (Refused why) base lines v refl p k
 
-  by-seen : (n base lines : ℕ) (words : List ℤ) (u : World) (s : Seen) → look_of words ≡ s → base + length words ≡ n → Left w u
+  by_seen : (n base lines : ℕ) (words : List ℤ) (u : World) (s : Seen) → look_of words ≡ s → base + length words ≡ n → Left w u
       → Pushed w n words (on_seen f (going base lines words u) s)
   unfolding on_seen said_is_open waits
-  by-seen n base lines words u Waits e p k =
+  by_seen n base lines words u Waits e p k =
       record { sane = record { waiting = ap waits e; kept = k; place = λ o. p; most = omega (arith, p); idle = is_open Open refl }; last = all_of words }
-  by-seen n base lines words u Bad e p k = stopped n words _ base lines u refl p k
-  by-seen n base lines words u LongLine e p k = stopped n words Long base lines u refl p k
-  by-seen n base lines words u (Whole m) e p k =
+  by_seen n base lines words u Bad e p k = stopped n words _ base lines u refl p k
+  by_seen n base lines words u LongLine e p k = stopped n words Long base lines u refl p k
+  by_seen n base lines words u (Whole m) e p k =
       let r = step_of f words 0 u in
       by_call n base lines words u r.world r.call p (left_by_both k (step_keeps f words 0 u (still_alike f w u k.lengths alike)))
 
@@ -102,15 +102,15 @@ module _ (f : Fixed) (w : World) (alike : Alike f w) where
         last = record { front = words; is = sym (append-nil words) ∙ ap (λ (z : List ℤ). words ++ z) (sym (s.idle e)) };
       }
 
-  one-push : (n : ℕ) (g : Feeding) (x : ℤ) (said : Said) → g.said ≡ said → Sane w n g → Pushed w (suc n) (g.pending ++ (x ∷ [])) (push_by f g x said)
+  one_push : (n : ℕ) (g : Feeding) (x : ℤ) (said : Said) → g.said ≡ said → Sane w n g → Pushed w (suc n) (g.pending ++ (x ∷ [])) (push_by f g x said)
   unfolding push_by said_is_open
-  one-push n g x Open e s =
+  one_push n g x Open e s =
       let words = g.pending ++ (x ∷ []) in
       let p : g.base + length words ≡ suc n = omega (arith, length-append g.pending (x ∷ []), s.place (ap said_is_open e)) in
-      by-seen (suc n) g.base g.lines words g.world (look_of words) refl p s.kept
-  one-push n g x Ended e s = over n (g.pending ++ (x ∷ [])) g (ap said_is_open e) s
-  one-push n g x Long e s = over n (g.pending ++ (x ∷ [])) g (ap said_is_open e) s
-  one-push n g x (Refused why) e s = over n (g.pending ++ (x ∷ [])) g (ap said_is_open e) s
+      by_seen (suc n) g.base g.lines words g.world (look_of words) refl p s.kept
+  one_push n g x Ended e s = over n (g.pending ++ (x ∷ [])) g (ap said_is_open e) s
+  one_push n g x Long e s = over n (g.pending ++ (x ∷ [])) g (ap said_is_open e) s
+  one_push n g x (Refused why) e s = over n (g.pending ++ (x ∷ [])) g (ap said_is_open e) s
 
   pub pushes : (n : ℕ) (g : Feeding) (l : List ℤ) → Sane w n g → Pushed w (n + length l) (g.pending ++ l) (fed_all f g l)
   pushes n g [] s =
@@ -121,7 +121,7 @@ module _ (f : Fixed) (w : World) (alike : Alike f w) where
       }
   pushes n g (x ∷ l) s =
       let h = push_by f g x g.said in
-      let one = one-push n g x g.said refl s in
+      let one = one_push n g x g.said refl s in
       let more = pushes (suc n) h l one.sane in
       let p : suc n + length l ≡ n + suc (length l) = omega arith in
       record {

@@ -81,14 +81,14 @@ module _ (f : Fixed) (sheet : List ℤ) (small : length sheet ≤ most_words) (b
   abbrev count : ℕ
   count = index_of (get_or words 1 (pos 0))
 
-  abbrev fedHere : Ending
-  fedHere = closes (fed_all f (going at n [] w) words)
+  abbrev fed_here : Ending
+  fed_here = closes (fed_all f (going at n [] w) words)
 
-  abbrev runHere : Ending
-  runHere = ending_of_run (replay_of f sheet (suc b) m at w)
+  abbrev run_here : Ending
+  run_here = ending_of_run (replay_of f sheet (suc b) m at w)
 
-  op-at : op ≡ index_of (get_or sheet at (pos 0))
-  op-at = ap index_of (get_or-drop at sheet 0 (pos 0) ∙ ap (λ (i : ℕ). get_or sheet i (pos 0)) (add-zero at))
+  op_at : op ≡ index_of (get_or sheet at (pos 0))
+  op_at = ap index_of (get_or-drop at sheet 0 (pos 0) ∙ ap (λ (i : ℕ). get_or sheet i (pos 0)) (add-zero at))
 
   count_at : count ≡ index_of (get_or sheet (at + 1) (pos 0))
   count_at = ap index_of (get_or-drop at sheet 1 (pos 0))
@@ -100,57 +100,57 @@ module _ (f : Fixed) (sheet : List ℤ) (small : length sheet ≤ most_words) (b
   there h = omega (arith, h, length-drop at sheet)
 
   -- the run can't read the line
-  run-refused : at < length sheet → decode_of sheet w.state.loop_counter at ≡ RefusedLine Line → runHere ≡ ending (Refused Line) at w
+  run_refused : at < length sheet → decode_of sheet w.state.loop_counter at ≡ RefusedLine Line → run_here ≡ ending (Refused Line) at w
   unfolding on_call
-  run-refused h e =
+  run_refused h e =
       ap ending_of_run
       (run_line f sheet b m at w h
       ∙ ap (λ (g : Went). on_call (replay_of f sheet b (suc m)) m g.place g.world g.call) (sym (not_read f sheet at w refl e)))
 
-  by-empty : length words < 1 → fedHere ≡ runHere
-  by-empty h =
+  by_empty : length words < 1 → fed_here ≡ run_here
+  by_empty h =
       let over : length sheet ≤ at = omega (arith, h, length-drop at sheet) in
       ap (λ (l : List ℤ). closes (fed_all f (going at n [] w) l)) (drop_of_length-le sheet over) ∙ none_left at n w
       ∙ ap ending_of_run (at_end f sheet (suc b) m at w over)
 
-  by-beyond : 1 ≤ length words → 255 < op → fedHere ≡ runHere
-  by-beyond h a =
+  by_beyond : 1 ≤ length words → 255 < op → fed_here ≡ run_here
+  by_beyond h a =
       closed_bad f at n w words (no_opcode (length words) op count h a)
-      ∙ sym (run-refused (here h) (decode-no-opcode sheet w.state.loop_counter at op (here h) op-at a))
+      ∙ sym (run_refused (here h) (decode-no-opcode sheet w.state.loop_counter at op (here h) op_at a))
 
-  by-strange : 1 ≤ length words → op ≤ 255 → need_of op ≡ unknown → fedHere ≡ runHere
-  by-strange h a u =
+  by_strange : 1 ≤ length words → op ≤ 255 → need_of op ≡ unknown → fed_here ≡ run_here
+  by_strange h a u =
       closed_bad f at n w words (not_known (length words) op count h a u)
-      ∙ sym (run-refused (here h) (decode-not-known sheet w.state.loop_counter at op (here h) op-at a u))
+      ∙ sym (run_refused (here h) (decode-not-known sheet w.state.loop_counter at op (here h) op_at a u))
 
-  by-single : 1 ≤ length words → op ≤ 255 → (need_of op ≡ unknown → ⊥) → length words < 2 → fedHere ≡ runHere
-  by-single h a u c =
+  by_single : 1 ≤ length words → op ≤ 255 → (need_of op ≡ unknown → ⊥) → length words < 2 → fed_here ≡ run_here
+  by_single h a u c =
       closed_waits f at n w words h (no_count (length words) op count h a u c)
-      ∙ sym (run-refused (here h) (decode-no-count sheet w.state.loop_counter at op (here h) op-at a u (omega (arith, c, length-drop at sheet, here h))))
+      ∙ sym (run_refused (here h) (decode-no-count sheet w.state.loop_counter at op (here h) op_at a u (omega (arith, c, length-drop at sheet, here h))))
 
   module _ (a : op ≤ 255) (u : need_of op ≡ unknown → ⊥) (c : 2 ≤ length words) where
     one : 1 ≤ length words
     one = omega (arith, c)
 
-    past_end : length words < count + 2 → runHere ≡ ending (Refused Line) at w
+    past_end : length words < count + 2 → run_here ≡ ending (Refused Line) at w
     past_end d =
-        run-refused (here one)
-        (decode-too-long sheet w.state.loop_counter at op (here one) op-at a u count (there c) count_at (omega (arith, d, length-drop at sheet, there c)))
+        run_refused (here one)
+        (decode-too-long sheet w.state.loop_counter at op (here one) op_at a u count (there c) count_at (omega (arith, d, length-drop at sheet, there c)))
 
-    by-short : count ≤ most_operands → length words < count + 2 → fedHere ≡ runHere
-    by-short d e = closed_waits f at n w words one (not_all (length words) op count one a u c d e) ∙ sym (past_end e)
+    by_short : count ≤ most_operands → length words < count + 2 → fed_here ≡ run_here
+    by_short d e = closed_waits f at n w words one (not_all (length words) op count one a u c d e) ∙ sym (past_end e)
 
-    is-long : most_operands < count → ltb count (2 ^ 31) ≡ true → long_count words ≡ true
-    is-long d t = rw (le-leb 2 (length words) c, le-leb op 255 a, ne_eqb (need_of op) unknown u, lt-ltb most_operands count d, t)
+    is_long : most_operands < count → ltb count (2 ^ 31) ≡ true → long_count words ≡ true
+    is_long d t = rw (le-leb 2 (length words) c, le-leb op 255 a, ne_eqb (need_of op) unknown u, lt-ltb most_operands count d, t)
 
-    by-negative : most_operands < count → ltb count (2 ^ 31) ≡ false → fedHere ≡ runHere
-    by-negative d t =
+    by_negative : most_operands < count → ltb count (2 ^ 31) ≡ false → fed_here ≡ run_here
+    by_negative d t =
         closed_bad f at n w words (too_long (length words) op count one a u c d ∙ is_bad count t)
         ∙ sym (past_end (omega (arith, ltb-false count (2 ^ 31) t, small, length-drop at sheet)))
 
-    by-long : most_operands < count → long_count words ≡ false → (t : Bool) → ltb count (2 ^ 31) ≡ t → fedHere ≡ runHere
-    by-long d k true t = absurd (true≢false (sym (is-long d t) ∙ k))
-    by-long d k false t = by-negative d t
+    by_long : most_operands < count → long_count words ≡ false → (t : Bool) → ltb count (2 ^ 31) ≡ t → fed_here ≡ run_here
+    by_long d k true t = absurd (true≢false (sym (is_long d t) ∙ k))
+    by_long d k false t = by_negative d t
 
   -- a whole line: what follows it is by induction
   module _ (ih : (at' n' m' : ℕ) (v : World) → length (drop at' sheet) ≤ b → counts_short f sheet b at' v ≡ true
@@ -158,7 +158,7 @@ module _ (f : Fixed) (sheet : List ℤ) (small : length sheet ≤ most_words) (b
     by_call : (k : ℕ) (line : List ℤ) (v : World) (call : Call) → length line ≡ k → 0 < k
         → fed_all f (going at n [] w) words ≡ fed_all f (after_call (going at n line w) v call) (drop (at + k) sheet)
         → on_done (counts_short f sheet b) (record { call = call; place = place_after at (at + k) call; world = v }) call ≡ true
-        → fedHere ≡ ending_of_run (on_call (replay_of f sheet b (suc m)) m (place_after at (at + k) call) v call)
+        → fed_here ≡ ending_of_run (on_call (replay_of f sheet b (suc m)) m (place_after at (at + k) call) v call)
     unfolding after_call on_call on_done close_by said_is_open
     by_call k line v Done long some e s =
         ap closes e
@@ -167,7 +167,7 @@ module _ (f : Fixed) (sheet : List ℤ) (small : length sheet ≤ most_words) (b
     by_call k line v (RefusedCall why) long some e s =
         ap closes (e ∙ stays f (record { said = Refused why; base = at; lines = n; pending = []; world = v }) (drop (at + k) sheet) refl)
 
-    by_whole : (k : ℕ) → 0 < k → look_of words ≡ Whole k → on_done (counts_short f sheet b) (step_of f sheet at w) (step_of f sheet at w).call ≡ true → fedHere ≡ runHere
+    by_whole : (k : ℕ) → 0 < k → look_of words ≡ Whole k → on_done (counts_short f sheet b) (step_of f sheet at w) (step_of f sheet at w).call ≡ true → fed_here ≡ run_here
     by_whole k some e s =
         let r = step_of f (take k words) 0 w in
         let l = step_local f sheet at w k e in
@@ -176,13 +176,13 @@ module _ (f : Fixed) (sheet : List ℤ) (small : length sheet ≤ most_words) (b
         ∙ sym (ap ending_of_run (run_line f sheet b m at w (line_there f sheet at w k e)
         ∙ ap (λ (g : Went). on_call (replay_of f sheet b (suc m)) m g.place g.world g.call) l))
 
-    by_tests : Tests (length words) op count → long_count words ≡ false → on_done (counts_short f sheet b) (step_of f sheet at w) (step_of f sheet at w).call ≡ true → fedHere ≡ runHere
-    by_tests (Empty h) k s = by-empty h
-    by_tests (Beyond h a) k s = by-beyond h a
-    by_tests (Strange h a u) k s = by-strange h a u
-    by_tests (Single h a u c) k s = by-single h a u c
-    by_tests (Longer a u c d) k s = by-long a u c d k (ltb count (2 ^ 31)) refl
-    by_tests (Short a u c d e) k s = by-short a u c d e
+    by_tests : Tests (length words) op count → long_count words ≡ false → on_done (counts_short f sheet b) (step_of f sheet at w) (step_of f sheet at w).call ≡ true → fed_here ≡ run_here
+    by_tests (Empty h) k s = by_empty h
+    by_tests (Beyond h a) k s = by_beyond h a
+    by_tests (Strange h a u) k s = by_strange h a u
+    by_tests (Single h a u c) k s = by_single h a u c
+    by_tests (Longer a u c d) k s = by_long a u c d k (ltb count (2 ^ 31)) refl
+    by_tests (Short a u c d e) k s = by_short a u c d e
     by_tests (Full a u c d e) k s = by_whole (count + 2) (omega arith) (all (length words) op count (omega (arith, c)) a u c d e) s
 
 not_is : (t : Bool) → not t ≡ true → t ≡ false

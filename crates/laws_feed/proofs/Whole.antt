@@ -91,8 +91,8 @@ module _ (f : Fixed) (w : World) (n : ℕ) (l : Left) (fine : Fine w n l) where
       ap (λ (s : Said). record { said = s; base = l.base; lines = 0; pending = take l.held l.carry; world = l.world }) (sym (open_is l.said o))
 
   module _ (passed : entered f [] 0 w ≡ Done) where
-    call-entered : said_is_open l.said ≡ true → (words : List ℤ) → n + length words ≤ most_words → entered_feed f (given l) l.carry words l.world ≡ Done
-    call-entered o words h = entry_of_call f l words (room o words h) ∙ entered_still f w l.world fine.sane.kept passed
+    call_entered : said_is_open l.said ≡ true → (words : List ℤ) → n + length words ≤ most_words → entered_feed f (given l) l.carry words l.world ≡ Done
+    call_entered o words h = entry_of_call f l words (room o words h) ∙ entered_still f w l.world fine.sane.kept passed
 
     record Piece (piece : List ℤ) (m : Left) : Type 0 where
       is : held_in m ≡ unnumbered (fed_all f (held_in l) piece)
@@ -114,14 +114,14 @@ module _ (f : Fixed) (w : World) (n : ℕ) (l : Left) (fine : Fine w n l) where
           };
         }
 
-    piece-open : (piece : List ℤ) → n + length piece ≤ most_words → said_is_open l.said ≡ true → Piece piece (fed_piece f l piece)
-    piece-open piece h o =
+    piece_open : (piece : List ℤ) → n + length piece ≤ most_words → said_is_open l.said ≡ true → Piece piece (fed_piece f l piece)
+    piece_open piece h o =
         subst (Piece piece)
-        (sym (fed_entered f (given l) l.carry piece l.world o (call-entered o piece h) ∙ ap (λ (g : Feeding). handed l.carry (fed_all f g piece)) (begun_is o)))
+        (sym (fed_entered f (given l) l.carry piece l.world o (call_entered o piece h) ∙ ap (λ (g : Feeding). handed l.carry (fed_all f g piece)) (begun_is o)))
         (taken piece h)
 
-    piece-over : (piece : List ℤ) → said_is_open l.said ≡ false → Piece piece (fed_piece f l piece)
-    piece-over piece e =
+    piece_over : (piece : List ℤ) → said_is_open l.said ≡ false → Piece piece (fed_piece f l piece)
+    piece_over piece e =
         let s = fine.sane in
         subst (Piece piece) (sym (piece_repeats f l e piece))
         (record {
@@ -134,7 +134,7 @@ module _ (f : Fixed) (w : World) (n : ℕ) (l : Left) (fine : Fine w n l) where
         })
 
     one_piece : (piece : List ℤ) → n + length piece ≤ most_words → Piece piece (fed_piece f l piece)
-    one_piece piece h = cases (said_is_open l.said) (piece-open piece h) (piece-over piece)
+    one_piece piece h = cases (said_is_open l.said) (piece_open piece h) (piece_over piece)
 
     -- the end
     close_open : said_is_open l.said ≡ true → closes (held_in l) ≡ ending (cond (eqb l.held 0) Ended (Refused Line)) l.base l.world
@@ -143,18 +143,18 @@ module _ (f : Fixed) (w : World) (n : ℕ) (l : Left) (fine : Fine w n l) where
         ap (close_by (held_in l)) (open_is l.said o)
         ∙ ap (λ (i : ℕ). ending (cond (eqb i 0) Ended (Refused Line)) l.base l.world) (length-take-le l.held l.carry fine.inside)
 
-    close-over : (said : Said) → said_is_open said ≡ false → close_by (held_in l) said ≡ ending said l.base l.world
+    close_over : (said : Said) → said_is_open said ≡ false → close_by (held_in l) said ≡ ending said l.base l.world
     unfolding close_by said_is_open
-    close-over Open e = is_open Open refl e
-    close-over Ended e = refl
-    close-over Long e = refl
-    close-over (Refused why) e = refl
+    close_over Open e = is_open Open refl e
+    close_over Ended e = refl
+    close_over Long e = refl
+    close_over (Refused why) e = refl
 
-    end-closes : n ≤ most_words → ending_of (fed_end f l) ≡ closes (held_in l)
-    end-closes h =
+    end_closes : n ≤ most_words → ending_of (fed_end f l) ≡ closes (held_in l)
+    end_closes h =
         cases (said_is_open l.said)
-        (λ o. ap ending_of (end_entered f (given l) l.carry l.world o (call-entered o [] (omega (arith, h)))) ∙ sym (close_open o))
-        (λ e. ap ending_of (end_repeats f l e) ∙ sym (close-over l.said e))
+        (λ o. ap ending_of (end_entered f (given l) l.carry l.world o (call_entered o [] (omega (arith, h)))) ∙ sym (close_open o))
+        (λ e. ap ending_of (end_repeats f l e) ∙ sym (close_over l.said e))
 
 -- ---- all pieces: their feed is that of the whole
 record Through (f : Fixed) (w : World) (n : ℕ) (l : Left) (words : List ℤ) (m : Left) : Type 0 where
@@ -190,11 +190,11 @@ module _ (f : Fixed) (carry : List ℤ) (w : World) (long : most_line ≤ length
   through : entered f [] 0 w ≡ Done → Through f w 0 (started carry w) (joined pieces) (fed_through f (started carry w) pieces)
   through e = all_pieces f w e 0 (started carry w) (at_start carry w long) pieces (omega (arith, within))
 
-  fed-whole : entered f [] 0 w ≡ Done → ending_of (fed_pieces f (started carry w) pieces) ≡ closes (fed_all f (going 0 0 [] w) (joined pieces))
-  fed-whole e =
+  fed_whole : entered f [] 0 w ≡ Done → ending_of (fed_pieces f (started carry w) pieces) ≡ closes (fed_all f (going 0 0 [] w) (joined pieces))
+  fed_whole e =
       let t = through e in
       let g = fed_all f (going 0 0 [] w) (joined pieces) in
-      end-closes f w (0 + length (joined pieces)) (fed_through f (started carry w) pieces) t.next e (omega (arith, within)) ∙ ap closes t.is ∙ close_unnumbered g g.said
+      end_closes f w (0 + length (joined pieces)) (fed_through f (started carry w) pieces) t.next e (omega (arith, within)) ∙ ap closes t.is ∙ close_unnumbered g g.said
 
   first_room : (words : List ℤ) → length words ≤ most_words → Room 0 0 (length words) carry
   first_room words h = record { long = long; inside = omega arith; waiting = nothing_waits; within = omega (arith, h) }
@@ -220,7 +220,7 @@ module _ (f : Fixed) (carry : List ℤ) (w : World) (long : most_line ≤ length
       → ending_of (fed_pieces f (started carry w) pieces) ≡ ending_of_run (run_of f (joined pieces) budget 0 w)
   unfolding short_on_entry
   whole_by_lem budget enough Done e s =
-      fed-whole f carry w long pieces within (sym (entry_of_run f (joined pieces) w within) ∙ e)
+      fed_whole f carry w long pieces within (sym (entry_of_run f (joined pieces) w within) ∙ e)
       ∙ from f (joined pieces) within budget 0 0 0 w enough s
       ∙ ap ending_of_run (run_entered f (joined pieces) budget 0 w refl e)
   whole_by_lem budget enough (RefusedCall why) e s =
@@ -232,18 +232,18 @@ module _ (f : Fixed) (carry : List ℤ) (w : World) (long : most_line ≤ length
   whole budget enough s = whole_by_lem budget enough (entered f (joined pieces) 0 w) refl s
 
   -- two cuttings of the same words end alike, also where a line is too long (18), and with another carry
-  cutting-by : (carry' : List ℤ) → most_line ≤ length carry' → (pieces' : List (List ℤ)) → joined pieces' ≡ joined pieces → (call : Call) → entered f [] 0 w ≡ call
+  cutting_by : (carry' : List ℤ) → most_line ≤ length carry' → (pieces' : List (List ℤ)) → joined pieces' ≡ joined pieces → (call : Call) → entered f [] 0 w ≡ call
       → ending_of (fed_pieces f (started carry w) pieces) ≡ ending_of (fed_pieces f (started carry' w) pieces')
-  cutting-by carry' long' pieces' same Done e =
-      fed-whole f carry w long pieces within e
+  cutting_by carry' long' pieces' same Done e =
+      fed_whole f carry w long pieces within e
       ∙ ap (λ (l : List ℤ). closes (fed_all f (going 0 0 [] w) l)) (sym same)
-      ∙ sym (fed-whole f carry' w long' pieces' (omega (arith, ap length same, within)) e)
-  cutting-by carry' long' pieces' same (RefusedCall why) e =
+      ∙ sym (fed_whole f carry' w long' pieces' (omega (arith, ap length same, within)) e)
+  cutting_by carry' long' pieces' same (RefusedCall why) e =
       refused_at_entry f carry w long pieces within e ∙ sym (refused_at_entry f carry' w long' pieces' (omega (arith, ap length same, within)) e)
 
   pub any_cutting : (carry' : List ℤ) → most_line ≤ length carry' → (pieces' : List (List ℤ)) → joined pieces' ≡ joined pieces
       → ending_of (fed_pieces f (started carry w) pieces) ≡ ending_of (fed_pieces f (started carry' w) pieces')
-  any_cutting carry' long' pieces' same = cutting-by carry' long' pieces' same (entered f [] 0 w) refl
+  any_cutting carry' long' pieces' same = cutting_by carry' long' pieces' same (entered f [] 0 w) refl
 
   -- and before the end, where the run is entered: what is said, the place, the words that wait and the world depend on the words that came alone
   pub any_cutting_so_far : entered f (joined pieces) 0 w ≡ Done → (carry' : List ℤ) → most_line ≤ length carry' → (pieces' : List (List ℤ)) → joined pieces' ≡ joined pieces

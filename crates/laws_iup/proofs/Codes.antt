@@ -56,26 +56,26 @@ module _ (k : ℕ) (f g : Fixed) (h : k < length f.contours) (d : FixedAgreeBut 
   Agrees op line = (operands : List ℤ) (w v : World) → Sound f w → WorldsAgreeBut f.contours k w v → LinesAgreeBut f.contours k (line f op operands w) (line g op operands v)
 
   -- what is lent no list
-  into-agrees : (r : GraphicsState → Stepped) (w v : World) → WorldsAgreeBut f.contours k w v → LinesAgreeBut f.contours k (into w (r w.state)) (into v (r v.state))
-  into-agrees r w v e =
+  into_agrees : (r : GraphicsState → Stepped) (w v : World) → WorldsAgreeBut f.contours k w v → LinesAgreeBut f.contours k (into w (r w.state)) (into v (r v.state))
+  into_agrees r w v e =
       subst (λ (s : GraphicsState). LinesAgreeBut f.contours k (into w (r w.state)) (into v (r s))) e.state
       (record { call = refl; worlds = in_state_agrees f.contours k w v (r w.state).state e })
 
   set_agrees : (op : ℕ) → Agrees op set_of
   unfolding set_of
-  set_agrees op operands w v sound e = into-agrees (λ (s : GraphicsState). set_by s op operands) w v e
+  set_agrees op operands w v sound e = into_agrees (λ (s : GraphicsState). set_by s op operands) w v e
 
-  size-agrees : (op : ℕ) → Agrees op sizes_of
+  size_agrees : (op : ℕ) → Agrees op sizes_of
   unfolding sizes_of
-  size-agrees op operands w v sound e = into-agrees (λ (s : GraphicsState). measure_by s op operands) w v e
+  size_agrees op operands w v sound e = into_agrees (λ (s : GraphicsState). measure_by s op operands) w v e
 
-  vector-agrees : (op : ℕ) → Agrees op vector_of
+  vector_agrees : (op : ℕ) → Agrees op vector_of
   unfolding vector_of
-  vector-agrees op operands w v sound e = into-agrees (λ (s : GraphicsState). vector_by s op operands) w v e
+  vector_agrees op operands w v sound e = into_agrees (λ (s : GraphicsState). vector_by s op operands) w v e
 
   pub line_agrees : (op : ℕ) → is_one_of iup_and_setters op ≡ true → Agrees op line_of
   unfolding line_of
-  line_agrees op e = by_code Agrees (λ o operands. iup_line_agrees k f g h d operands o) set_agrees size-agrees vector-agrees op e
+  line_agrees op e = by_code Agrees (λ o operands. iup_line_agrees k f g h d operands o) set_agrees size_agrees vector_agrees op e
 
 -- ---- one glyph
 module _ (f : Fixed) where
@@ -86,14 +86,14 @@ module _ (f : Fixed) where
   unfolding set_of
   set_rest op operands w sound = record { gx = λ i h. refl; gy = λ i h. refl; gflags = refl }
 
-  size-rest : (op : ℕ) → Stays op sizes_of
+  size_rest : (op : ℕ) → Stays op sizes_of
   unfolding sizes_of
-  size-rest op operands w sound = record { gx = λ i h. refl; gy = λ i h. refl; gflags = refl }
+  size_rest op operands w sound = record { gx = λ i h. refl; gy = λ i h. refl; gflags = refl }
 
-  vector-rest : (op : ℕ) → Stays op vector_of
+  vector_rest : (op : ℕ) → Stays op vector_of
   unfolding vector_of
-  vector-rest op operands w sound = record { gx = λ i h. refl; gy = λ i h. refl; gflags = refl }
+  vector_rest op operands w sound = record { gx = λ i h. refl; gy = λ i h. refl; gflags = refl }
 
   pub line_rest : (op : ℕ) → is_one_of iup_and_setters op ≡ true → Stays op line_of
   unfolding line_of
-  line_rest op e = by_code Stays (λ o operands. iup_line_rest f operands o) set_rest size-rest vector-rest op e
+  line_rest op e = by_code Stays (λ o operands. iup_line_rest f operands o) set_rest size_rest vector_rest op e

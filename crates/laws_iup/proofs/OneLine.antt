@@ -45,14 +45,14 @@ module _ (f : Fixed) (sheet : List ℤ) (each : (at : ℕ) → is_another (opcod
       let x = step_of f sheet at w in
       one_by (λ (ops : List ℕ). none is_another ops ≡ true) (ltb at (length sheet)) (λ here. rw (each at) (none_after b (none_from b) x.place x.world x.call)) refl
 
-  none-on : (budget start : ℕ) (w : World) (call : Call) → none is_another (reached_on_entry (reached_from f sheet budget start w) call) ≡ true
+  none_on : (budget start : ℕ) (w : World) (call : Call) → none is_another (reached_on_entry (reached_from f sheet budget start w) call) ≡ true
   unfolding reached_on_entry
-  none-on budget start w Done = none_from budget start w
-  none-on budget start w (RefusedCall why) = refl
+  none_on budget start w Done = none_from budget start w
+  none_on budget start w (RefusedCall why) = refl
 
   no_other : (budget start : ℕ) (w : World) → none is_another (lines_reached f sheet budget start w) ≡ true
   unfolding lines_reached
-  no_other budget start w = none-on budget start w (entered f sheet start w)
+  no_other budget start w = none_on budget start w (entered f sheet start w)
 
 iup_words : (axis : Axis) (at : ℕ) → is_another (opcode_at (iup_sheet axis) at) ≡ false
 iup_words X zero = refl

@@ -49,8 +49,8 @@ module _ (Word : ℤ → Type 0) (Refers : ℕ → Type 0) (refers : (z : ℤ) �
     unfolding vector_of
     following op h f operands w g o = (sets op f operands w g o).following h
 
-    pub all-rows : RowsHave Has rows
-    all-rows =
+    pub all_rows : RowsHave Has rows
+    all_rows =
         (λ op h. set op)
         ▸ (λ op h f operands w g o. to_line_stays op operands w f (sets op f operands w g o) (start op f w g) o h)
         ▸ from_stack

@@ -14,7 +14,7 @@ use Rattle.words.proofs.Widths.Every.{no_word, one_word}
 use Rattle.line.specs.World.{Alike, Fixed, World}
 use Rattle.laws_lines.proofs.Kept.{Kept}
 use Rattle.laws_lines.proofs.StillUsable.{StillUsable}
-use Rattle.laws_lines.proofs.AllRows.{Has, all-rows}
+use Rattle.laws_lines.proofs.AllRows.{Has, all_rows}
 use Rattle.laws_lines.proofs.Lengths.{in_state_kept, isect_kept, iup_kept, kept, stays_kept}
 use Rattle.laws_lines.proofs.Rows.{row_has, within}
 use Rattle.laws_lines.proofs.Sets.{Sets, any_state}
@@ -28,7 +28,7 @@ module _ (Word : ℤ → Type 0) (Refers : ℕ → Type 0) (refers : (z : ℤ) �
       (isect : (op : ℕ) → within 0x0F 0x0F op ≡ true → Has Word Refers refers Given P op isect_of) (iup : (op : ℕ) → within 0x30 0x31 op ≡ true → Has Word Refers refers Given P op iup_line_of) where
     pub line_leaves : (op : ℕ) → Has Word Refers refers Given P op line_of
     unfolding line_of row_of
-    line_leaves op = row_has (Has Word Refers refers Given P) rows (all-rows Word Refers refers Given P start stays sets isect iup) op
+    line_leaves op = row_has (Has Word Refers refers Given P) rows (all_rows Word Refers refers Given P start stays sets isect iup) op
 
 -- nothing is asked of a reference
 pub no_question : (operands : List ℤ) → Every (λ (z : ℤ). Unit {0}) operands

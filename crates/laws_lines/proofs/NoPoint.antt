@@ -15,7 +15,7 @@ use Rattle.line_shc_shz.specs.Shc.{shc_of, shz_of}
 use Rattle.line_steps.specs.Steps.{one, reference_moved}
 use Rattle.moves.specs.declared.Displaced.TheVariants.{By}
 use Rattle.moves.specs.declared.Displacement.{Displacement}
-use Rattle.laws_lines.proofs.Spans.{by-contour, by-zone, other-number}
+use Rattle.laws_lines.proofs.Spans.{by_contour, by_zone, other_number}
 
 module _ (f : Fixed) (op : ℕ) (w : World) (sound : Sound f w) {d : Displacement} (there : reference_moved f op w ≡ By d) (at : ℕ) where
   abbrev NoPoint : Lined → Type 0
@@ -24,10 +24,10 @@ module _ (f : Fixed) (op : ℕ) (w : World) (sound : Sound f w) {d : Displacemen
   -- where the reference point is there, SHC and SHZ refuse no point
   pub shc_refuses_none : (operands : List ℤ) → NoPoint (shc_of f op operands w)
   unfolding shc_of one
-  shc_refuses_none [] e = other-number f op w sound there at Missing (λ z. omega (arith, z)) e
-  shc_refuses_none (contour ∷ more) e = by-contour f op w sound there at (index_of contour) (ltb (index_of contour) (size_of (length f.contours) 1 w.state.pointers.zp2)) refl e
+  shc_refuses_none [] e = other_number f op w sound there at Missing (λ z. omega (arith, z)) e
+  shc_refuses_none (contour ∷ more) e = by_contour f op w sound there at (index_of contour) (ltb (index_of contour) (size_of (length f.contours) 1 w.state.pointers.zp2)) refl e
 
   pub shz_refuses_none : (operands : List ℤ) → NoPoint (shz_of f op operands w)
   unfolding shz_of one
-  shz_refuses_none [] e = other-number f op w sound there at Missing (λ z. omega (arith, z)) e
-  shz_refuses_none (zone ∷ more) e = by-zone f op w sound there at (index_of zone) (ltb 1 (index_of zone)) e
+  shz_refuses_none [] e = other_number f op w sound there at Missing (λ z. omega (arith, z)) e
+  shz_refuses_none (zone ∷ more) e = by_zone f op w sound there at (index_of zone) (ltb 1 (index_of zone)) e

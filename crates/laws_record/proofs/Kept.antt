@@ -85,17 +85,17 @@ module _ (bytes : List ℕ) (f : Bytes bytes) where
     abbrev m : ℕ
     m = l.twilight
 
-    abbrev glyph-size : ℕ
-    glyph-size = n + (n + (n + (n + (n + (n + (n + c))))))
+    abbrev glyph_size : ℕ
+    glyph_size = n + (n + (n + (n + (n + (n + (n + c))))))
 
-    abbrev twilight-size : ℕ
-    twilight-size = m + (m + (m + (m + m)))
+    abbrev twilight_size : ℕ
+    twilight_size = m + (m + (m + (m + m)))
 
-    abbrev rest-size : ℕ
-    rest-size = l.controls + l.words
+    abbrev rest_size : ℕ
+    rest_size = l.controls + l.words
 
-    glyph-is : glyph_words h ≡ at (list_place l 0) glyph-size
-    glyph-is =
+    glyph_is : glyph_words h ≡ at (list_place l 0) glyph_size
+    glyph_is =
         cat (list_place l 0) n _ (numbers (list_place l 0) n)
         (cat (list_place l 1) n _ (numbers (list_place l 1) n)
         (cat (list_place l 2) n _ (numbers (list_place l 2) n)
@@ -104,33 +104,33 @@ module _ (bytes : List ℕ) (f : Bytes bytes) where
         (cat (list_place l 5) n _ (numbers (list_place l 5) n)
         (cat (list_place l 6) n c (flags_back (at (list_place l 6) n) s.flags_are) (ends_back (at (list_place l 7) c) s.ends_are)))))))
 
-    twilight-is : twilight_words h ≡ at (list_place l 8) twilight-size
-    twilight-is =
+    twilight_is : twilight_words h ≡ at (list_place l 8) twilight_size
+    twilight_is =
         cat (list_place l 8) m _ (numbers (list_place l 8) m)
         (cat (list_place l 9) m _ (numbers (list_place l 9) m)
         (cat (list_place l 10) m _ (numbers (list_place l 10) m)
         (cat (list_place l 11) m m (numbers (list_place l 11) m) (flags_back (at (list_place l 12) m) s.twilight_are))))
 
-    rest-is : words_of_numbers h.fixed.controls ++ words_of_numbers h.sheet ≡ at (list_place l 13) (l.controls + l.words)
-    rest-is = cat (list_place l 13) l.controls l.words (numbers (list_place l 13) l.controls) (numbers (list_place l 14) l.words)
+    rest_is : words_of_numbers h.fixed.controls ++ words_of_numbers h.sheet ≡ at (list_place l 13) (l.controls + l.words)
+    rest_is = cat (list_place l 13) l.controls l.words (numbers (list_place l 13) l.controls) (numbers (list_place l 14) l.words)
 
-    state-back : state_words (state_of (state_in bytes)) ≡ state_in bytes
-    state-back = written_read (state_in bytes) s.state_is (λ k. words_at (state_in bytes) k (state_words_lem bytes f))
+    state_back : state_words (state_of (state_in bytes)) ≡ state_in bytes
+    state_back = written_read (state_in bytes) s.state_is (λ k. words_at (state_in bytes) k (state_words_lem bytes f))
 
     -- the lists, from the state to the trailer
-    lists-are : glyph_words h ++ (twilight_words h ++ (words_of_numbers h.fixed.controls ++ words_of_numbers h.sheet)) ≡ at l.state (at_trailer l - l.state)
-    lists-are =
-        let b : list_place l 8 ≡ l.state + glyph-size = omega arith in
-        let d : list_place l 13 ≡ l.state + glyph-size + twilight-size = omega arith in
-        let all : glyph-size + (twilight-size + rest-size) ≡ at_trailer l - l.state = omega arith in
-        cat l.state glyph-size (twilight-size + rest-size) glyph-is
-        (cat (l.state + glyph-size) twilight-size rest-size (twilight-is ∙ ap (λ (k : ℕ). at k twilight-size) b) (rest-is ∙ ap (λ (k : ℕ). at k rest-size) d))
+    lists_are : glyph_words h ++ (twilight_words h ++ (words_of_numbers h.fixed.controls ++ words_of_numbers h.sheet)) ≡ at l.state (at_trailer l - l.state)
+    lists_are =
+        let b : list_place l 8 ≡ l.state + glyph_size = omega arith in
+        let d : list_place l 13 ≡ l.state + glyph_size + twilight_size = omega arith in
+        let all : glyph_size + (twilight_size + rest_size) ≡ at_trailer l - l.state = omega arith in
+        cat l.state glyph_size (twilight_size + rest_size) glyph_is
+        (cat (l.state + glyph_size) twilight_size rest_size (twilight_is ∙ ap (λ (k : ℕ). at k twilight_size) b) (rest_is ∙ ap (λ (k : ℕ). at k rest_size) d))
         ∙ ap (at l.state) all
 
     body_kept : body_words h ≡ state_in bytes ++ at (kept_in bytes) (word_count bytes - trailer_size - kept_in bytes)
     body_kept =
         let e : at_trailer l - l.state ≡ word_count bytes - trailer_size - kept_in bytes = omega (arith, s.adds_up) in
-        ap₂ (λ (a b : List ℕ). a ++ b) state-back (lists-are ∙ ap (at (kept_in bytes)) e)
+        ap₂ (λ (a b : List ℕ). a ++ b) state_back (lists_are ∙ ap (at (kept_in bytes)) e)
 
     -- ---- of the newest edition
     module _ (newest : trailer_word bytes 5 ≡ edition) where
@@ -140,7 +140,7 @@ module _ (bytes : List ℕ) (f : Bytes bytes) where
       body_is : body_words h ≡ at 0 (at_trailer l)
       body_is =
           let all : state_size + (at_trailer l - l.state) ≡ at_trailer l = omega (arith, all_words) in
-          cat 0 state_size (at_trailer l - l.state) (state-back ∙ all_kept bytes newest) (lists-are ∙ ap (λ (j : ℕ). at j (at_trailer l - l.state)) all_words)
+          cat 0 state_size (at_trailer l - l.state) (state_back ∙ all_kept bytes newest) (lists_are ∙ ap (λ (j : ℕ). at j (at_trailer l - l.state)) all_words)
           ∙ ap (at 0) all
 
       -- ---- the trailer
@@ -150,54 +150,54 @@ module _ (bytes : List ℕ) (f : Bytes bytes) where
       abbrev t : ℕ
       t = at_trailer l
 
-      points-are : length h.world.gx ≡ n
-      points-are = mapped_length of_bits bytes (list_place l 4) n
+      points_are : length h.world.gx ≡ n
+      points_are = mapped_length of_bits bytes (list_place l 4) n
 
-      contours-are : length h.fixed.contours ≡ c
-      contours-are = mapped_length end_of bytes (list_place l 7) c
+      contours_are : length h.fixed.contours ≡ c
+      contours_are = mapped_length end_of bytes (list_place l 7) c
 
       twilight_are : length h.world.tx ≡ m
       twilight_are = mapped_length of_bits bytes (list_place l 10) m
 
-      controls-are : length h.fixed.controls ≡ l.controls
-      controls-are = mapped_length of_bits bytes (list_place l 13) l.controls
+      controls_are : length h.fixed.controls ≡ l.controls
+      controls_are = mapped_length of_bits bytes (list_place l 13) l.controls
 
       words_are : length h.sheet ≡ l.words
       words_are = mapped_length of_bits bytes (list_place l 14) l.words
 
-      same-trailer : at_trailer (layout_for h) ≡ t
-      same-trailer = omega (arith, all_words, points-are, contours-are, twilight_are, controls-are, words_are)
+      same_trailer : at_trailer (layout_for h) ≡ t
+      same_trailer = omega (arith, all_words, points_are, contours_are, twilight_are, controls_are, words_are)
 
       way_back : at_trailer (layout_for h) * 4 % 2 ^ 32 ≡ trailer_word bytes 6
       way_back =
           let small : trailer_word bytes 6 < 2 ^ 32 = word_fits bytes (word_count bytes - 8 + 6) f in
-          omega (arith, same-trailer, s.back_is, small)
+          omega (arith, same_trailer, s.back_is, small)
 
-      trailer-is : trailer_words (layout_for h) ≡ at t 7
-      trailer-is =
+      trailer_is : trailer_words (layout_for h) ≡ at t 7
+      trailer_is =
           let u = s.adds_up in
-          cons (points-are ∙ place 0 t (omega (arith, u)))
-          (cons (contours-are ∙ place 1 (suc t) (omega (arith, u)))
+          cons (points_are ∙ place 0 t (omega (arith, u)))
+          (cons (contours_are ∙ place 1 (suc t) (omega (arith, u)))
           (cons (twilight_are ∙ place 2 (suc (suc t)) (omega (arith, u)))
-          (cons (controls-are ∙ place 3 (suc (suc (suc t))) (omega (arith, u)))
+          (cons (controls_are ∙ place 3 (suc (suc (suc t))) (omega (arith, u)))
           (cons (words_are ∙ place 4 (suc (suc (suc (suc t)))) (omega (arith, u)))
           (cons (sym newest ∙ place 5 (suc (suc (suc (suc (suc t))))) (omega (arith, u)))
           (cons (way_back ∙ place 6 (suc (suc (suc (suc (suc (suc t)))))) (omega (arith, u))) refl))))))
 
-      before-sum : body_words h ++ trailer_words (layout_for h) ≡ at 0 (t + 7)
-      before-sum = cat 0 t 7 body_is (trailer-is ∙ ap (λ (k : ℕ). at k 7) (zero_on t))
+      before_sum : body_words h ++ trailer_words (layout_for h) ≡ at 0 (t + 7)
+      before_sum = cat 0 t 7 body_is (trailer_is ∙ ap (λ (k : ℕ). at k 7) (zero_on t))
 
       sum_is : wrapping_sum (body_words h ++ trailer_words (layout_for h)) ≡ word bytes (0 + (t + 7))
       sum_is =
           let e : t + 7 ≡ word_count bytes - 1 = omega (arith, s.adds_up) in
-          ap wrapping_sum (before-sum ∙ ap (at 0) e) ∙ s.sum_is ∙ place 7 (0 + (t + 7)) (omega (arith, s.adds_up))
+          ap wrapping_sum (before_sum ∙ ap (at 0) e) ∙ s.sum_is ∙ place 7 (0 + (t + 7)) (omega (arith, s.adds_up))
 
-      words-is : words_of h ≡ at 0 (t + 7 + 1)
-      words-is = cat 0 (t + 7) 1 before-sum (cons sum_is refl)
+      words_is : words_of h ≡ at 0 (t + 7 + 1)
+      words_is = cat 0 (t + 7) 1 before_sum (cons sum_is refl)
 
       record_is : record_of h ≡ bytes
       unfolding record_of
-      record_is = ap bytes_of words-is ∙ bytes_back bytes (t + 7 + 1) f (omega (arith, s.adds_up, s.length_is))
+      record_is = ap bytes_of words_is ∙ bytes_back bytes (t + 7 + 1) f (omega (arith, s.adds_up, s.length_is))
 
 -- ---- over every byte string
 -- what was read, and that the bytes are sound

@@ -61,9 +61,9 @@ module _ (ws : List ℕ) (f : Words ws) where
   long : (low high : ℕ) → get_or ws low 0 + get_or ws high 0 * 2 ^ 32 < 2 ^ 64
   long low high = long_fits (get_or ws low 0) (get_or ws high 0) (words_at ws low f) (words_at ws high f)
 
-  state-fits : StateInWidth (state_of ws)
+  state_fits : StateInWidth (state_of ws)
   unfolding state_of
-  state-fits = record {
+  state_fits = record {
     signed = record { vectors = ((at 0, at 1), (at 2, at 3), (at 4, at 5)); round = (at 7, at 8, at 9); measures = record { cut_in = at 25; minimum_distance = at 27; single_width = at 28; single_width_cut_in = at 29; scale = at 31 }; last_pushed = at 32 };
     loop = words_at ws 16 f;
     rp0 = long 10 11;
@@ -78,8 +78,8 @@ module _ (bytes : List ℕ) (f : Bytes bytes) (l : Layout) where
   numbers : (first count : ℕ) → Numbers (numbers_of (part bytes first count))
   numbers first count = numbers_fit (part_fits bytes first count f)
 
-  fixed-fits : FixedInWidth (held_in bytes l).fixed
-  fixed-fits = record {
+  fixed_fits : FixedInWidth (held_in bytes l).fixed
+  fixed_fits = record {
     controls = numbers (list_place l 13) l.controls;
     gux = numbers (list_place l 0) l.points;
     guy = numbers (list_place l 1) l.points;
@@ -88,9 +88,9 @@ module _ (bytes : List ℕ) (f : Bytes bytes) (l : Layout) where
     contours = ends_fit (part bytes (list_place l 7) l.contours);
   }
 
-  world-fits : InWidth (held_in bytes l).world
-  world-fits = record {
-    state = state-fits (state_in bytes) (state_words_lem bytes f);
+  world_fits : InWidth (held_in bytes l).world
+  world_fits = record {
+    state = state_fits (state_in bytes) (state_words_lem bytes f);
     gx = numbers (list_place l 4) l.points;
     gy = numbers (list_place l 5) l.points;
     gflags = flags_fit (part bytes (list_place l 6) l.points);
@@ -102,7 +102,7 @@ module _ (bytes : List ℕ) (f : Bytes bytes) (l : Layout) where
   }
 
   held_fits : HeldInWidth (held_in bytes l)
-  held_fits = record { fixed = fixed-fits; sheet = numbers (list_place l 14) l.words; world = world-fits }
+  held_fits = record { fixed = fixed_fits; sheet = numbers (list_place l 14) l.words; world = world_fits }
 
 -- ---- over every byte string
 by_verdict : (bytes : List ℕ) → Bytes bytes → (o : Opened) (h : Held) → read_as bytes o ≡ Kept h → HeldInWidth h

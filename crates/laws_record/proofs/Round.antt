@@ -97,11 +97,11 @@ module _ (h : Held) (k : Keepable h) where
   abbrev bod : List ℕ
   bod = body_words h
 
-  abbrev sum-ws : List ℕ
-  sum-ws = wrapping_sum (bod ++ trailer_words lay) ∷ []
+  abbrev sum_ws : List ℕ
+  sum_ws = wrapping_sum (bod ++ trailer_words lay) ∷ []
 
-  body-long : length bod ≡ at_trailer lay
-  body-long =
+  body_long : length bod ≡ at_trailer lay
+  body_long =
       let cw = words_of_numbers h.fixed.controls in
       let sw = words_of_numbers h.sheet in
       let r : length (cw ++ sw) ≡ lay.controls + lay.words = joined_long cw sw (controls_long h k fit) (sheet_long h k fit) in
@@ -111,34 +111,34 @@ module _ (h : Held) (k : Keepable h) where
       joined_long (state_words h.world.state) (glyph_words h ++ (twilight_words h ++ (cw ++ sw))) (state_long h k fit) g in
       omega (arith, e, glyph_long h k fit, twilight_long h k fit)
 
-  framed-long : length (bod ++ trailer_words lay) ≡ at_trailer lay + 7
-  framed-long = joined_long bod (trailer_words lay) body-long refl
+  framed_long : length (bod ++ trailer_words lay) ≡ at_trailer lay + 7
+  framed_long = joined_long bod (trailer_words lay) body_long refl
 
-  all-long : length (words_of h) ≡ at_trailer lay + 7 + 1
-  all-long = joined_long (bod ++ trailer_words lay) sum-ws framed-long refl
+  all_long : length (words_of h) ≡ at_trailer lay + 7 + 1
+  all_long = joined_long (bod ++ trailer_words lay) sum_ws framed_long refl
 
-  bytes-long : length bs ≡ (at_trailer lay + 8) * 4
-  bytes-long = omega (arith, bytes_length (words_of h), all-long)
+  bytes_long : length bs ≡ (at_trailer lay + 8) * 4
+  bytes_long = omega (arith, bytes_length (words_of h), all_long)
 
   -- as many bytes as the layout says
   pub record_long : length (record_of h) ≡ record_size lay
   unfolding record_of
-  record_long = bytes-long
+  record_long = bytes_long
 
-  count-is : word_count bs ≡ at_trailer lay + 8
-  count-is = omega (arith, bytes-long)
+  count_is : word_count bs ≡ at_trailer lay + 8
+  count_is = omega (arith, bytes_long)
 
-  whole-lies : Lies bs 0 (words_of h)
-  whole-lies = lies_all (words_of h) fit
+  whole_lies : Lies bs 0 (words_of h)
+  whole_lies = lies_all (words_of h) fit
 
-  framed-lies : Lies bs 0 (bod ++ trailer_words lay)
-  framed-lies = lies_left bs 0 (bod ++ trailer_words lay) sum-ws whole-lies
+  framed_lies : Lies bs 0 (bod ++ trailer_words lay)
+  framed_lies = lies_left bs 0 (bod ++ trailer_words lay) sum_ws whole_lies
 
-  sum_lies : Lies bs (0 + length (bod ++ trailer_words lay)) sum-ws
-  sum_lies = lies_right bs 0 (bod ++ trailer_words lay) sum-ws whole-lies
+  sum_lies : Lies bs (0 + length (bod ++ trailer_words lay)) sum_ws
+  sum_lies = lies_right bs 0 (bod ++ trailer_words lay) sum_ws whole_lies
 
-  trailer-lies : Lies bs (0 + length bod) (trailer_words lay)
-  trailer-lies = lies_right bs 0 bod (trailer_words lay) framed-lies
+  trailer_lies : Lies bs (0 + length bod) (trailer_words lay)
+  trailer_lies = lies_right bs 0 bod (trailer_words lay) framed_lies
 
   place : (j p : ℕ) → word_count bs - 8 + j ≡ p → trailer_word bs j ≡ word bs p
   place j p e = ap (word bs) e
@@ -147,35 +147,35 @@ module _ (h : Held) (k : Keepable h) where
   t = 0 + length bod
 
   nth : (j : ℕ) → get_or (part bs t 7) j 0 ≡ get_or (trailer_words lay) j 0
-  nth j = ap (λ (xs : List ℕ). get_or xs j 0) trailer-lies
+  nth j = ap (λ (xs : List ℕ). get_or xs j 0) trailer_lies
 
-  edition-same : trailer_word bs 5 ≡ edition
-  edition-same = place 5 (suc (suc (suc (suc (suc t))))) (omega (arith, count-is, body-long)) ∙ nth 5
+  edition_same : trailer_word bs 5 ≡ edition
+  edition_same = place 5 (suc (suc (suc (suc (suc t))))) (omega (arith, count_is, body_long)) ∙ nth 5
 
   all_kept : kept_in bs ≡ state_size
-  all_kept = ap kept_by edition-same
+  all_kept = ap kept_by edition_same
 
-  layout-same : layout_of bs ≡ lay
-  layout-same =
-      let c = count-is in
-      let d = body-long in
+  layout_same : layout_of bs ≡ lay
+  layout_same =
+      let c = count_is in
+      let d = body_long in
       same_layout all_kept (place 0 t (omega (arith, c, d)) ∙ nth 0) (place 1 (suc t) (omega (arith, c, d)) ∙ nth 1) (place 2 (suc (suc t)) (omega (arith, c, d)) ∙ nth 2)
       (place 3 (suc (suc (suc t))) (omega (arith, c, d)) ∙ nth 3) (place 4 (suc (suc (suc (suc t)))) (omega (arith, c, d)) ∙ nth 4)
 
-  back-same : trailer_word bs 6 ≡ at_trailer lay * 4
-  back-same =
-      let e : trailer_word bs 6 ≡ at_trailer lay * 4 % 2 ^ 32 = place 6 (suc (suc (suc (suc (suc (suc t)))))) (omega (arith, count-is, body-long)) ∙ nth 6 in
+  back_same : trailer_word bs 6 ≡ at_trailer lay * 4
+  back_same =
+      let e : trailer_word bs 6 ≡ at_trailer lay * 4 % 2 ^ 32 = place 6 (suc (suc (suc (suc (suc (suc t)))))) (omega (arith, count_is, body_long)) ∙ nth 6 in
       omega (arith, e, k.short)
 
-  frame-holds : framed bs ≡ true
-  frame-holds =
-      both (both (both (eq-eqb (length bs % 4) 0 (omega (arith, bytes-long))) (le-leb trailer_size (word_count bs) (omega (arith, count-is)))) (ap counts_fit layout-same ∙ counts_fit_lem h k))
-      (ap (trailer_fits bs) layout-same
-      ∙ both (both (eq-eqb (at_trailer lay + trailer_size) (word_count bs) (sym count-is)) refl) (eq-eqb (trailer_word bs 6) (at_trailer lay * 4) back-same))
+  frame_holds : framed bs ≡ true
+  frame_holds =
+      both (both (both (eq-eqb (length bs % 4) 0 (omega (arith, bytes_long))) (le-leb trailer_size (word_count bs) (omega (arith, count_is)))) (ap counts_fit layout_same ∙ counts_fit_lem h k))
+      (ap (trailer_fits bs) layout_same
+      ∙ both (both (eq-eqb (at_trailer lay + trailer_size) (word_count bs) (sym count_is)) refl) (eq-eqb (trailer_word bs 6) (at_trailer lay * 4) back_same))
 
-  words-hold : words_fit bs (layout_of bs) ≡ true
-  words-hold =
-      ap (words_fit bs) layout-same
+  words_hold : words_fit bs (layout_of bs) ≡ true
+  words_hold =
+      ap (words_fit bs) layout_same
       ∙ both (both (both
       (ap is_state (state_same h k fit all_kept) ∙ state_is h.world.state)
       (ap (all_at_most 255) (lies_at bs h.world.gflags (list_place lay 6) lay.points (flags_at h k fit) (sym (flags_long h k fit)) (flags_lies h k fit)) ∙ flags_within k.widths.world.gflags))
@@ -184,17 +184,17 @@ module _ (h : Held) (k : Keepable h) where
 
   sum_holds : sum_fits bs ≡ true
   sum_holds =
-      let e : word_count bs - 1 ≡ length (bod ++ trailer_words lay) = omega (arith, count-is, framed-long) in
-      let p : word_count bs - 8 + 7 ≡ 0 + length (bod ++ trailer_words lay) = omega (arith, count-is, framed-long) in
+      let e : word_count bs - 1 ≡ length (bod ++ trailer_words lay) = omega (arith, count_is, framed_long) in
+      let p : word_count bs - 8 + 7 ≡ 0 + length (bod ++ trailer_words lay) = omega (arith, count_is, framed_long) in
       eq-eqb (wrapping_sum (part bs 0 (word_count bs - 1))) (trailer_word bs 7)
-      (ap wrapping_sum (ap (part bs 0) e ∙ framed-lies) ∙ sym (place 7 _ p ∙ ap (λ (xs : List ℕ). get_or xs 0 0) sum_lies))
+      (ap wrapping_sum (ap (part bs 0) e ∙ framed_lies) ∙ sym (place 7 _ p ∙ ap (λ (xs : List ℕ). get_or xs 0 0) sum_lies))
 
   opens : open_of bs ≡ Whole lay
   unfolding open_of
   opens =
-      ap (λ (x : Bool). verdict (layout_of bs) x (framed bs && words_fit bs (layout_of bs)) (sum_fits bs)) (le-leb (length bs) most_bytes (omega (arith, bytes-long, k.short)))
-      ∙ ap₂ (λ (x y : Bool). verdict (layout_of bs) true x y) (both frame-holds words-hold) sum_holds
-      ∙ ap Whole layout-same
+      ap (λ (x : Bool). verdict (layout_of bs) x (framed bs && words_fit bs (layout_of bs)) (sum_fits bs)) (le-leb (length bs) most_bytes (omega (arith, bytes_long, k.short)))
+      ∙ ap₂ (λ (x y : Bool). verdict (layout_of bs) true x y) (both frame_holds words_hold) sum_holds
+      ∙ ap Whole layout_same
 
   -- what is written reads back as written
   pub kept_as_written : read_of (record_of h) ≡ Kept h

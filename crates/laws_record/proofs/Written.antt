@@ -47,11 +47,11 @@ module _ (h : Held) (k : Keepable h) (fit : Words (words_of h)) where
   abbrev pub l : Layout
   l = layout_for h
 
-  abbrev pub state-ws : List ℕ
-  state-ws = state_words h.world.state
+  abbrev pub state_ws : List ℕ
+  state_ws = state_words h.world.state
 
-  abbrev pub rest-ws : List ℕ
-  rest-ws = words_of_numbers h.fixed.controls ++ (words_of_numbers h.sheet)
+  abbrev pub rest_ws : List ℕ
+  rest_ws = words_of_numbers h.fixed.controls ++ (words_of_numbers h.sheet)
 
   abbrev pub body : List ℕ
   body = body_words h
@@ -61,168 +61,168 @@ module _ (h : Held) (k : Keepable h) (fit : Words (words_of h)) where
       lies_left b 0 body (trailer_words l)
       (lies_left b 0 (body ++ trailer_words l) (wrapping_sum (body ++ trailer_words l) ∷ []) (lies_all (words_of h) fit))
 
-  pub state_lies : Lies b 0 state-ws
-  state_lies = lies_left b 0 state-ws (glyph_words h ++ (twilight_words h ++ rest-ws)) body_lies
+  pub state_lies : Lies b 0 state_ws
+  state_lies = lies_left b 0 state_ws (glyph_words h ++ (twilight_words h ++ rest_ws)) body_lies
 
   abbrev pub g0 : ℕ
-  g0 = 0 + length state-ws
+  g0 = 0 + length state_ws
 
-  after-state : Lies b g0 (glyph_words h ++ (twilight_words h ++ rest-ws))
-  after-state = lies_right b 0 state-ws (glyph_words h ++ (twilight_words h ++ rest-ws)) body_lies
+  after_state : Lies b g0 (glyph_words h ++ (twilight_words h ++ rest_ws))
+  after_state = lies_right b 0 state_ws (glyph_words h ++ (twilight_words h ++ rest_ws)) body_lies
 
-  glyph-lies : Lies b g0 (glyph_words h)
-  glyph-lies = lies_left b g0 (glyph_words h) (twilight_words h ++ rest-ws) after-state
+  glyph_lies : Lies b g0 (glyph_words h)
+  glyph_lies = lies_left b g0 (glyph_words h) (twilight_words h ++ rest_ws) after_state
 
   abbrev pub t0 : ℕ
   t0 = g0 + length (glyph_words h)
 
-  after-glyph : Lies b t0 (twilight_words h ++ rest-ws)
-  after-glyph = lies_right b g0 (glyph_words h) (twilight_words h ++ rest-ws) after-state
+  after_glyph : Lies b t0 (twilight_words h ++ rest_ws)
+  after_glyph = lies_right b g0 (glyph_words h) (twilight_words h ++ rest_ws) after_state
 
-  twilight-lies : Lies b t0 (twilight_words h)
-  twilight-lies = lies_left b t0 (twilight_words h) rest-ws after-glyph
+  twilight_lies : Lies b t0 (twilight_words h)
+  twilight_lies = lies_left b t0 (twilight_words h) rest_ws after_glyph
 
   abbrev pub r0 : ℕ
   r0 = t0 + length (twilight_words h)
 
-  rest-lies : Lies b r0 rest-ws
-  rest-lies = lies_right b t0 (twilight_words h) rest-ws after-glyph
+  rest_lies : Lies b r0 rest_ws
+  rest_lies = lies_right b t0 (twilight_words h) rest_ws after_glyph
 
-  unscaledX-lies : Lies b (g0) (words_of_numbers h.fixed.gux)
-  unscaledX-lies = lies_left b (g0) (words_of_numbers h.fixed.gux) (words_of_numbers h.fixed.guy ++ (words_of_numbers h.fixed.gox ++ (words_of_numbers h.fixed.goy ++ (words_of_numbers h.world.gx ++ (words_of_numbers h.world.gy ++ (h.world.gflags ++ h.fixed.contours)))))) glyph-lies
+  unscaled_x_lies : Lies b (g0) (words_of_numbers h.fixed.gux)
+  unscaled_x_lies = lies_left b (g0) (words_of_numbers h.fixed.gux) (words_of_numbers h.fixed.guy ++ (words_of_numbers h.fixed.gox ++ (words_of_numbers h.fixed.goy ++ (words_of_numbers h.world.gx ++ (words_of_numbers h.world.gy ++ (h.world.gflags ++ h.fixed.contours)))))) glyph_lies
 
   abbrev pub g1 : ℕ
   g1 = g0 + length (words_of_numbers h.fixed.gux)
 
-  unscaledX-rest : Lies b g1 (words_of_numbers h.fixed.guy ++ (words_of_numbers h.fixed.gox ++ (words_of_numbers h.fixed.goy ++ (words_of_numbers h.world.gx ++ (words_of_numbers h.world.gy ++ (h.world.gflags ++ h.fixed.contours))))))
-  unscaledX-rest = lies_right b (g0) (words_of_numbers h.fixed.gux) (words_of_numbers h.fixed.guy ++ (words_of_numbers h.fixed.gox ++ (words_of_numbers h.fixed.goy ++ (words_of_numbers h.world.gx ++ (words_of_numbers h.world.gy ++ (h.world.gflags ++ h.fixed.contours)))))) glyph-lies
+  unscaled_x_rest : Lies b g1 (words_of_numbers h.fixed.guy ++ (words_of_numbers h.fixed.gox ++ (words_of_numbers h.fixed.goy ++ (words_of_numbers h.world.gx ++ (words_of_numbers h.world.gy ++ (h.world.gflags ++ h.fixed.contours))))))
+  unscaled_x_rest = lies_right b (g0) (words_of_numbers h.fixed.gux) (words_of_numbers h.fixed.guy ++ (words_of_numbers h.fixed.gox ++ (words_of_numbers h.fixed.goy ++ (words_of_numbers h.world.gx ++ (words_of_numbers h.world.gy ++ (h.world.gflags ++ h.fixed.contours)))))) glyph_lies
 
-  unscaledY-lies : Lies b (g1) (words_of_numbers h.fixed.guy)
-  unscaledY-lies = lies_left b (g1) (words_of_numbers h.fixed.guy) (words_of_numbers h.fixed.gox ++ (words_of_numbers h.fixed.goy ++ (words_of_numbers h.world.gx ++ (words_of_numbers h.world.gy ++ (h.world.gflags ++ h.fixed.contours))))) unscaledX-rest
+  unscaled_y_lies : Lies b (g1) (words_of_numbers h.fixed.guy)
+  unscaled_y_lies = lies_left b (g1) (words_of_numbers h.fixed.guy) (words_of_numbers h.fixed.gox ++ (words_of_numbers h.fixed.goy ++ (words_of_numbers h.world.gx ++ (words_of_numbers h.world.gy ++ (h.world.gflags ++ h.fixed.contours))))) unscaled_x_rest
 
   abbrev pub g2 : ℕ
   g2 = g1 + length (words_of_numbers h.fixed.guy)
 
-  unscaledY-rest : Lies b g2 (words_of_numbers h.fixed.gox ++ (words_of_numbers h.fixed.goy ++ (words_of_numbers h.world.gx ++ (words_of_numbers h.world.gy ++ (h.world.gflags ++ h.fixed.contours)))))
-  unscaledY-rest = lies_right b (g1) (words_of_numbers h.fixed.guy) (words_of_numbers h.fixed.gox ++ (words_of_numbers h.fixed.goy ++ (words_of_numbers h.world.gx ++ (words_of_numbers h.world.gy ++ (h.world.gflags ++ h.fixed.contours))))) unscaledX-rest
+  unscaled_y_rest : Lies b g2 (words_of_numbers h.fixed.gox ++ (words_of_numbers h.fixed.goy ++ (words_of_numbers h.world.gx ++ (words_of_numbers h.world.gy ++ (h.world.gflags ++ h.fixed.contours)))))
+  unscaled_y_rest = lies_right b (g1) (words_of_numbers h.fixed.guy) (words_of_numbers h.fixed.gox ++ (words_of_numbers h.fixed.goy ++ (words_of_numbers h.world.gx ++ (words_of_numbers h.world.gy ++ (h.world.gflags ++ h.fixed.contours))))) unscaled_x_rest
 
-  originalX-lies : Lies b (g2) (words_of_numbers h.fixed.gox)
-  originalX-lies = lies_left b (g2) (words_of_numbers h.fixed.gox) (words_of_numbers h.fixed.goy ++ (words_of_numbers h.world.gx ++ (words_of_numbers h.world.gy ++ (h.world.gflags ++ h.fixed.contours)))) unscaledY-rest
+  original_x_lies : Lies b (g2) (words_of_numbers h.fixed.gox)
+  original_x_lies = lies_left b (g2) (words_of_numbers h.fixed.gox) (words_of_numbers h.fixed.goy ++ (words_of_numbers h.world.gx ++ (words_of_numbers h.world.gy ++ (h.world.gflags ++ h.fixed.contours)))) unscaled_y_rest
 
   abbrev pub g3 : ℕ
   g3 = g2 + length (words_of_numbers h.fixed.gox)
 
-  originalX-rest : Lies b g3 (words_of_numbers h.fixed.goy ++ (words_of_numbers h.world.gx ++ (words_of_numbers h.world.gy ++ (h.world.gflags ++ h.fixed.contours))))
-  originalX-rest = lies_right b (g2) (words_of_numbers h.fixed.gox) (words_of_numbers h.fixed.goy ++ (words_of_numbers h.world.gx ++ (words_of_numbers h.world.gy ++ (h.world.gflags ++ h.fixed.contours)))) unscaledY-rest
+  original_x_rest : Lies b g3 (words_of_numbers h.fixed.goy ++ (words_of_numbers h.world.gx ++ (words_of_numbers h.world.gy ++ (h.world.gflags ++ h.fixed.contours))))
+  original_x_rest = lies_right b (g2) (words_of_numbers h.fixed.gox) (words_of_numbers h.fixed.goy ++ (words_of_numbers h.world.gx ++ (words_of_numbers h.world.gy ++ (h.world.gflags ++ h.fixed.contours)))) unscaled_y_rest
 
-  originalY-lies : Lies b (g3) (words_of_numbers h.fixed.goy)
-  originalY-lies = lies_left b (g3) (words_of_numbers h.fixed.goy) (words_of_numbers h.world.gx ++ (words_of_numbers h.world.gy ++ (h.world.gflags ++ h.fixed.contours))) originalX-rest
+  original_y_lies : Lies b (g3) (words_of_numbers h.fixed.goy)
+  original_y_lies = lies_left b (g3) (words_of_numbers h.fixed.goy) (words_of_numbers h.world.gx ++ (words_of_numbers h.world.gy ++ (h.world.gflags ++ h.fixed.contours))) original_x_rest
 
   abbrev pub g4 : ℕ
   g4 = g3 + length (words_of_numbers h.fixed.goy)
 
-  originalY-rest : Lies b g4 (words_of_numbers h.world.gx ++ (words_of_numbers h.world.gy ++ (h.world.gflags ++ h.fixed.contours)))
-  originalY-rest = lies_right b (g3) (words_of_numbers h.fixed.goy) (words_of_numbers h.world.gx ++ (words_of_numbers h.world.gy ++ (h.world.gflags ++ h.fixed.contours))) originalX-rest
+  original_y_rest : Lies b g4 (words_of_numbers h.world.gx ++ (words_of_numbers h.world.gy ++ (h.world.gflags ++ h.fixed.contours)))
+  original_y_rest = lies_right b (g3) (words_of_numbers h.fixed.goy) (words_of_numbers h.world.gx ++ (words_of_numbers h.world.gy ++ (h.world.gflags ++ h.fixed.contours))) original_x_rest
 
-  currentX-lies : Lies b (g4) (words_of_numbers h.world.gx)
-  currentX-lies = lies_left b (g4) (words_of_numbers h.world.gx) (words_of_numbers h.world.gy ++ (h.world.gflags ++ h.fixed.contours)) originalY-rest
+  current_x_lies : Lies b (g4) (words_of_numbers h.world.gx)
+  current_x_lies = lies_left b (g4) (words_of_numbers h.world.gx) (words_of_numbers h.world.gy ++ (h.world.gflags ++ h.fixed.contours)) original_y_rest
 
   abbrev pub g5 : ℕ
   g5 = g4 + length (words_of_numbers h.world.gx)
 
-  currentX-rest : Lies b g5 (words_of_numbers h.world.gy ++ (h.world.gflags ++ h.fixed.contours))
-  currentX-rest = lies_right b (g4) (words_of_numbers h.world.gx) (words_of_numbers h.world.gy ++ (h.world.gflags ++ h.fixed.contours)) originalY-rest
+  current_x_rest : Lies b g5 (words_of_numbers h.world.gy ++ (h.world.gflags ++ h.fixed.contours))
+  current_x_rest = lies_right b (g4) (words_of_numbers h.world.gx) (words_of_numbers h.world.gy ++ (h.world.gflags ++ h.fixed.contours)) original_y_rest
 
-  currentY-lies : Lies b (g5) (words_of_numbers h.world.gy)
-  currentY-lies = lies_left b (g5) (words_of_numbers h.world.gy) (h.world.gflags ++ h.fixed.contours) currentX-rest
+  current_y_lies : Lies b (g5) (words_of_numbers h.world.gy)
+  current_y_lies = lies_left b (g5) (words_of_numbers h.world.gy) (h.world.gflags ++ h.fixed.contours) current_x_rest
 
   abbrev pub g6 : ℕ
   g6 = g5 + length (words_of_numbers h.world.gy)
 
-  currentY-rest : Lies b g6 (h.world.gflags ++ h.fixed.contours)
-  currentY-rest = lies_right b (g5) (words_of_numbers h.world.gy) (h.world.gflags ++ h.fixed.contours) currentX-rest
+  current_y_rest : Lies b g6 (h.world.gflags ++ h.fixed.contours)
+  current_y_rest = lies_right b (g5) (words_of_numbers h.world.gy) (h.world.gflags ++ h.fixed.contours) current_x_rest
 
   pub flags_lies : Lies b (g6) h.world.gflags
-  flags_lies = lies_left b (g6) h.world.gflags h.fixed.contours currentY-rest
+  flags_lies = lies_left b (g6) h.world.gflags h.fixed.contours current_y_rest
 
   abbrev pub g7 : ℕ
   g7 = g6 + length h.world.gflags
 
-  flags-rest : Lies b g7 h.fixed.contours
-  flags-rest = lies_right b (g6) h.world.gflags h.fixed.contours currentY-rest
+  flags_rest : Lies b g7 h.fixed.contours
+  flags_rest = lies_right b (g6) h.world.gflags h.fixed.contours current_y_rest
 
   pub ends_lies : Lies b (g7) h.fixed.contours
-  ends_lies = flags-rest
+  ends_lies = flags_rest
 
-  twilightOriginalX-lies : Lies b (t0) (words_of_numbers h.world.tox)
-  twilightOriginalX-lies = lies_left b (t0) (words_of_numbers h.world.tox) (words_of_numbers h.world.toy ++ (words_of_numbers h.world.tx ++ (words_of_numbers h.world.ty ++ h.world.tflags))) twilight-lies
+  twilight_original_x_lies : Lies b (t0) (words_of_numbers h.world.tox)
+  twilight_original_x_lies = lies_left b (t0) (words_of_numbers h.world.tox) (words_of_numbers h.world.toy ++ (words_of_numbers h.world.tx ++ (words_of_numbers h.world.ty ++ h.world.tflags))) twilight_lies
 
   abbrev pub t1 : ℕ
   t1 = t0 + length (words_of_numbers h.world.tox)
 
-  twilightOriginalX-rest : Lies b t1 (words_of_numbers h.world.toy ++ (words_of_numbers h.world.tx ++ (words_of_numbers h.world.ty ++ h.world.tflags)))
-  twilightOriginalX-rest = lies_right b (t0) (words_of_numbers h.world.tox) (words_of_numbers h.world.toy ++ (words_of_numbers h.world.tx ++ (words_of_numbers h.world.ty ++ h.world.tflags))) twilight-lies
+  twilight_original_x_rest : Lies b t1 (words_of_numbers h.world.toy ++ (words_of_numbers h.world.tx ++ (words_of_numbers h.world.ty ++ h.world.tflags)))
+  twilight_original_x_rest = lies_right b (t0) (words_of_numbers h.world.tox) (words_of_numbers h.world.toy ++ (words_of_numbers h.world.tx ++ (words_of_numbers h.world.ty ++ h.world.tflags))) twilight_lies
 
-  twilightOriginalY-lies : Lies b (t1) (words_of_numbers h.world.toy)
-  twilightOriginalY-lies = lies_left b (t1) (words_of_numbers h.world.toy) (words_of_numbers h.world.tx ++ (words_of_numbers h.world.ty ++ h.world.tflags)) twilightOriginalX-rest
+  twilight_original_y_lies : Lies b (t1) (words_of_numbers h.world.toy)
+  twilight_original_y_lies = lies_left b (t1) (words_of_numbers h.world.toy) (words_of_numbers h.world.tx ++ (words_of_numbers h.world.ty ++ h.world.tflags)) twilight_original_x_rest
 
   abbrev pub t2 : ℕ
   t2 = t1 + length (words_of_numbers h.world.toy)
 
-  twilightOriginalY-rest : Lies b t2 (words_of_numbers h.world.tx ++ (words_of_numbers h.world.ty ++ h.world.tflags))
-  twilightOriginalY-rest = lies_right b (t1) (words_of_numbers h.world.toy) (words_of_numbers h.world.tx ++ (words_of_numbers h.world.ty ++ h.world.tflags)) twilightOriginalX-rest
+  twilight_original_y_rest : Lies b t2 (words_of_numbers h.world.tx ++ (words_of_numbers h.world.ty ++ h.world.tflags))
+  twilight_original_y_rest = lies_right b (t1) (words_of_numbers h.world.toy) (words_of_numbers h.world.tx ++ (words_of_numbers h.world.ty ++ h.world.tflags)) twilight_original_x_rest
 
-  twilightX-lies : Lies b (t2) (words_of_numbers h.world.tx)
-  twilightX-lies = lies_left b (t2) (words_of_numbers h.world.tx) (words_of_numbers h.world.ty ++ h.world.tflags) twilightOriginalY-rest
+  twilight_x_lies : Lies b (t2) (words_of_numbers h.world.tx)
+  twilight_x_lies = lies_left b (t2) (words_of_numbers h.world.tx) (words_of_numbers h.world.ty ++ h.world.tflags) twilight_original_y_rest
 
   abbrev pub t3 : ℕ
   t3 = t2 + length (words_of_numbers h.world.tx)
 
-  twilightX-rest : Lies b t3 (words_of_numbers h.world.ty ++ h.world.tflags)
-  twilightX-rest = lies_right b (t2) (words_of_numbers h.world.tx) (words_of_numbers h.world.ty ++ h.world.tflags) twilightOriginalY-rest
+  twilight_x_rest : Lies b t3 (words_of_numbers h.world.ty ++ h.world.tflags)
+  twilight_x_rest = lies_right b (t2) (words_of_numbers h.world.tx) (words_of_numbers h.world.ty ++ h.world.tflags) twilight_original_y_rest
 
-  twilightY-lies : Lies b (t3) (words_of_numbers h.world.ty)
-  twilightY-lies = lies_left b (t3) (words_of_numbers h.world.ty) h.world.tflags twilightX-rest
+  twilight_y_lies : Lies b (t3) (words_of_numbers h.world.ty)
+  twilight_y_lies = lies_left b (t3) (words_of_numbers h.world.ty) h.world.tflags twilight_x_rest
 
   abbrev pub t4 : ℕ
   t4 = t3 + length (words_of_numbers h.world.ty)
 
-  twilightY-rest : Lies b t4 h.world.tflags
-  twilightY-rest = lies_right b (t3) (words_of_numbers h.world.ty) h.world.tflags twilightX-rest
+  twilight_y_rest : Lies b t4 h.world.tflags
+  twilight_y_rest = lies_right b (t3) (words_of_numbers h.world.ty) h.world.tflags twilight_x_rest
 
   pub twilight_flags_lies : Lies b (t4) h.world.tflags
-  twilight_flags_lies = twilightY-rest
+  twilight_flags_lies = twilight_y_rest
 
   pub controls_lies : Lies b (r0) (words_of_numbers h.fixed.controls)
-  controls_lies = lies_left b (r0) (words_of_numbers h.fixed.controls) (words_of_numbers h.sheet) rest-lies
+  controls_lies = lies_left b (r0) (words_of_numbers h.fixed.controls) (words_of_numbers h.sheet) rest_lies
 
   abbrev pub r1 : ℕ
   r1 = r0 + length (words_of_numbers h.fixed.controls)
 
-  controls-rest : Lies b r1 (words_of_numbers h.sheet)
-  controls-rest = lies_right b (r0) (words_of_numbers h.fixed.controls) (words_of_numbers h.sheet) rest-lies
+  controls_rest : Lies b r1 (words_of_numbers h.sheet)
+  controls_rest = lies_right b (r0) (words_of_numbers h.fixed.controls) (words_of_numbers h.sheet) rest_lies
 
   pub sheet_lies : Lies b (r1) (words_of_numbers h.sheet)
-  sheet_lies = controls-rest
+  sheet_lies = controls_rest
 
   -- how long each list is, as words
-  unscaledX-long : length (words_of_numbers h.fixed.gux) ≡ l.points
-  unscaledX-long = number_count h.fixed.gux ∙ alike.0
+  unscaled_x_long : length (words_of_numbers h.fixed.gux) ≡ l.points
+  unscaled_x_long = number_count h.fixed.gux ∙ alike.0
 
-  unscaledY-long : length (words_of_numbers h.fixed.guy) ≡ l.points
-  unscaledY-long = number_count h.fixed.guy ∙ alike.1
+  unscaled_y_long : length (words_of_numbers h.fixed.guy) ≡ l.points
+  unscaled_y_long = number_count h.fixed.guy ∙ alike.1
 
-  originalX-long : length (words_of_numbers h.fixed.gox) ≡ l.points
-  originalX-long = number_count h.fixed.gox ∙ alike.2
+  original_x_long : length (words_of_numbers h.fixed.gox) ≡ l.points
+  original_x_long = number_count h.fixed.gox ∙ alike.2
 
-  originalY-long : length (words_of_numbers h.fixed.goy) ≡ l.points
-  originalY-long = number_count h.fixed.goy ∙ alike.3
+  original_y_long : length (words_of_numbers h.fixed.goy) ≡ l.points
+  original_y_long = number_count h.fixed.goy ∙ alike.3
 
-  currentX-long : length (words_of_numbers h.world.gx) ≡ l.points
-  currentX-long = number_count h.world.gx
+  current_x_long : length (words_of_numbers h.world.gx) ≡ l.points
+  current_x_long = number_count h.world.gx
 
-  currentY-long : length (words_of_numbers h.world.gy) ≡ l.points
-  currentY-long = number_count h.world.gy ∙ alike.4
+  current_y_long : length (words_of_numbers h.world.gy) ≡ l.points
+  current_y_long = number_count h.world.gy ∙ alike.4
 
   pub flags_long : length h.world.gflags ≡ l.points
   flags_long = alike.5
@@ -230,17 +230,17 @@ module _ (h : Held) (k : Keepable h) (fit : Words (words_of h)) where
   pub ends_long : length h.fixed.contours ≡ l.contours
   ends_long = refl
 
-  twilightOriginalX-long : length (words_of_numbers h.world.tox) ≡ l.twilight
-  twilightOriginalX-long = number_count h.world.tox ∙ twilight_alike
+  twilight_original_x_long : length (words_of_numbers h.world.tox) ≡ l.twilight
+  twilight_original_x_long = number_count h.world.tox ∙ twilight_alike
 
-  twilightOriginalY-long : length (words_of_numbers h.world.toy) ≡ l.twilight
-  twilightOriginalY-long = number_count h.world.toy ∙ alike.6 ∙ twilight_alike
+  twilight_original_y_long : length (words_of_numbers h.world.toy) ≡ l.twilight
+  twilight_original_y_long = number_count h.world.toy ∙ alike.6 ∙ twilight_alike
 
-  twilightX-long : length (words_of_numbers h.world.tx) ≡ l.twilight
-  twilightX-long = number_count h.world.tx
+  twilight_x_long : length (words_of_numbers h.world.tx) ≡ l.twilight
+  twilight_x_long = number_count h.world.tx
 
-  twilightY-long : length (words_of_numbers h.world.ty) ≡ l.twilight
-  twilightY-long = number_count h.world.ty ∙ alike.7
+  twilight_y_long : length (words_of_numbers h.world.ty) ≡ l.twilight
+  twilight_y_long = number_count h.world.ty ∙ alike.7
 
   pub twilight_flags_long : length h.world.tflags ≡ l.twilight
   twilight_flags_long = alike.8
@@ -252,79 +252,79 @@ module _ (h : Held) (k : Keepable h) (fit : Words (words_of h)) where
   sheet_long = number_count h.sheet
 
   -- where each list begins
-  pub state_long : length state-ws ≡ state_size
+  pub state_long : length state_ws ≡ state_size
   state_long = state_count h.world.state
 
   pub glyph_long : length (glyph_words h) ≡ l.points + (l.points + (l.points + (l.points + (l.points + (l.points + (l.points + l.contours))))))
   glyph_long =
-      joined_long (words_of_numbers h.fixed.gux) (words_of_numbers h.fixed.guy ++ (words_of_numbers h.fixed.gox ++ (words_of_numbers h.fixed.goy ++ (words_of_numbers h.world.gx ++ (words_of_numbers h.world.gy ++ (h.world.gflags ++ h.fixed.contours)))))) unscaledX-long (joined_long (words_of_numbers h.fixed.guy) (words_of_numbers h.fixed.gox ++ (words_of_numbers h.fixed.goy ++ (words_of_numbers h.world.gx ++ (words_of_numbers h.world.gy ++ (h.world.gflags ++ h.fixed.contours))))) unscaledY-long (joined_long (words_of_numbers h.fixed.gox) (words_of_numbers h.fixed.goy ++ (words_of_numbers h.world.gx ++ (words_of_numbers h.world.gy ++ (h.world.gflags ++ h.fixed.contours)))) originalX-long (joined_long (words_of_numbers h.fixed.goy) (words_of_numbers h.world.gx ++ (words_of_numbers h.world.gy ++ (h.world.gflags ++ h.fixed.contours))) originalY-long (joined_long (words_of_numbers h.world.gx) (words_of_numbers h.world.gy ++ (h.world.gflags ++ h.fixed.contours)) currentX-long (joined_long (words_of_numbers h.world.gy) (h.world.gflags ++ h.fixed.contours) currentY-long (joined_long h.world.gflags h.fixed.contours flags_long ends_long))))))
+      joined_long (words_of_numbers h.fixed.gux) (words_of_numbers h.fixed.guy ++ (words_of_numbers h.fixed.gox ++ (words_of_numbers h.fixed.goy ++ (words_of_numbers h.world.gx ++ (words_of_numbers h.world.gy ++ (h.world.gflags ++ h.fixed.contours)))))) unscaled_x_long (joined_long (words_of_numbers h.fixed.guy) (words_of_numbers h.fixed.gox ++ (words_of_numbers h.fixed.goy ++ (words_of_numbers h.world.gx ++ (words_of_numbers h.world.gy ++ (h.world.gflags ++ h.fixed.contours))))) unscaled_y_long (joined_long (words_of_numbers h.fixed.gox) (words_of_numbers h.fixed.goy ++ (words_of_numbers h.world.gx ++ (words_of_numbers h.world.gy ++ (h.world.gflags ++ h.fixed.contours)))) original_x_long (joined_long (words_of_numbers h.fixed.goy) (words_of_numbers h.world.gx ++ (words_of_numbers h.world.gy ++ (h.world.gflags ++ h.fixed.contours))) original_y_long (joined_long (words_of_numbers h.world.gx) (words_of_numbers h.world.gy ++ (h.world.gflags ++ h.fixed.contours)) current_x_long (joined_long (words_of_numbers h.world.gy) (h.world.gflags ++ h.fixed.contours) current_y_long (joined_long h.world.gflags h.fixed.contours flags_long ends_long))))))
 
   pub twilight_long : length (twilight_words h) ≡ l.twilight + (l.twilight + (l.twilight + (l.twilight + l.twilight)))
-  twilight_long = joined_long (words_of_numbers h.world.tox) (words_of_numbers h.world.toy ++ (words_of_numbers h.world.tx ++ (words_of_numbers h.world.ty ++ h.world.tflags))) twilightOriginalX-long (joined_long (words_of_numbers h.world.toy) (words_of_numbers h.world.tx ++ (words_of_numbers h.world.ty ++ h.world.tflags)) twilightOriginalY-long (joined_long (words_of_numbers h.world.tx) (words_of_numbers h.world.ty ++ h.world.tflags) twilightX-long (joined_long (words_of_numbers h.world.ty) h.world.tflags twilightY-long twilight_flags_long)))
+  twilight_long = joined_long (words_of_numbers h.world.tox) (words_of_numbers h.world.toy ++ (words_of_numbers h.world.tx ++ (words_of_numbers h.world.ty ++ h.world.tflags))) twilight_original_x_long (joined_long (words_of_numbers h.world.toy) (words_of_numbers h.world.tx ++ (words_of_numbers h.world.ty ++ h.world.tflags)) twilight_original_y_long (joined_long (words_of_numbers h.world.tx) (words_of_numbers h.world.ty ++ h.world.tflags) twilight_x_long (joined_long (words_of_numbers h.world.ty) h.world.tflags twilight_y_long twilight_flags_long)))
 
-  unscaledX-at : list_place l 0 ≡ g0
-  unscaledX-at = omega (arith, state_long)
+  unscaled_x_at : list_place l 0 ≡ g0
+  unscaled_x_at = omega (arith, state_long)
 
-  unscaledY-at : list_place l 1 ≡ g1
-  unscaledY-at = omega (arith, unscaledX-at, unscaledX-long)
+  unscaled_y_at : list_place l 1 ≡ g1
+  unscaled_y_at = omega (arith, unscaled_x_at, unscaled_x_long)
 
-  originalX-at : list_place l 2 ≡ g2
-  originalX-at = omega (arith, unscaledY-at, unscaledY-long)
+  original_x_at : list_place l 2 ≡ g2
+  original_x_at = omega (arith, unscaled_y_at, unscaled_y_long)
 
-  originalY-at : list_place l 3 ≡ g3
-  originalY-at = omega (arith, originalX-at, originalX-long)
+  original_y_at : list_place l 3 ≡ g3
+  original_y_at = omega (arith, original_x_at, original_x_long)
 
-  currentX-at : list_place l 4 ≡ g4
-  currentX-at = omega (arith, originalY-at, originalY-long)
+  current_x_at : list_place l 4 ≡ g4
+  current_x_at = omega (arith, original_y_at, original_y_long)
 
-  currentY-at : list_place l 5 ≡ g5
-  currentY-at = omega (arith, currentX-at, currentX-long)
+  current_y_at : list_place l 5 ≡ g5
+  current_y_at = omega (arith, current_x_at, current_x_long)
 
   pub flags_at : list_place l 6 ≡ g6
-  flags_at = omega (arith, currentY-at, currentY-long)
+  flags_at = omega (arith, current_y_at, current_y_long)
 
   pub ends_at : list_place l 7 ≡ g7
   ends_at = omega (arith, flags_at, flags_long)
 
-  twilightOriginalX-at : list_place l 8 ≡ t0
-  twilightOriginalX-at = omega (arith, unscaledX-at, state_long, glyph_long)
+  twilight_original_x_at : list_place l 8 ≡ t0
+  twilight_original_x_at = omega (arith, unscaled_x_at, state_long, glyph_long)
 
-  twilightOriginalY-at : list_place l 9 ≡ t1
-  twilightOriginalY-at = omega (arith, twilightOriginalX-at, twilightOriginalX-long)
+  twilight_original_y_at : list_place l 9 ≡ t1
+  twilight_original_y_at = omega (arith, twilight_original_x_at, twilight_original_x_long)
 
-  twilightX-at : list_place l 10 ≡ t2
-  twilightX-at = omega (arith, twilightOriginalY-at, twilightOriginalY-long)
+  twilight_x_at : list_place l 10 ≡ t2
+  twilight_x_at = omega (arith, twilight_original_y_at, twilight_original_y_long)
 
-  twilightY-at : list_place l 11 ≡ t3
-  twilightY-at = omega (arith, twilightX-at, twilightX-long)
+  twilight_y_at : list_place l 11 ≡ t3
+  twilight_y_at = omega (arith, twilight_x_at, twilight_x_long)
 
   pub twilight_flags_at : list_place l 12 ≡ t4
-  twilight_flags_at = omega (arith, twilightY-at, twilightY-long)
+  twilight_flags_at = omega (arith, twilight_y_at, twilight_y_long)
 
   pub controls_at : list_place l 13 ≡ r0
-  controls_at = omega (arith, twilightOriginalX-at, twilight_long)
+  controls_at = omega (arith, twilight_original_x_at, twilight_long)
 
   pub sheet_at : list_place l 14 ≡ r1
   sheet_at = omega (arith, controls_at, controls_long)
 
   -- what is read there
-  unscaledX-read : numbers_of (part b (list_place l 0) l.points) ≡ h.fixed.gux
-  unscaledX-read = ap numbers_of (lies_at b (words_of_numbers h.fixed.gux) (list_place l 0) l.points unscaledX-at (sym unscaledX-long) unscaledX-lies) ∙ numbers_read k.widths.fixed.gux
+  unscaled_x_read : numbers_of (part b (list_place l 0) l.points) ≡ h.fixed.gux
+  unscaled_x_read = ap numbers_of (lies_at b (words_of_numbers h.fixed.gux) (list_place l 0) l.points unscaled_x_at (sym unscaled_x_long) unscaled_x_lies) ∙ numbers_read k.widths.fixed.gux
 
-  unscaledY-read : numbers_of (part b (list_place l 1) l.points) ≡ h.fixed.guy
-  unscaledY-read = ap numbers_of (lies_at b (words_of_numbers h.fixed.guy) (list_place l 1) l.points unscaledY-at (sym unscaledY-long) unscaledY-lies) ∙ numbers_read k.widths.fixed.guy
+  unscaled_y_read : numbers_of (part b (list_place l 1) l.points) ≡ h.fixed.guy
+  unscaled_y_read = ap numbers_of (lies_at b (words_of_numbers h.fixed.guy) (list_place l 1) l.points unscaled_y_at (sym unscaled_y_long) unscaled_y_lies) ∙ numbers_read k.widths.fixed.guy
 
-  originalX-read : numbers_of (part b (list_place l 2) l.points) ≡ h.fixed.gox
-  originalX-read = ap numbers_of (lies_at b (words_of_numbers h.fixed.gox) (list_place l 2) l.points originalX-at (sym originalX-long) originalX-lies) ∙ numbers_read k.widths.fixed.gox
+  original_x_read : numbers_of (part b (list_place l 2) l.points) ≡ h.fixed.gox
+  original_x_read = ap numbers_of (lies_at b (words_of_numbers h.fixed.gox) (list_place l 2) l.points original_x_at (sym original_x_long) original_x_lies) ∙ numbers_read k.widths.fixed.gox
 
-  originalY-read : numbers_of (part b (list_place l 3) l.points) ≡ h.fixed.goy
-  originalY-read = ap numbers_of (lies_at b (words_of_numbers h.fixed.goy) (list_place l 3) l.points originalY-at (sym originalY-long) originalY-lies) ∙ numbers_read k.widths.fixed.goy
+  original_y_read : numbers_of (part b (list_place l 3) l.points) ≡ h.fixed.goy
+  original_y_read = ap numbers_of (lies_at b (words_of_numbers h.fixed.goy) (list_place l 3) l.points original_y_at (sym original_y_long) original_y_lies) ∙ numbers_read k.widths.fixed.goy
 
-  currentX-read : numbers_of (part b (list_place l 4) l.points) ≡ h.world.gx
-  currentX-read = ap numbers_of (lies_at b (words_of_numbers h.world.gx) (list_place l 4) l.points currentX-at (sym currentX-long) currentX-lies) ∙ numbers_read k.widths.world.gx
+  current_x_read : numbers_of (part b (list_place l 4) l.points) ≡ h.world.gx
+  current_x_read = ap numbers_of (lies_at b (words_of_numbers h.world.gx) (list_place l 4) l.points current_x_at (sym current_x_long) current_x_lies) ∙ numbers_read k.widths.world.gx
 
-  currentY-read : numbers_of (part b (list_place l 5) l.points) ≡ h.world.gy
-  currentY-read = ap numbers_of (lies_at b (words_of_numbers h.world.gy) (list_place l 5) l.points currentY-at (sym currentY-long) currentY-lies) ∙ numbers_read k.widths.world.gy
+  current_y_read : numbers_of (part b (list_place l 5) l.points) ≡ h.world.gy
+  current_y_read = ap numbers_of (lies_at b (words_of_numbers h.world.gy) (list_place l 5) l.points current_y_at (sym current_y_long) current_y_lies) ∙ numbers_read k.widths.world.gy
 
   flags_read : flags_of (part b (list_place l 6) l.points) ≡ h.world.gflags
   flags_read = ap flags_of (lies_at b h.world.gflags (list_place l 6) l.points flags_at (sym flags_long) flags_lies) ∙ all-flags-read k.widths.world.gflags
@@ -332,39 +332,39 @@ module _ (h : Held) (k : Keepable h) (fit : Words (words_of h)) where
   ends_read : ends_of (part b (list_place l 7) l.contours) ≡ h.fixed.contours
   ends_read = ap ends_of (lies_at b h.fixed.contours (list_place l 7) l.contours ends_at (sym ends_long) ends_lies) ∙ all-ends-read k.widths.fixed.contours
 
-  twilightOriginalX-read : numbers_of (part b (list_place l 8) l.twilight) ≡ h.world.tox
-  twilightOriginalX-read = ap numbers_of (lies_at b (words_of_numbers h.world.tox) (list_place l 8) l.twilight twilightOriginalX-at (sym twilightOriginalX-long) twilightOriginalX-lies) ∙ numbers_read k.widths.world.tox
+  twilight_original_x_read : numbers_of (part b (list_place l 8) l.twilight) ≡ h.world.tox
+  twilight_original_x_read = ap numbers_of (lies_at b (words_of_numbers h.world.tox) (list_place l 8) l.twilight twilight_original_x_at (sym twilight_original_x_long) twilight_original_x_lies) ∙ numbers_read k.widths.world.tox
 
-  twilightOriginalY-read : numbers_of (part b (list_place l 9) l.twilight) ≡ h.world.toy
-  twilightOriginalY-read = ap numbers_of (lies_at b (words_of_numbers h.world.toy) (list_place l 9) l.twilight twilightOriginalY-at (sym twilightOriginalY-long) twilightOriginalY-lies) ∙ numbers_read k.widths.world.toy
+  twilight_original_y_read : numbers_of (part b (list_place l 9) l.twilight) ≡ h.world.toy
+  twilight_original_y_read = ap numbers_of (lies_at b (words_of_numbers h.world.toy) (list_place l 9) l.twilight twilight_original_y_at (sym twilight_original_y_long) twilight_original_y_lies) ∙ numbers_read k.widths.world.toy
 
-  twilightX-read : numbers_of (part b (list_place l 10) l.twilight) ≡ h.world.tx
-  twilightX-read = ap numbers_of (lies_at b (words_of_numbers h.world.tx) (list_place l 10) l.twilight twilightX-at (sym twilightX-long) twilightX-lies) ∙ numbers_read k.widths.world.tx
+  twilight_x_read : numbers_of (part b (list_place l 10) l.twilight) ≡ h.world.tx
+  twilight_x_read = ap numbers_of (lies_at b (words_of_numbers h.world.tx) (list_place l 10) l.twilight twilight_x_at (sym twilight_x_long) twilight_x_lies) ∙ numbers_read k.widths.world.tx
 
-  twilightY-read : numbers_of (part b (list_place l 11) l.twilight) ≡ h.world.ty
-  twilightY-read = ap numbers_of (lies_at b (words_of_numbers h.world.ty) (list_place l 11) l.twilight twilightY-at (sym twilightY-long) twilightY-lies) ∙ numbers_read k.widths.world.ty
+  twilight_y_read : numbers_of (part b (list_place l 11) l.twilight) ≡ h.world.ty
+  twilight_y_read = ap numbers_of (lies_at b (words_of_numbers h.world.ty) (list_place l 11) l.twilight twilight_y_at (sym twilight_y_long) twilight_y_lies) ∙ numbers_read k.widths.world.ty
 
-  twilightFlags-read : flags_of (part b (list_place l 12) l.twilight) ≡ h.world.tflags
-  twilightFlags-read = ap flags_of (lies_at b h.world.tflags (list_place l 12) l.twilight twilight_flags_at (sym twilight_flags_long) twilight_flags_lies) ∙ all-flags-read k.widths.world.tflags
+  twilight_flags_read : flags_of (part b (list_place l 12) l.twilight) ≡ h.world.tflags
+  twilight_flags_read = ap flags_of (lies_at b h.world.tflags (list_place l 12) l.twilight twilight_flags_at (sym twilight_flags_long) twilight_flags_lies) ∙ all-flags-read k.widths.world.tflags
 
-  controls-read : numbers_of (part b (list_place l 13) l.controls) ≡ h.fixed.controls
-  controls-read = ap numbers_of (lies_at b (words_of_numbers h.fixed.controls) (list_place l 13) l.controls controls_at (sym controls_long) controls_lies) ∙ numbers_read k.widths.fixed.controls
+  controls_read : numbers_of (part b (list_place l 13) l.controls) ≡ h.fixed.controls
+  controls_read = ap numbers_of (lies_at b (words_of_numbers h.fixed.controls) (list_place l 13) l.controls controls_at (sym controls_long) controls_lies) ∙ numbers_read k.widths.fixed.controls
 
-  sheet-read : numbers_of (part b (list_place l 14) l.words) ≡ h.sheet
-  sheet-read = ap numbers_of (lies_at b (words_of_numbers h.sheet) (list_place l 14) l.words sheet_at (sym sheet_long) sheet_lies) ∙ numbers_read k.widths.sheet
+  sheet_read : numbers_of (part b (list_place l 14) l.words) ≡ h.sheet
+  sheet_read = ap numbers_of (lies_at b (words_of_numbers h.sheet) (list_place l 14) l.words sheet_at (sym sheet_long) sheet_lies) ∙ numbers_read k.widths.sheet
 
   -- the state, where all its words are kept
   module _ (all_kept : kept_in b ≡ state_size) where
-    pub state_same : state_in b ≡ state-ws
+    pub state_same : state_in b ≡ state_ws
     unfolding state_words
     state_same =
         ap (λ (n : ℕ). part b 0 n ++ drop n (state_words fresh_state)) all_kept
         ∙ append-nil (part b 0 state_size)
-        ∙ lies_at b state-ws 0 state_size refl (sym state_long) state_lies
+        ∙ lies_at b state_ws 0 state_size refl (sym state_long) state_lies
 
-    state-read : state_of (state_in b) ≡ h.world.state
-    state-read = ap state_of state_same ∙ read_written h.world.state k.widths.world.state.signed
+    state_read : state_of (state_in b) ≡ h.world.state
+    state_read = ap state_of state_same ∙ read_written h.world.state k.widths.world.state.signed
 
     -- the state and every list stand where the layout says
     pub read_as_written : held_in b (layout_for h) ≡ h
-    read_as_written = same_held (sym k.rules) state-read unscaledX-read unscaledY-read originalX-read originalY-read currentX-read currentY-read flags_read ends_read twilightOriginalX-read twilightOriginalY-read twilightX-read twilightY-read twilightFlags-read controls-read sheet-read
+    read_as_written = same_held (sym k.rules) state_read unscaled_x_read unscaled_y_read original_x_read original_y_read current_x_read current_y_read flags_read ends_read twilight_original_x_read twilight_original_y_read twilight_x_read twilight_y_read twilight_flags_read controls_read sheet_read

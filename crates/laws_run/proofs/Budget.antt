@@ -132,8 +132,8 @@ module _ (f : Fixed) (sheet : List ℤ) (a b start : ℕ) (w : World) where
   tests = entered f sheet start w
 
   -- the second run is entered because the first was
-  entered-again : tests ≡ Done → run_of f sheet b first.place first.world ≡ replay_of f sheet b 0 first.place first.world
-  entered-again told =
+  entered_again : tests ≡ Done → run_of f sheet b first.place first.world ≡ replay_of f sheet b 0 first.place first.world
+  entered_again told =
       let kept = run_keeps f sheet a start w in
       let passed = entered_by f sheet start w told in
       entry_of_all f sheet b first.place first.world
@@ -144,27 +144,27 @@ module _ (f : Fixed) (sheet : List ℤ) (a b start : ℕ) (w : World) where
         starts = run_place f sheet a start w passed.starts;
       })
 
-  two-entered : tests ≡ Done → first.answer ≡ OutOfBudget
+  two_entered : tests ≡ Done → first.answer ≡ OutOfBudget
       → run_of f sheet (a + b) start w ≡ counted first.lines (run_of f sheet b first.place first.world)
-  two-entered told e =
+  two_entered told e =
       let is : replay_of f sheet a 0 start w ≡ first = run_entered f sheet a start w refl told in
       sym (run_entered f sheet (a + b) start w refl told)
       ∙ two_replays f sheet a b start w (ap (λ (r : Ran). r.answer) is ∙ e)
       ∙ ap (λ (r : Ran). counted r.lines (replay_of f sheet b 0 r.place r.world)) is
-      ∙ ap (counted first.lines) (sym (entered-again told))
+      ∙ ap (counted first.lines) (sym (entered_again told))
 
-  two-by : (begun : Call) → tests ≡ begun → first.answer ≡ OutOfBudget
+  two_by : (begun : Call) → tests ≡ begun → first.answer ≡ OutOfBudget
       → run_of f sheet (a + b) start w ≡ counted first.lines (run_of f sheet b first.place first.world)
-  two-by Done told e = two-entered told e
-  two-by (RefusedCall why) told e = refused_otherwise why _ _ (ap (λ (r : Ran). r.answer) (not_entered f sheet a start w refl told) ∙ e)
+  two_by Done told e = two_entered told e
+  two_by (RefusedCall why) told e = refused_otherwise why _ _ (ap (λ (r : Ran). r.answer) (not_entered f sheet a start w refl told) ∙ e)
 
-  same-entered : tests ≡ Done → first.answer ≡ Finished → run_of f sheet (a + b) start w ≡ first
-  same-entered told e =
+  same_entered : tests ≡ Done → first.answer ≡ Finished → run_of f sheet (a + b) start w ≡ first
+  same_entered told e =
       let is : replay_of f sheet a 0 start w ≡ first = run_entered f sheet a start w refl told in
       sym (run_entered f sheet (a + b) start w refl told) ∙ split f sheet a b 0 start w ∙ ap (resume f sheet b) is ∙ not_resumed f sheet b first e
 
   same_by : (begun : Call) → tests ≡ begun → first.answer ≡ Finished → run_of f sheet (a + b) start w ≡ first
-  same_by Done told e = same-entered told e
+  same_by Done told e = same_entered told e
   same_by (RefusedCall why) told e = finished_otherwise why _ _ (ap (λ (r : Ran). r.answer) (not_entered f sheet a start w refl told) ∙ e)
 
 -- a run that has finished is the same with any further budget
@@ -176,7 +176,7 @@ finished_runs f sheet a b start w e = same_by f sheet a b start w (tests f sheet
 pub two_runs : (f : Fixed) (sheet : List ℤ) (a b start : ℕ) (w : World) → (run_of f sheet a start w).answer ≡ OutOfBudget
     → run_of f sheet (a + b) start w
     ≡ counted (run_of f sheet a start w).lines (run_of f sheet b (run_of f sheet a start w).place (run_of f sheet a start w).world)
-two_runs f sheet a b start w e = two-by f sheet a b start w (tests f sheet a b start w) refl e
+two_runs f sheet a b start w e = two_by f sheet a b start w (tests f sheet a b start w) refl e
 
 -- the same of three outcomes that the contract of `run` allows: the first with budget a, the second with b from where the first ended, one with both
 pub two_calls : (f : Fixed) (sheet : List ℤ) (a b start : ℕ) (w : World) (first second both : Ran)

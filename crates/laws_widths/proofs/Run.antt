@@ -49,14 +49,14 @@ line_in_width f x op {operands} o {w} k =
 
 -- ---- a step: a line's operands are a part of the sheet
 module _ (f : Fixed) (x : FixedInWidth f) {sheet : List ℤ} (o : Numbers sheet) where
-  decoded-in-width : (at : ℕ) (w : World) → InWidth w → (d : Decoded) → InWidth (on_decoded f sheet at w d).world
+  decoded_in_width : (at : ℕ) (w : World) → InWidth w → (d : Decoded) → InWidth (on_decoded f sheet at w d).world
   unfolding on_decoded
-  decoded-in-width at w k (Operands op first end) = line_in_width f x op (every_take (every_drop o first) (end - first)) k
-  decoded-in-width at w k (RefusedLine why) = k
+  decoded_in_width at w k (Operands op first end) = line_in_width f x op (every_take (every_drop o first) (end - first)) k
+  decoded_in_width at w k (RefusedLine why) = k
 
   pub step_in_width : (at : ℕ) (w : World) → InWidth w → InWidth (step_of f sheet at w).world
   unfolding step_of
-  step_in_width at w k = decoded-in-width at w k (decode_of sheet w.state.loop_counter at)
+  step_in_width at w k = decoded_in_width at w k (decode_of sheet w.state.loop_counter at)
 
 -- ---- a run
 call_in_width : (lines place : ℕ) (v : World) (call : Call) (rest : ℕ → World → Ran) → InWidth v → ((p : ℕ) → InWidth (rest p v).world)

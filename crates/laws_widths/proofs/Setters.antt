@@ -65,10 +65,10 @@ record TalliesFit (t : Tallies) : Type 0 where
   pub pushes : t.pushes < 2 ^ 32
 
 -- a state by its groups
-by-groups :
+by_groups :
     (t : GraphicsState) → VectorsFit t.vectors → RoundFits t.round → ReferencesFit t.references → t.loop_counter < 2 ^ 32 → MeasuresFit t.measures → TalliesFit t.tallies
     → StateInWidth t
-by-groups t v r p n m x = record {
+by_groups t v r p n m x = record {
   signed = record { vectors = v; round = r; measures = m; last_pushed = x.last_pushed };
   loop = n;
   rp0 = p.rp0;
@@ -82,42 +82,42 @@ module _ {s : GraphicsState} (f : StateInWidth s) where
   pub references_fit : ReferencesFit s.references
   references_fit = record { rp0 = f.rp0; rp1 = f.rp1; rp2 = f.rp2 }
 
-  tallies-fit : TalliesFit s.tallies
-  tallies-fit = record { wrapped = f.wrapped; last_pushed = f.signed.last_pushed; pushes = f.pushes }
+  tallies_fit : TalliesFit s.tallies
+  tallies_fit = record { wrapped = f.wrapped; last_pushed = f.signed.last_pushed; pushes = f.pushes }
 
   pub with_vectors_fits : (v : Vectors) → VectorsFit v → StateInWidth (with_vectors s v)
-  with_vectors_fits v g = by-groups (with_vectors s v) g f.signed.round references_fit f.loop f.signed.measures tallies-fit
+  with_vectors_fits v g = by_groups (with_vectors s v) g f.signed.round references_fit f.loop f.signed.measures tallies_fit
 
   pub with_round_fits : (r : RoundState) → RoundFits r → StateInWidth (with_round s r)
-  with_round_fits r g = by-groups (with_round s r) f.signed.vectors g references_fit f.loop f.signed.measures tallies-fit
+  with_round_fits r g = by_groups (with_round s r) f.signed.vectors g references_fit f.loop f.signed.measures tallies_fit
 
   pub with_references_fits : (p : References) → ReferencesFit p → StateInWidth (with_references s p)
-  with_references_fits p g = by-groups (with_references s p) f.signed.vectors f.signed.round g f.loop f.signed.measures tallies-fit
+  with_references_fits p g = by_groups (with_references s p) f.signed.vectors f.signed.round g f.loop f.signed.measures tallies_fit
 
   pub with_loop_fits : (count : ℕ) → count < 2 ^ 32 → StateInWidth (with_loop_counter s count)
-  with_loop_fits count h = by-groups (with_loop_counter s count) f.signed.vectors f.signed.round references_fit h f.signed.measures tallies-fit
+  with_loop_fits count h = by_groups (with_loop_counter s count) f.signed.vectors f.signed.round references_fit h f.signed.measures tallies_fit
 
   pub with_measures_fits : (m : Measures) → MeasuresFit m → StateInWidth (with_measures s m)
-  with_measures_fits m g = by-groups (with_measures s m) f.signed.vectors f.signed.round references_fit f.loop g tallies-fit
+  with_measures_fits m g = by_groups (with_measures s m) f.signed.vectors f.signed.round references_fit f.loop g tallies_fit
 
   pub with_pointers_fits : (p : ZonePointers) → StateInWidth (with_pointers s p)
-  with_pointers_fits p = by-groups (with_pointers s p) f.signed.vectors f.signed.round references_fit f.loop f.signed.measures tallies-fit
+  with_pointers_fits p = by_groups (with_pointers s p) f.signed.vectors f.signed.round references_fit f.loop f.signed.measures tallies_fit
 
   pub with_facts_fits : (b : Facts) → StateInWidth (with_facts s b)
-  with_facts_fits b = by-groups (with_facts s b) f.signed.vectors f.signed.round references_fit f.loop f.signed.measures tallies-fit
+  with_facts_fits b = by_groups (with_facts s b) f.signed.vectors f.signed.round references_fit f.loop f.signed.measures tallies_fit
 
   -- a count goes as far as 32 bits do
   pub with_rounding_fits : (wrapped : Bool) → StateInWidth (with_rounding wrapped s)
   unfolding with_rounding
-  with_rounding_fits false = by-groups (with_rounding false s) f.signed.vectors f.signed.round references_fit f.loop f.signed.measures tallies-fit
+  with_rounding_fits false = by_groups (with_rounding false s) f.signed.vectors f.signed.round references_fit f.loop f.signed.measures tallies_fit
   with_rounding_fits true =
-      by-groups (with_rounding true s) f.signed.vectors f.signed.round references_fit f.loop f.signed.measures
+      by_groups (with_rounding true s) f.signed.vectors f.signed.round references_fit f.loop f.signed.measures
       (record { wrapped = omega arith; last_pushed = f.signed.last_pushed; pushes = f.pushes })
 
   pub with_push_fits : {value : ℤ} → SFits w32 value → StateInWidth (with_push value s)
   unfolding with_push
   with_push_fits {value} g =
-      by-groups (with_push value s) f.signed.vectors f.signed.round references_fit f.loop f.signed.measures
+      by_groups (with_push value s) f.signed.vectors f.signed.round references_fit f.loop f.signed.measures
       (record { wrapped = f.wrapped; last_pushed = g; pushes = omega arith })
 
   -- a loop that has ended
@@ -180,86 +180,86 @@ abbrev pub Within : Stepped → Type 0
 Within r = StateInWidth r.state
 
 module _ {s : GraphicsState} (f : StateInWidth s) where
-  vectors-within : (op : ℕ) → StateInWidth (vectors_by s op)
+  vectors_within : (op : ℕ) → StateInWidth (vectors_by s op)
   unfolding vectors_by
-  vectors-within op =
+  vectors_within op =
       let a = axis_fits op in
       let v = f.signed.vectors in
       let axis = axis_by op in
       either StateInWidth (ltb op 0x02) (with_vectors_fits f (all_along axis) (a, a, a))
       (either StateInWidth (ltb op 0x04) (with_vectors_fits f (measured_along s.vectors axis) (a, a, v.2)) (with_vectors_fits f (moved_along s.vectors axis) (v.0, v.1, a)))
 
-  reference-within : (op at : ℕ) → at < 2 ^ 64 → StateInWidth (reference_by s op at)
+  reference_within : (op at : ℕ) → at < 2 ^ 64 → StateInWidth (reference_by s op at)
   unfolding reference_by
-  reference-within op at h =
+  reference_within op at h =
       let p = references_fit f in
       with_references_fits f _ (either ReferencesFit (eqb op 0x10) (rp0_fits p at h) (either ReferencesFit (eqb op 0x11) (rp1_fits p at h) (rp2_fits p at h)))
 
-  pointer-within : (op : ℕ) (zone : ZonePointer) → StateInWidth (pointer_by s op zone)
+  pointer_within : (op : ℕ) (zone : ZonePointer) → StateInWidth (pointer_by s op zone)
   unfolding pointer_by
-  pointer-within op zone = with_pointers_fits f _
+  pointer_within op zone = with_pointers_fits f _
 
-  zone-within : (op : ℕ) (word : ℤ) → Within (zone_by s op word)
+  zone_within : (op : ℕ) (word : ℤ) → Within (zone_by s op word)
   unfolding zone_by
-  zone-within op word = either Within (eq_z word (pos 0)) (pointer-within op Twilight) (either Within (eq_z word (pos 1)) (pointer-within op Glyph) f)
+  zone_within op word = either Within (eq_z word (pos 0)) (pointer_within op Twilight) (either Within (eq_z word (pos 1)) (pointer_within op Glyph) f)
 
-  loop-within : (word : ℤ) → Within (loop_by s word)
+  loop_within : (word : ℤ) → Within (loop_by s word)
   unfolding loop_by
-  loop-within word = either Within (non_neg word) (with_loop_fits f (min (nat_abs word) 65535) (omega arith)) f
+  loop_within word = either Within (non_neg word) (with_loop_fits f (min (nat_abs word) 65535) (omega arith)) f
 
-  operand-within : (op : ℕ) (word : ℤ) → SFits w32 word → Within (operand_by s op word)
+  operand_within : (op : ℕ) (word : ℤ) → SFits w32 word → Within (operand_by s op word)
   unfolding operand_by
-  operand-within op word h =
-      either Within (ltb op 0x13) (reference-within op (index_of word) (index_fits h))
-      (either Within (ltb op 0x17) (zone-within op word)
-      (either Within (ltb op 0x18) (loop-within word) (with_round_fits f (super_of (eqb op 0x77) word) (super_fits (eqb op 0x77) word))))
+  operand_within op word h =
+      either Within (ltb op 0x13) (reference_within op (index_of word) (index_fits h))
+      (either Within (ltb op 0x17) (zone_within op word)
+      (either Within (ltb op 0x18) (loop_within word) (with_round_fits f (super_of (eqb op 0x77) word) (super_fits (eqb op 0x77) word))))
 
-  on-operand-within : (g : ℤ → Stepped) → ((word : ℤ) → SFits w32 word → Within (g word)) → {operands : List ℤ} → Numbers operands → Within (on_operand s g operands)
-  on-operand-within g ok no_word = f
-  on-operand-within g ok (one_word {w} h k) = ok w h
+  on_operand_within : (g : ℤ → Stepped) → ((word : ℤ) → SFits w32 word → Within (g word)) → {operands : List ℤ} → Numbers operands → Within (on_operand s g operands)
+  on_operand_within g ok no_word = f
+  on_operand_within g ok (one_word {w} h k) = ok w h
 
   pub set_within : (op : ℕ) {operands : List ℤ} → Numbers operands → StateInWidth (set_by s op operands).state
   unfolding set_by
   set_within op k =
-      either Within (ltb op 0x06) (vectors-within op)
-      (either Within (takes_operand op) (on-operand-within (operand_by s op) (operand-within op) k) (with_round_fits f (in_mode s.round (mode_by op)) f.signed.round))
+      either Within (ltb op 0x06) (vectors_within op)
+      (either Within (takes_operand op) (on_operand_within (operand_by s op) (operand_within op) k) (with_round_fits f (in_mode s.round (mode_by op)) f.signed.round))
 
 -- ---- the lines that set a measure
 module _ {m : Measures} (f : MeasuresFit m) where
-  minimum-fits : (word : ℤ) → SFits w32 word → MeasuresFit (minimum_at m word)
-  minimum-fits word h = record { cut_in = f.cut_in; minimum_distance = h; single_width = f.single_width; single_width_cut_in = f.single_width_cut_in; scale = f.scale }
+  minimum_fits : (word : ℤ) → SFits w32 word → MeasuresFit (minimum_at m word)
+  minimum_fits word h = record { cut_in = f.cut_in; minimum_distance = h; single_width = f.single_width; single_width_cut_in = f.single_width_cut_in; scale = f.scale }
 
-  cut-in-fits : (word : ℤ) → SFits w32 word → MeasuresFit (cut_in_at m word)
-  cut-in-fits word h = record { cut_in = h; minimum_distance = f.minimum_distance; single_width = f.single_width; single_width_cut_in = f.single_width_cut_in; scale = f.scale }
+  cut_in_fits : (word : ℤ) → SFits w32 word → MeasuresFit (cut_in_at m word)
+  cut_in_fits word h = record { cut_in = h; minimum_distance = f.minimum_distance; single_width = f.single_width; single_width_cut_in = f.single_width_cut_in; scale = f.scale }
 
-  single-cut-in-fits : (word : ℤ) → SFits w32 word → MeasuresFit (single_cut_in_at m word)
-  single-cut-in-fits word h = record { cut_in = f.cut_in; minimum_distance = f.minimum_distance; single_width = f.single_width; single_width_cut_in = h; scale = f.scale }
+  single_cut_in_fits : (word : ℤ) → SFits w32 word → MeasuresFit (single_cut_in_at m word)
+  single_cut_in_fits word h = record { cut_in = f.cut_in; minimum_distance = f.minimum_distance; single_width = f.single_width; single_width_cut_in = h; scale = f.scale }
 
-  single-width-fits : (word : ℤ) → SFits w32 word → MeasuresFit (single_width_at m word)
-  single-width-fits word h = record { cut_in = f.cut_in; minimum_distance = f.minimum_distance; single_width = h; single_width_cut_in = f.single_width_cut_in; scale = f.scale }
+  single_width_fits : (word : ℤ) → SFits w32 word → MeasuresFit (single_width_at m word)
+  single_width_fits word h = record { cut_in = f.cut_in; minimum_distance = f.minimum_distance; single_width = h; single_width_cut_in = f.single_width_cut_in; scale = f.scale }
 
-  flipping-fits : (on : Bool) → MeasuresFit (flipping_at m on)
-  flipping-fits on = record { cut_in = f.cut_in; minimum_distance = f.minimum_distance; single_width = f.single_width; single_width_cut_in = f.single_width_cut_in; scale = f.scale }
+  flipping_fits : (on : Bool) → MeasuresFit (flipping_at m on)
+  flipping_fits on = record { cut_in = f.cut_in; minimum_distance = f.minimum_distance; single_width = f.single_width; single_width_cut_in = f.single_width_cut_in; scale = f.scale }
 
-  sized-fits : (op : ℕ) (word : ℤ) → SFits w32 word → MeasuresFit (sized_by m op word)
+  sized_fits : (op : ℕ) (word : ℤ) → SFits w32 word → MeasuresFit (sized_by m op word)
   unfolding sized_by
-  sized-fits op word h =
-      either MeasuresFit (eqb op 0x1A) (minimum-fits word h)
-      (either MeasuresFit (eqb op 0x1D) (cut-in-fits word h)
-      (either MeasuresFit (eqb op 0x1E) (single-cut-in-fits word h) (single-width-fits (mul_fix word m.scale) (mul_fits word m.scale))))
+  sized_fits op word h =
+      either MeasuresFit (eqb op 0x1A) (minimum_fits word h)
+      (either MeasuresFit (eqb op 0x1D) (cut_in_fits word h)
+      (either MeasuresFit (eqb op 0x1E) (single_cut_in_fits word h) (single_width_fits (mul_fix word m.scale) (mul_fits word m.scale))))
 
 module _ {s : GraphicsState} (f : StateInWidth s) where
-  size-within : (op : ℕ) (word : ℤ) → SFits w32 word → StateInWidth (size_by s op word)
+  size_within : (op : ℕ) (word : ℤ) → SFits w32 word → StateInWidth (size_by s op word)
   unfolding size_by
-  size-within op word h = with_measures_fits f (sized_by s.measures op word) (sized-fits f.signed.measures op word h)
+  size_within op word h = with_measures_fits f (sized_by s.measures op word) (sized_fits f.signed.measures op word h)
 
-  flip-within : (on : Bool) → StateInWidth (flip_by s on)
+  flip_within : (on : Bool) → StateInWidth (flip_by s on)
   unfolding flip_by
-  flip-within on = with_measures_fits f (flipping_at s.measures on) (flipping-fits f.signed.measures on)
+  flip_within on = with_measures_fits f (flipping_at s.measures on) (flipping_fits f.signed.measures on)
 
   pub measure_within : (op : ℕ) {operands : List ℤ} → Numbers operands → StateInWidth (measure_by s op operands).state
   unfolding measure_by
-  measure_within op k = either Within (leb 0x4D op) (flip-within (eqb op 0x4D)) (on-operand-within f (λ (word : ℤ). done_with (size_by s op word)) (size-within op) k)
+  measure_within op k = either Within (leb 0x4D op) (flip_within (eqb op 0x4D)) (on_operand_within f (λ (word : ℤ). done_with (size_by s op word)) (size_within op) k)
 
 -- ---- the lines that turn a vector
 in_range_fits : (z : ℤ) → in_range z ≡ true → SFits w32 z
@@ -283,31 +283,31 @@ stack_fits kept k x y =
 
 module _ {s : GraphicsState} (f : StateInWidth s) where
   -- the projection and the dual vector, and the freedom vector
-  measured-within : (v : Vector) → VectorFits v → StateInWidth (with_vectors s (measured_along s.vectors v))
-  measured-within v g = with_vectors_fits f (measured_along s.vectors v) (g, g, f.signed.vectors.2)
+  measured_within : (v : Vector) → VectorFits v → StateInWidth (with_vectors s (measured_along s.vectors v))
+  measured_within v g = with_vectors_fits f (measured_along s.vectors v) (g, g, f.signed.vectors.2)
 
-  moved-within : (v : Vector) → VectorFits v → StateInWidth (with_vectors s (moved_along s.vectors v))
-  moved-within v g = with_vectors_fits f (moved_along s.vectors v) (f.signed.vectors.0, f.signed.vectors.1, g)
+  moved_within : (v : Vector) → VectorFits v → StateInWidth (with_vectors s (moved_along s.vectors v))
+  moved_within v g = with_vectors_fits f (moved_along s.vectors v) (f.signed.vectors.0, f.signed.vectors.1, g)
 
   pub along_within : (op : ℕ) (v : Vector) → vector_in_range v ≡ true → StateInWidth (along_at s op v)
   unfolding along_at
-  along_within op v r = either StateInWidth (ltb op 0x08) (measured-within v (vector_fits v r)) (moved-within v (vector_fits v r))
+  along_within op v r = either StateInWidth (ltb op 0x08) (measured_within v (vector_fits v r)) (moved_within v (vector_fits v r))
 
   pub dual_within : (dual v : Vector) → vector_in_range dual ≡ true → vector_in_range v ≡ true → StateInWidth (dual_at s dual v)
   unfolding dual_at
   dual_within dual v q r = with_vectors_fits f _ (vector_fits v r, vector_fits dual q, f.signed.vectors.2)
 
-  stack-within : (op : ℕ) (x y : ℤ) → StateInWidth (stack_at s op (short x) (short y))
+  stack_within : (op : ℕ) (x y : ℤ) → StateInWidth (stack_at s op (short x) (short y))
   unfolding stack_at
-  stack-within op x y =
+  stack_within op x y =
       let v = s.vectors in
-      either StateInWidth (eqb op 0x0A) (measured-within _ (stack_fits v.projection f.signed.vectors.0 x y)) (moved-within _ (stack_fits v.freedom f.signed.vectors.2 x y))
+      either StateInWidth (eqb op 0x0A) (measured_within _ (stack_fits v.projection f.signed.vectors.0 x y)) (moved_within _ (stack_fits v.freedom f.signed.vectors.2 x y))
 
-  on-two-within : (op : ℕ) (operands : List ℤ) → Within (on_two s (λ (y : ℤ). λ (x : ℤ). done_with (stack_at s op (short x) (short y))) operands)
-  on-two-within op [] = f
-  on-two-within op (y ∷ []) = f
-  on-two-within op (y ∷ x ∷ more) = stack-within op x y
+  on_two_within : (op : ℕ) (operands : List ℤ) → Within (on_two s (λ (y : ℤ). λ (x : ℤ). done_with (stack_at s op (short x) (short y))) operands)
+  on_two_within op [] = f
+  on_two_within op (y ∷ []) = f
+  on_two_within op (y ∷ x ∷ more) = stack_within op x y
 
   pub vector_within : (op : ℕ) (operands : List ℤ) → StateInWidth (vector_by s op operands).state
   unfolding vector_by followed
-  vector_within op operands = either Within (eqb op 0x0E) (moved-within s.vectors.projection f.signed.vectors.0) (on-two-within op operands)
+  vector_within op operands = either Within (eqb op 0x0E) (moved_within s.vectors.projection f.signed.vectors.0) (on_two_within op operands)

@@ -66,24 +66,24 @@ module _ {flags : List ℕ} (fits : Below 256 flags) where
   pub flip_fits : (at : ℕ) → Below 256 (marked_at (λ (flag : ℕ). bit_xor flag 1) flags at).flags
   flip_fits at = marked_fits (λ (flag : ℕ). bit_xor flag 1) (λ flag k. xor_lt 8 flag 1 k (omega arith)) at
 
-  cleared-fits : (mask : ℕ) → 255 - mask < 256 → (at : ℕ) → Below 256 (marked_at (λ (flag : ℕ). cleared flag mask) flags at).flags
-  cleared-fits mask h at = marked_fits (λ (flag : ℕ). cleared flag mask) (λ flag k. and_lt 8 flag (255 - mask) k h) at
+  cleared_fits : (mask : ℕ) → 255 - mask < 256 → (at : ℕ) → Below 256 (marked_at (λ (flag : ℕ). cleared flag mask) flags at).flags
+  cleared_fits mask h at = marked_fits (λ (flag : ℕ). cleared flag mask) (λ flag k. and_lt 8 flag (255 - mask) k h) at
 
   pub untouched_fits : (at : ℕ) (x y : Bool) → Below 256 (untouched_by flags at x y).flags
   unfolding untouched_by
-  untouched_fits at true true = cleared-fits (touch_bits Both) (omega arith) at
-  untouched_fits at true false = cleared-fits (touch_bits X) (omega arith) at
-  untouched_fits at false true = cleared-fits (touch_bits Y) (omega arith) at
+  untouched_fits at true true = cleared_fits (touch_bits Both) (omega arith) at
+  untouched_fits at true false = cleared_fits (touch_bits X) (omega arith) at
+  untouched_fits at false true = cleared_fits (touch_bits Y) (omega arith) at
   untouched_fits at false false = fits
 
   pub on_curve_fits : (start end : ℕ) (on : Bool) → Below 256 (set_on_curve_of flags start end on).flags
   unfolding set_on_curve_of
   on_curve_fits start end on =
-      either (λ (m : Marked). Below 256 m.flags) (leb start end && leb end (length flags)) (part_fits (on_curve on) (on-curve-small on) start end) fits
+      either (λ (m : Marked). Below 256 m.flags) (leb start end && leb end (length flags)) (part_fits (on_curve on) (on_curve_small on) start end) fits
     where
-      on-curve-small : (b : Bool) (flag : ℕ) → flag < 256 → on_curve b flag < 256
-      on-curve-small true flag k = or_lt 8 flag 1 k (omega arith)
-      on-curve-small false flag k = and_lt 8 flag 254 k (omega arith)
+      on_curve_small : (b : Bool) (flag : ℕ) → flag < 256 → on_curve b flag < 256
+      on_curve_small true flag k = or_lt 8 flag 1 k (omega arith)
+      on_curve_small false flag k = and_lt 8 flag 254 k (omega arith)
 
 -- ---- the touch bits of a move
 bits_small : (x y : Bool) → bits_for x y < 256

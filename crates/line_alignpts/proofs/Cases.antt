@@ -50,18 +50,18 @@ abbrev back : ℤ → ℕ → ZonePointer → World → Lined
 back half first zone moved = move_in zone (neg32 half) first moved done_in
 
 module _ (half : ℤ) (first second : ℕ) (w : World) {d : ℤ} (i : d ≡ half) {m : Move} (p : m ≡ move_of w.state.vectors w.state.facts d) {b : BothMoved} (e : b ≡ apply_in m second w.gx w.gy w.gflags w.tx w.ty w.tflags w.state.pointers.zp1) where
-  there-moved : {r : Lined} → r ≡ by_call (with_points w b) (back half first w.state.pointers.zp0) b.call → r ≡ both_moved_by half first second w
+  there_moved : {r : Lined} → r ≡ by_call (with_points w b) (back half first w.state.pointers.zp0) b.call → r ≡ both_moved_by half first second w
   unfolding both_moved_by
-  there-moved q = moved_there w w.state.pointers.zp1 half second (back half first w.state.pointers.zp0) (p ∙ ap (move_of w.state.vectors w.state.facts) i) e q
+  there_moved q = moved_there w w.state.pointers.zp1 half second (back half first w.state.pointers.zp0) (p ∙ ap (move_of w.state.vectors w.state.facts) i) e q
 
   pub there_refused : {why : Refusal} → b.call ≡ Refused why → record { call = Refused why; world = with_points w b } ≡ both_moved_by half first second w
-  there_refused q = there-moved (sym (ap (by_call (with_points w b) (back half first w.state.pointers.zp0)) q))
+  there_refused q = there_moved (sym (ap (by_call (with_points w b) (back half first w.state.pointers.zp0)) q))
 
   pub both_moved : {n : Move} {c : BothMoved} {z : ℤ} → b.call ≡ Done → z ≡ neg32 d → n ≡ move_of w.state.vectors w.state.facts z
       → c ≡ apply_in n first b.gx b.gy b.gflags b.tx b.ty b.tflags w.state.pointers.zp0
       → record { call = c.call; world = with_points w c } ≡ both_moved_by half first second w
   both_moved {c = c} q k j f =
-      there-moved
+      there_moved
       (moved_there (with_points w b) w.state.pointers.zp0 (neg32 half) first done_in (j ∙ ap (move_of w.state.vectors w.state.facts) (k ∙ ap neg32 i)) f (sym (done_or_not (with_points w c) c.call))
       ∙ sym (ap (by_call (with_points w b) (back half first w.state.pointers.zp0)) q))
 
@@ -85,16 +85,16 @@ module _ (f : Fixed) (opcode : ℕ) (operands : List ℤ) (w : World) where
   module _ {first second : ℕ} {g k : Fetched} {m : Measured} (h : 2 ≤ length operands) (i : first ≡ index_at operands 0) (j : second ≡ index_at operands 1)
       (p : g ≡ fetch_in first w.gx w.gy w.tx w.ty w.state.pointers.zp0) (q : k ≡ fetch_in second w.gx w.gy w.tx w.ty w.state.pointers.zp1)
       (e : m ≡ half_apart w.state.vectors g k) where
-    by-half : {r : Lined} → r ≡ by_measured w (λ (half : ℤ). both_moved_by half first second w) m → r ≡ alignpts_of f opcode operands w
+    by_half : {r : Lined} → r ≡ by_measured w (λ (half : ℤ). both_moved_by half first second w) m → r ≡ alignpts_of f opcode operands w
     unfolding alignpts_of point_or
-    by-half o =
+    by_half o =
         two_there w operands _ h
         (rw (← i, ← j, ← p, ← q)
         (o ∙ ap (by_measured w (λ (half : ℤ). both_moved_by half first second w)) e ∙ by_places w w.state.vectors (λ (half : ℤ). both_moved_by half first second w) g k))
 
     pub alignpts_out : {r : Lined} {why : Refusal} → m ≡ RefusedDistance why → r ≡ refused_in w why → r ≡ alignpts_of f opcode operands w
-    alignpts_out o l = by-half (l ∙ sym (ap (by_measured w (λ (half : ℤ). both_moved_by half first second w)) o))
+    alignpts_out o l = by_half (l ∙ sym (ap (by_measured w (λ (half : ℤ). both_moved_by half first second w)) o))
 
     pub alignpts_moved : {r : Lined} {half d : ℤ} → m ≡ Distance half → d ≡ half → r ≡ both_moved_by d first second w → r ≡ alignpts_of f opcode operands w
     alignpts_moved o n l =
-        by-half (l ∙ ap (λ (half : ℤ). both_moved_by half first second w) n ∙ sym (ap (by_measured w (λ (half : ℤ). both_moved_by half first second w)) o))
+        by_half (l ∙ ap (λ (half : ℤ). both_moved_by half first second w) n ∙ sym (ap (by_measured w (λ (half : ℤ). both_moved_by half first second w)) o))

@@ -46,29 +46,29 @@ module _ (d width : ℤ) {d' w' : ℤ} (ed : d' ≡ d) (ew : w' ≡ width) where
   module _ (cut_in : ℤ) {c' : ℤ} (ec : c' ≡ cut_in) where
     -- MDRP's
     module _ {p p' m m' : ℤ} {below above some : Bool} (ep' : p' ≡ p) (ep : p ≡ add32 w' c') (eb : below ≡ lt_z d' p') (em' : m' ≡ m) (em : m ≡ sub32 w' c') (ea : above ≡ lt_z m' d') (es : some ≡ lt_z (pos 0) c') where
-      outline-test : some && below && above ≡ lt_z (pos 0) cut_in && lt_z d (add32 width cut_in) && lt_z (sub32 width cut_in) d
-      outline-test = rw (eb, ea, es, ep', ep, em', em, ed, ew, ec) refl
+      outline_test : some && below && above ≡ lt_z (pos 0) cut_in && lt_z d (add32 width cut_in) && lt_z (sub32 width cut_in) d
+      outline_test = rw (eb, ea, es, ep', ep, em', em, ed, ew, ec) refl
 
       pub outline_near : {r r' : ℤ} → some && below && above ≡ true → r' ≡ r → r ≡ on_side_of d' w' → r' ≡ single_outline cut_in width d
       unfolding single_outline
-      outline_near h er' er = rw (sym outline-test ∙ h, er', er, ed, ew) refl
+      outline_near h er' er = rw (sym outline_test ∙ h, er', er, ed, ew) refl
 
       pub outline_far : some && below && above ≡ false → d' ≡ single_outline cut_in width d
       unfolding single_outline
-      outline_far h = rw (sym outline-test ∙ h) ed
+      outline_far h = rw (sym outline_test ∙ h) ed
 
     -- MIRP's
     module _ {m m' a a' : ℤ} {t : Bool} (em' : m' ≡ m) (em : m ≡ sub32 d' w') (ea' : a' ≡ a) (ea : a ≡ abs32 m') (et : t ≡ lt_z a' c') where
-      control-test : t ≡ lt_z (abs32 (sub32 d width)) cut_in
-      control-test = rw (et, ea', ea, em', em, ed, ew, ec) refl
+      control_test : t ≡ lt_z (abs32 (sub32 d width)) cut_in
+      control_test = rw (et, ea', ea, em', em, ed, ew, ec) refl
 
       pub control_near : {r r' : ℤ} → t ≡ true → r' ≡ r → r ≡ on_side_of d' w' → r' ≡ single_control cut_in width d
       unfolding single_control
-      control_near h er' er = rw (sym control-test ∙ h, er', er, ed, ew) refl
+      control_near h er' er = rw (sym control_test ∙ h, er', er, ed, ew) refl
 
       pub control_far : t ≡ false → d' ≡ single_control cut_in width d
       unfolding single_control
-      control_far h = rw (sym control-test ∙ h) ed
+      control_far h = rw (sym control_test ∙ h) ed
 
 -- ---- auto flip
 differ : (a b : Bool) → xor a b ≡ cond a (not b) b
@@ -109,19 +109,19 @@ rounded_or_given false true s d = refl
 rounded_or_given false false s d = refl
 
 module _ (opcode : ℕ) (native : Bool) (round : RoundState) (minimum original d : ℤ) {b k : Bool} {d' : ℤ} {r : Tracked} (eb : b ≡ rounds opcode) (ed : d' ≡ d) (er : r ≡ rounded_unless (native || not b) round d') (ek : k ≡ keeps_minimum opcode) where
-  rounded-first : r ≡ cond (rounds opcode) (rounded_unless native round d) (given d)
-  rounded-first = rw (er, ed, eb) (rounded_or_given native (rounds opcode) round d)
+  rounded_first : r ≡ cond (rounds opcode) (rounded_unless native round d) (given d)
+  rounded_first = rw (er, ed, eb) (rounded_or_given native (rounds opcode) round d)
 
   pub finish_kept : {m m' n' o' w l l' : ℤ} → k ≡ true → n' ≡ minimum → m' ≡ m → m ≡ minimum_of native n' → o' ≡ original → w ≡ r.word → l' ≡ l → l ≡ at_least m' o' w
       → tracked l' r.wrapped ≡ finished opcode native round minimum original d
   unfolding finished
   finish_kept {l' = l'} h en em' em eo ew el' el =
       let kept : l' ≡ at_least (minimum_of native minimum) original r.word = rw (el', el, em', em, en, eo, ew) refl in
-      rw (sym ek ∙ h) (ap (λ (z : ℤ). tracked z r.wrapped) kept ∙ ap (on (at_least (minimum_of native minimum) original)) rounded-first)
+      rw (sym ek ∙ h) (ap (λ (z : ℤ). tracked z r.wrapped) kept ∙ ap (on (at_least (minimum_of native minimum) original)) rounded_first)
 
   pub finish_free : k ≡ false → r ≡ finished opcode native round minimum original d
   unfolding finished
-  finish_free h = rw (sym ek ∙ h) rounded-first
+  finish_free h = rw (sym ek ∙ h) rounded_first
 
 -- ---- the original outline
 module _ (v : Vector) (scale : ℤ) (p : ZonePointer) (a : ℕ) (q : ZonePointer) (b : ℕ) (gux guy gox goy tox toy : List ℤ) {t u : Bool} (et : t ≡ is_twilight p) (eu : u ≡ is_twilight q) where

@@ -86,12 +86,12 @@ unfolding let_pass
 let_by pedantic why h = rw h refl
 
 module _ (v : Vectors) (facts : Facts) (zone : ZonePointer) (outline : ℕ → Vector) (t : Stretch) (at : ℕ) (z : Zones) {g : Fetched} (e : g ≡ place_at z zone at) where
-  by-fetched : {h : Fetched} {r : Ended Zones} → g ≡ h → r ≡ interpolate_by v facts zone outline t at z h → r ≡ interpolate_at v facts zone outline t at z
-  by-fetched q p = p ∙ ap (interpolate_by v facts zone outline t at z) (sym q ∙ e)
+  by_fetched : {h : Fetched} {r : Ended Zones} → g ≡ h → r ≡ interpolate_by v facts zone outline t at z h → r ≡ interpolate_at v facts zone outline t at z
+  by_fetched q p = p ∙ ap (interpolate_by v facts zone outline t at z) (sym q ∙ e)
 
   pub point_passed : {why : Refusal} {call : Call} → g ≡ RefusedPlace why → call ≡ let_pass facts.pedantic why → ended call z ≡ interpolate_at v facts zone outline t at z
   unfolding interpolate_by
-  point_passed q p = by-fetched q (ap (λ (call : Call). ended call z) p)
+  point_passed q p = by_fetched q (ap (λ (call : Call). ended call z) p)
 
   pub point_moved : {place lay : Vector} {d : ℤ} {m : Move} {b : BothMoved} → g ≡ At place → lay ≡ outline at → d ≡ distance_left v t lay place
       → m ≡ move_of v facts d
@@ -99,7 +99,7 @@ module _ (v : Vectors) (facts : Facts) (zone : ZonePointer) (outline : ℕ → V
       → zones_after b ≡ interpolate_at v facts zone outline t at z
   unfolding interpolate_by
   point_moved {place = place} q l d m b =
-      by-fetched q
+      by_fetched q
       (ap zones_after b
       ∙ ap (λ (n : Move). zones_after (apply_in n at z.glyph.xs z.glyph.ys z.glyph.flags z.twilight.xs z.twilight.ys z.twilight.flags zone))
       (m ∙ ap (move_of v facts) (d ∙ ap (λ (lay : Vector). distance_left v t lay place) l)))

@@ -35,29 +35,29 @@ module _ (zoneA : ZonePointer) (a0 a1 : ℕ) (zoneB : ZonePointer) (b0 b1 : ℕ)
   abbrev end : ZonePointer → ℕ → Fetched
   end zone at = fetch_in at w.gx w.gy w.tx w.ty zone
 
-  abbrev metBy : Fetched → Lined
-  metBy g = by_fetched (refused_in w) rest g
+  abbrev met_by : Fetched → Lined
+  met_by g = by_fetched (refused_in w) rest g
 
   module _ {g : Fetched} (e : g ≡ end zoneA a0) where
-    pub a0_out : {why : Refusal} → g ≡ RefusedPlace why → metBy g ≡ meeting_in zoneA a0 a1 zoneB b0 b1 w rest
-    a0_out q = point_out w zoneA a0 (refused_in w) _ e q (ap metBy q)
+    pub a0_out : {why : Refusal} → g ≡ RefusedPlace why → met_by g ≡ meeting_in zoneA a0 a1 zoneB b0 b1 w rest
+    a0_out q = point_out w zoneA a0 (refused_in w) _ e q (ap met_by q)
 
     module _ {aFrom : Vector} (p : g ≡ At aFrom) {h : Fetched} (f : h ≡ end zoneA a1) where
-      pub a1_out : {why : Refusal} → h ≡ RefusedPlace why → metBy h ≡ meeting_in zoneA a0 a1 zoneB b0 b1 w rest
-      a1_out q = point_there w zoneA a0 (refused_in w) _ e p (point_out w zoneA a1 (refused_in w) _ f q (ap metBy q))
+      pub a1_out : {why : Refusal} → h ≡ RefusedPlace why → met_by h ≡ meeting_in zoneA a0 a1 zoneB b0 b1 w rest
+      a1_out q = point_there w zoneA a0 (refused_in w) _ e p (point_out w zoneA a1 (refused_in w) _ f q (ap met_by q))
 
       module _ {aTo : Vector} (o : h ≡ At aTo) {k : Fetched} (i : k ≡ end zoneB b0) where
-        pub b0_out : {why : Refusal} → k ≡ RefusedPlace why → metBy k ≡ meeting_in zoneA a0 a1 zoneB b0 b1 w rest
+        pub b0_out : {why : Refusal} → k ≡ RefusedPlace why → met_by k ≡ meeting_in zoneA a0 a1 zoneB b0 b1 w rest
         b0_out q =
             point_there w zoneA a0 (refused_in w) _ e p
-            (point_there w zoneA a1 (refused_in w) _ f o (point_out w zoneB b0 (refused_in w) _ i q (ap metBy q)))
+            (point_there w zoneA a1 (refused_in w) _ f o (point_out w zoneB b0 (refused_in w) _ i q (ap met_by q)))
 
         module _ {bFrom : Vector} (n : k ≡ At bFrom) {l : Fetched} (j : l ≡ end zoneB b1) where
-          pub b1_out : {why : Refusal} → l ≡ RefusedPlace why → metBy l ≡ meeting_in zoneA a0 a1 zoneB b0 b1 w rest
+          pub b1_out : {why : Refusal} → l ≡ RefusedPlace why → met_by l ≡ meeting_in zoneA a0 a1 zoneB b0 b1 w rest
           b1_out q =
               point_there w zoneA a0 (refused_in w) _ e p
               (point_there w zoneA a1 (refused_in w) _ f o
-              (point_there w zoneB b0 (refused_in w) _ i n (point_out w zoneB b1 (refused_in w) _ j q (ap metBy q))))
+              (point_there w zoneB b0 (refused_in w) _ i n (point_out w zoneB b1 (refused_in w) _ j q (ap met_by q))))
 
           pub lines_meet : {bTo place : Vector} → l ≡ At bTo → place ≡ crossing_of aFrom aTo bFrom bTo → rest place ≡ meeting_in zoneA a0 a1 zoneB b0 b1 w rest
           lines_meet m q =

@@ -18,23 +18,23 @@ use Rattle.line_iup.specs.Iup.{iup_line_of, marked_for, walked_in, with_x, with_
 
 -- ---- the mark
 module _ (s : GraphicsState) (opcode : ℕ) where
-  abbrev byFacts : Bool → Bool → GraphicsState
-  byFacts compatible odd = cond compatible (cond odd (with_facts s (marked_x s.facts)) (with_facts s (marked_y s.facts))) s
+  abbrev by_facts : Bool → Bool → GraphicsState
+  by_facts compatible odd = cond compatible (cond odd (with_facts s (marked_x s.facts)) (with_facts s (marked_y s.facts))) s
 
   module _ {odd : Bool} {r : GraphicsState} (e : s.facts.backward_compatibility ≡ true) (o : odd ≡ is_odd opcode) where
-    by-odd : r ≡ byFacts true odd → r ≡ marked_for s opcode
+    by_odd : r ≡ by_facts true odd → r ≡ marked_for s opcode
     unfolding marked_for
-    by-odd q = q ∙ ap (byFacts true) o ∙ sym (ap (λ (c : Bool). byFacts c (is_odd opcode)) e)
+    by_odd q = q ∙ ap (by_facts true) o ∙ sym (ap (λ (c : Bool). by_facts c (is_odd opcode)) e)
 
     pub marked_x_lem : odd ≡ true → r ≡ with_facts s (marked_x s.facts) → r ≡ marked_for s opcode
-    marked_x_lem b q = by-odd (q ∙ sym (ap (byFacts true) b))
+    marked_x_lem b q = by_odd (q ∙ sym (ap (by_facts true) b))
 
     pub marked_y_lem : odd ≡ false → r ≡ with_facts s (marked_y s.facts) → r ≡ marked_for s opcode
-    marked_y_lem b q = by-odd (q ∙ sym (ap (byFacts true) b))
+    marked_y_lem b q = by_odd (q ∙ sym (ap (by_facts true) b))
 
   pub not_marked : s.facts.backward_compatibility ≡ false → s ≡ marked_for s opcode
   unfolding marked_for
-  not_marked e = sym (ap (λ (c : Bool). byFacts c (is_odd opcode)) e)
+  not_marked e = sym (ap (λ (c : Bool). by_facts c (is_odd opcode)) e)
 
 -- ---- the walk
 module _ (f : Fixed) (w : World) {x : Bool} where

@@ -16,7 +16,7 @@ use Rattle.line.specs.Operands.{index_at}
 use Rattle.line.specs.World.{Fixed, Lined, World}
 use Rattle.line_distance.specs.Distance.{finished, sets_rp0, single_outline}
 use Rattle.line_distance.specs.Outline.{outline_of}
-use Rattle.line_relative.proofs.Both.{both_looked_up, placeOn, size_in}
+use Rattle.line_relative.proofs.Both.{both_looked_up, place_on, size_in}
 use Rattle.line_relative.specs.Relative.{related, related_or}
 use Rattle.line_relative.specs.Steps.{both_inside}
 use Rattle.line_steps.proofs.Laws.{one_missing, one_there, rounded_by}
@@ -63,7 +63,7 @@ module _ (f : Fixed) (opcode : ℕ) (operands : List ℤ) (w : World) {r : Lined
     pub mdrp_moved : {scale outline own distance : ℤ} {d step : Tracked} {place reference : Vector} {m : Move} {b : BothMoved} → there ≡ Done → scale ≡ w.state.measures.scale
         → outline ≡ outline_of w.state.vectors.dual scale zp1 at zp0 w.state.references.rp0 f.gux f.guy f.gox f.goy w.tox w.toy
         → d ≡ mdrp_distance opcode w.state.facts.native_clear_type_x w.state.round w.state.measures outline
-        → place ≡ placeOn w zp1 at → reference ≡ placeOn w zp0 w.state.references.rp0
+        → place ≡ place_on w zp1 at → reference ≡ place_on w zp0 w.state.references.rp0
         → own ≡ project_of w.state.vectors place reference → step ≡ step_from own d
         → distance ≡ step.word → m ≡ move_of w.state.vectors w.state.facts distance
         → b ≡ apply_in m at w.gx w.gy w.gflags w.tx w.ty w.tflags zp1
@@ -73,7 +73,7 @@ module _ (f : Fixed) (opcode : ℕ) (operands : List ℤ) (w : World) {r : Lined
         let g = w.state in
         let rp0 = g.references.rp0 in
         let apart : ℤ → ZonePointer → ZonePointer → ℤ = λ scale first second. outline_of g.vectors.dual scale first at second rp0 f.gux f.guy f.gox f.goy w.tox w.toy in
-        let along = y ∙ ap₂ (project_of g.vectors) (o ∙ ap (λ (zone : ZonePointer). placeOn w zone at) e1) (u ∙ ap (λ (zone : ZonePointer). placeOn w zone rp0) e0) in
+        let along = y ∙ ap₂ (project_of g.vectors) (o ∙ ap (λ (zone : ZonePointer). place_on w zone at) e1) (u ∙ ap (λ (zone : ZonePointer). place_on w zone rp0) e0) in
         let outline = q ∙ ap (λ (scale : ℤ). apart scale zp1 zp0) z ∙ ap₂ (apart g.measures.scale) e1 e0 in
         let wanted = d ∙ ap (mdrp_distance opcode g.facts.native_clear_type_x g.round g.measures) outline in
         one_there w operands _ h

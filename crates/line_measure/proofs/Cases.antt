@@ -53,16 +53,16 @@ module _ (v : Vector) {first : Fetched} where
 
 -- of numbers as they are read back, two points of the original glyph
 module _ (pedantic : Bool) (v : Vector) (scale : ℤ) (a b : ℕ) (gux guy : List ℤ) {in_a in_b : Bool} (k : in_a ≡ ltb a (length gux)) (l : in_b ≡ ltb b (length gux)) where
-  test-is : pedantic || (in_a && in_b) ≡ pedantic || (ltb a (length gux) && ltb b (length gux))
-  test-is = ap₂ (λ (x y : Bool). pedantic || (x && y)) k l
+  test_is : pedantic || (in_a && in_b) ≡ pedantic || (ltb a (length gux) && ltb b (length gux))
+  test_is = ap₂ (λ (x y : Bool). pedantic || (x && y)) k l
 
   pub glyph_measured : {scale' r : ℤ} → pedantic || (in_a && in_b) ≡ true → scale' ≡ scale → r ≡ unscaled_apart v scale' a b gux guy → r ≡ glyph_apart pedantic v scale a b gux guy
   unfolding glyph_apart
-  glyph_measured h z e = taken _ _ (sym test-is ∙ h) (e ∙ ap (λ (scale : ℤ). unscaled_apart v scale a b gux guy) z)
+  glyph_measured h z e = taken _ _ (sym test_is ∙ h) (e ∙ ap (λ (scale : ℤ). unscaled_apart v scale a b gux guy) z)
 
   pub glyph_outside : pedantic || (in_a && in_b) ≡ false → pos 0 ≡ glyph_apart pedantic v scale a b gux guy
   unfolding glyph_apart
-  glyph_outside h = left _ _ (sym test-is ∙ h) refl
+  glyph_outside h = left _ _ (sym test_is ∙ h) refl
 
 -- ---- what is pushed
 -- a refusal where the state is pedantic, and else 0
@@ -81,8 +81,8 @@ pushed_read w e z p = p ∙ ap (λ (d : ℤ). pushes d w) z ∙ sym (ap (by_meas
 
 -- ---- what is found is what the line pushes
 module _ (f : Fixed) (w : World) where
-  abbrev lookedIn : Bool → ZonePointer → ℕ → Fetched
-  lookedIn original zone at = looked_up original zone at f.gox f.goy w.gx w.gy w.tox w.toy w.tx w.ty
+  abbrev looked_in : Bool → ZonePointer → ℕ → Fetched
+  looked_in original zone at = looked_up original zone at f.gox f.goy w.gx w.gy w.tox w.toy w.tx w.ty
 
   -- GC's point
   one_found : (v : Vector) (g : Fetched) → by_measured w (apart_of v g (At origin)) ≡ by_fetched (zero_or w) (λ (place : Vector). pushes (along_of v place origin) w) g
@@ -90,55 +90,55 @@ module _ (f : Fixed) (w : World) where
   one_found v (At place) = refl
   one_found v (RefusedPlace why) = refl
 
-  gc-measured : (original : Bool) (zone : ZonePointer) (at : ℕ)
-      → by_measured w (apart_of (vector_for original w.state.vectors) (lookedIn original zone at) (At origin))
+  gc_measured : (original : Bool) (zone : ZonePointer) (at : ℕ)
+      → by_measured w (apart_of (vector_for original w.state.vectors) (looked_in original zone at) (At origin))
       ≡ cond original
       (original_or f zone at w (zero_or w) (λ (place : Vector). pushes (dual_project_of w.state.vectors place origin) w))
       (point_or zone at w (zero_or w) (λ (place : Vector). pushes (from_origin w.state.vectors place) w))
   unfolding looked_up original_or point_or from_origin
-  gc-measured true zone at = one_found w.state.vectors.dual _
-  gc-measured false zone at = one_found w.state.vectors.projection _
+  gc_measured true zone at = one_found w.state.vectors.dual _
+  gc_measured false zone at = one_found w.state.vectors.projection _
 
   -- MD's two
-  two-found : (v : Vector) (g h : Fetched)
+  two_found : (v : Vector) (g h : Fetched)
       → by_measured w (apart_of v g h) ≡ by_fetched (zero_or w) (λ (here : Vector). by_fetched (zero_or w) (λ (there : Vector). pushes (along_of v here there) w) h) g
   unfolding apart_of
-  two-found v (At here) (At there) = refl
-  two-found v (At here) (RefusedPlace why) = refl
-  two-found v (RefusedPlace why) h = refl
+  two_found v (At here) (At there) = refl
+  two_found v (At here) (RefusedPlace why) = refl
+  two_found v (RefusedPlace why) h = refl
 
   -- two originals: each was found at its place
   abbrev original_at : ℕ → ZonePointer → Vector
   original_at at zone = place_in at f.gox f.goy w.tox w.toy zone
 
-  abbrev isThere : ℕ → ZonePointer → Bool
-  isThere at zone = ltb at (size_of (length f.gox) (length w.tox) zone)
+  abbrev is_there : ℕ → ZonePointer → Bool
+  is_there at zone = ltb at (size_of (length f.gox) (length w.tox) zone)
 
-  abbrev foundBy : ℕ → Vector → Bool → Fetched
-  foundBy at place b = cond b (At place) (RefusedPlace (Point at))
+  abbrev found_by : ℕ → Vector → Bool → Fetched
+  found_by at place b = cond b (At place) (RefusedPlace (Point at))
 
-  fetched_by : (at : ℕ) (zone : ZonePointer) → lookedIn true zone at ≡ foundBy at (original_at at zone) (isThere at zone)
+  fetched_by : (at : ℕ) (zone : ZonePointer) → looked_in true zone at ≡ found_by at (original_at at zone) (is_there at zone)
   unfolding looked_up fetch_in fetch_of place_in size_of
   fetched_by at Glyph = refl
   fetched_by at Twilight = refl
 
-  both-placed : (a b : ℕ) (here there : Vector) (x y : Bool)
-      → by_measured w (apart_of w.state.vectors.dual (foundBy a here x) (foundBy b there y))
-      ≡ by_fetched (zero_or w) (λ (_ : Vector). by_fetched (zero_or w) (λ (_ : Vector). pushes (dual_project_of w.state.vectors here there) w) (foundBy b there y)) (foundBy a here x)
+  both_placed : (a b : ℕ) (here there : Vector) (x y : Bool)
+      → by_measured w (apart_of w.state.vectors.dual (found_by a here x) (found_by b there y))
+      ≡ by_fetched (zero_or w) (λ (_ : Vector). by_fetched (zero_or w) (λ (_ : Vector). pushes (dual_project_of w.state.vectors here there) w) (found_by b there y)) (found_by a here x)
   unfolding apart_of
-  both-placed a b here there true true = refl
-  both-placed a b here there true false = refl
-  both-placed a b here there false y = refl
+  both_placed a b here there true true = refl
+  both_placed a b here there true false = refl
+  both_placed a b here there false y = refl
 
-  originals-measured : (p : ZonePointer) (a : ℕ) (q : ZonePointer) (b : ℕ)
-      → by_measured w (apart_of w.state.vectors.dual (lookedIn true p a) (lookedIn true q b))
+  originals_measured : (p : ZonePointer) (a : ℕ) (q : ZonePointer) (b : ℕ)
+      → by_measured w (apart_of w.state.vectors.dual (looked_in true p a) (looked_in true q b))
       ≡ original_or f p a w (zero_or w) (λ (_ : Vector). original_or f q b w (zero_or w) (λ (_ : Vector). pushes (originals_apart w.state.vectors.dual p a q b f.gox f.goy w.tox w.toy) w))
   unfolding looked_up original_or originals_apart
-  originals-measured p a q b = rw (fetched_by a p, fetched_by b q) (both-placed a b (original_at a p) (original_at b q) (isThere a p) (isThere b q))
+  originals_measured p a q b = rw (fetched_by a p, fetched_by b q) (both_placed a b (original_at a p) (original_at b q) (is_there a p) (is_there b q))
 
-  pushed-by : (c : Bool) (d : ℤ) → pushes (cond c d (pos 0)) w ≡ cond c (pushes d w) (pushes (pos 0) w)
-  pushed-by true d = refl
-  pushed-by false d = refl
+  pushed_by : (c : Bool) (d : ℤ) → pushes (cond c d (pos 0)) w ≡ cond c (pushes d w) (pushes (pos 0) w)
+  pushed_by true d = refl
+  pushed_by false d = refl
 
   module _ (a b : ℕ) where
     abbrev p : ZonePointer
@@ -150,22 +150,22 @@ module _ (f : Fixed) (w : World) where
     abbrev glyph_in : ℤ → ℤ
     glyph_in scale = glyph_apart w.state.facts.pedantic w.state.vectors.dual scale a b f.gux f.guy
 
-    abbrev mdBy : Bool → Lined
-    mdBy odd =
+    abbrev md_by : Bool → Lined
+    md_by odd =
         cond odd
         (point_or p a w (zero_or w) (λ (here : Vector). point_or q b w (zero_or w) (λ (there : Vector). pushes (project_of w.state.vectors here there) w)))
         (md_original f a b w)
 
-    md-measured : (odd : Bool) → odd || is_twilight p || is_twilight q ≡ true
-        → by_measured w (apart_of (vector_for (not odd) w.state.vectors) (lookedIn (not odd) p a) (lookedIn (not odd) q b)) ≡ mdBy odd
+    md_measured : (odd : Bool) → odd || is_twilight p || is_twilight q ≡ true
+        → by_measured w (apart_of (vector_for (not odd) w.state.vectors) (looked_in (not odd) p a) (looked_in (not odd) q b)) ≡ md_by odd
     unfolding looked_up point_or md_original outline_of
-    md-measured true h = two-found w.state.vectors.projection _ _
-    md-measured false h = rw h (originals-measured p a q b)
+    md_measured true h = two_found w.state.vectors.projection _ _
+    md_measured false h = rw h (originals_measured p a q b)
 
-    md-pushed : (odd : Bool) → odd || is_twilight p || is_twilight q ≡ false → pushes (glyph_in w.state.measures.scale) w ≡ mdBy odd
+    md_pushed : (odd : Bool) → odd || is_twilight p || is_twilight q ≡ false → pushes (glyph_in w.state.measures.scale) w ≡ md_by odd
     unfolding glyph_apart md_original outline_of
-    md-pushed true h = absurd (true≢false h)
-    md-pushed false h = rw h (pushed-by (w.state.facts.pedantic || (ltb a (length f.gux) && ltb b (length f.gux))) (unscaled_apart w.state.vectors.dual w.state.measures.scale a b f.gux f.guy))
+    md_pushed true h = absurd (true≢false h)
+    md_pushed false h = rw h (pushed_by (w.state.facts.pedantic || (ltb a (length f.gux) && ltb b (length f.gux))) (unscaled_apart w.state.vectors.dual w.state.measures.scale a b f.gux f.guy))
 
 -- ---- the lines
 module _ (f : Fixed) (opcode : ℕ) (operands : List ℤ) (w : World) {r : Lined} where
@@ -174,11 +174,11 @@ module _ (f : Fixed) (opcode : ℕ) (operands : List ℤ) (w : World) {r : Lined
   gc_missing h e = one_missing w operands _ h e
 
   pub gc_found : {at : ℕ} {odd : Bool} {zp2 : ZonePointer} {v : Vector} {g : Fetched} {m : Measured} → 1 ≤ length operands → at ≡ index_at operands 0 → odd ≡ is_odd opcode
-      → zp2 ≡ w.state.pointers.zp2 → g ≡ lookedIn f w odd zp2 at → v ≡ vector_for odd w.state.vectors → m ≡ apart_of v g (At origin) → r ≡ by_measured w m → r ≡ gc_of f opcode operands w
+      → zp2 ≡ w.state.pointers.zp2 → g ≡ looked_in f w odd zp2 at → v ≡ vector_for odd w.state.vectors → m ≡ apart_of v g (At origin) → r ≡ by_measured w m → r ≡ gc_of f opcode operands w
   unfolding gc_of
   gc_found {at = at} {odd = odd} h i o z e v d p =
-      let found = d ∙ ap₂ (λ (v : Vector) (g : Fetched). apart_of v g (At origin)) v (e ∙ ap (λ (zone : ZonePointer). lookedIn f w odd zone at) z) in
-      one_there w operands _ h (rw (← i, ← o) (p ∙ ap (by_measured w) found ∙ gc-measured f w odd w.state.pointers.zp2 at))
+      let found = d ∙ ap₂ (λ (v : Vector) (g : Fetched). apart_of v g (At origin)) v (e ∙ ap (λ (zone : ZonePointer). looked_in f w odd zone at) z) in
+      one_there w operands _ h (rw (← i, ← o) (p ∙ ap (by_measured w) found ∙ gc_measured f w odd w.state.pointers.zp2 at))
 
   pub md_missing : length operands < 2 → r ≡ refused_in w Missing → r ≡ md_of f opcode operands w
   unfolding md_of
@@ -187,17 +187,17 @@ module _ (f : Fixed) (opcode : ℕ) (operands : List ℤ) (w : World) {r : Lined
   -- ---- the operands are there, and the zones were looked at
   module _ {a b : ℕ} {zp0 zp1 : ZonePointer} {odd tp tq : Bool} (h : 2 ≤ length operands) (j : b ≡ index_at operands 0) (i : a ≡ index_at operands 1) (o : odd ≡ is_odd opcode) (e0 : zp0 ≡ w.state.pointers.zp0) (e1 : zp1 ≡ w.state.pointers.zp1) (s : tp ≡ is_twilight zp0) (t : tq ≡ is_twilight zp1) where
     pub md_found : {v : Vector} {g k : Fetched} {m : Measured} → odd || tp || tq ≡ true
-        → g ≡ lookedIn f w (not odd) zp0 a → k ≡ lookedIn f w (not odd) zp1 b
+        → g ≡ looked_in f w (not odd) zp0 a → k ≡ looked_in f w (not odd) zp1 b
         → v ≡ vector_for (not odd) w.state.vectors → m ≡ apart_of v g k → r ≡ by_measured w m → r ≡ md_of f opcode operands w
     unfolding md_of
     md_found {k = k} c e u v d p =
-        let first = e ∙ ap (λ (zone : ZonePointer). lookedIn f w (not odd) zone a) e0 in
-        let second = u ∙ ap (λ (zone : ZonePointer). lookedIn f w (not odd) zone b) e1 in
+        let first = e ∙ ap (λ (zone : ZonePointer). looked_in f w (not odd) zone a) e0 in
+        let second = u ∙ ap (λ (zone : ZonePointer). looked_in f w (not odd) zone b) e1 in
         let found = d ∙ ap₂ (λ (v : Vector) (g : Fetched). apart_of v g k) v first ∙ ap (apart_of (vector_for (not odd) w.state.vectors) _) second in
-        two_there w operands _ h (rw (← i, ← j, ← o) (p ∙ ap (by_measured w) found ∙ md-measured f w a b odd (rw (s ∙ ap is_twilight e0, t ∙ ap is_twilight e1) at c)))
+        two_there w operands _ h (rw (← i, ← j, ← o) (p ∙ ap (by_measured w) found ∙ md_measured f w a b odd (rw (s ∙ ap is_twilight e0, t ∙ ap is_twilight e1) at c)))
 
     pub md_glyph : {scale d : ℤ} → odd || tp || tq ≡ false → scale ≡ w.state.measures.scale → d ≡ glyph_in f w a b scale → r ≡ pushes d w → r ≡ md_of f opcode operands w
     unfolding md_of
     md_glyph c z d p =
         let found = d ∙ ap (glyph_in f w a b) z in
-        two_there w operands _ h (rw (← i, ← j, ← o) (p ∙ ap (λ (d : ℤ). pushes d w) found ∙ md-pushed f w a b odd (rw (s ∙ ap is_twilight e0, t ∙ ap is_twilight e1) at c)))
+        two_there w operands _ h (rw (← i, ← j, ← o) (p ∙ ap (λ (d : ℤ). pushes d w) found ∙ md_pushed f w a b odd (rw (s ∙ ap is_twilight e0, t ∙ ap is_twilight e1) at c)))

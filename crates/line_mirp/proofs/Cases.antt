@@ -25,7 +25,7 @@ use Rattle.line.specs.World.{Fixed, Lined, World}
 use Rattle.line_distance.proofs.Seen.{near_by}
 use Rattle.line_distance.specs.Distance.{chosen_of, cut_in_of, finished, flipped_of, rounds, sets_rp0, single_control}
 use Rattle.line_distance.specs.Outline.{originals_apart}
-use Rattle.line_relative.proofs.Both.{both_made, byReach, looked_up, placeOn, reachIn}
+use Rattle.line_relative.proofs.Both.{both_made, by_reach, looked_up, place_on, reach_in}
 use Rattle.line_relative.specs.Relative.{both_there, related, related_or}
 use Rattle.line_relative.specs.Steps.{reach_of}
 use Rattle.line_steps.proofs.Laws.{rounded_by, two_missing, two_there}
@@ -139,25 +139,25 @@ module _ (f : Fixed) (w : World) (out : Refusal → Lined) where
   tried rest false true x y why = refl
   tried rest false false x y why = refl
 
-  control-is : (next : ℕ) (rest : ℤ → Lined) → by_found out rest (control_found next f.controls) ≡ control_by f next out rest
+  control_is : (next : ℕ) (rest : ℤ → Lined) → by_found out rest (control_found next f.controls) ≡ control_by f next out rest
   unfolding control_found control_by
-  control-is next rest =
+  control_is next rest =
       tried rest (eqb next 0) (leb next (length f.controls)) (pos 0) (get_or f.controls (next - 1) (pos 0)) (ControlValue (next - 1))
 
   module _ (m : Measures) (at : ℕ) (zone : ZonePointer) (rest : ℤ → Lined) where
     abbrev single : ℤ → ℤ
     single v = single_control m.single_width_cut_in m.single_width v
 
-    both_are : (c : Measured) → by_found out rest (mirp_found m c (reachIn w at zone)) ≡ by_found out (λ (v : ℤ). both_there at w out (rest (single v)) zone) c
+    both_are : (c : Measured) → by_found out rest (mirp_found m c (reach_in w at zone)) ≡ by_found out (λ (v : ℤ). both_there at w out (rest (single v)) zone) c
     both_are (Refused why) = refl
-    both_are (Distance v) = split (reachIn w at zone) ∙ looked_up w out at (rest (single v)) zone refl refl refl where
-      split : (t : Call) → by_found out rest (mirp_found m (Distance v) t) ≡ byReach w out (rest (single v)) t
+    both_are (Distance v) = split (reach_in w at zone) ∙ looked_up w out at (rest (single v)) zone refl refl refl where
+      split : (t : Call) → by_found out rest (mirp_found m (Distance v) t) ≡ by_reach w out (rest (single v)) t
       split Done = refl
       split (RefusedCall why) = refl
 
-    found_by : (next : ℕ) {found said : Measured} {r : Lined} → found ≡ mirp_found m (control_found next f.controls) (reachIn w at zone) → found ≡ said → r ≡ by_found out rest said
+    found_by : (next : ℕ) {found said : Measured} {r : Lined} → found ≡ mirp_found m (control_found next f.controls) (reach_in w at zone) → found ≡ said → r ≡ by_found out rest said
         → r ≡ control_by f next out (λ (v : ℤ). both_there at w out (rest (single v)) zone)
-    found_by next e h p = p ∙ ap (by_found out rest) (sym h ∙ e) ∙ both_are (control_found next f.controls) ∙ control-is next _
+    found_by next e h p = p ∙ ap (by_found out rest) (sym h ∙ e) ∙ both_are (control_found next f.controls) ∙ control_is next _
 
 -- ---- the line
 module _ (f : Fixed) (w : World) (at : ℕ) where
@@ -167,14 +167,14 @@ module _ (f : Fixed) (w : World) (at : ℕ) where
       let s = w.state in
       made_in at (mirp_place s.vectors.freedom control (place_in s.references.rp0 f.gox f.goy w.tox w.toy zp0)) w zp1
 
-  abbrev apartIn : World → ZonePointer → ZonePointer → ℤ
-  apartIn made zp0 zp1 =
+  abbrev apart_in : World → ZonePointer → ZonePointer → ℤ
+  apart_in made zp0 zp1 =
       let s = w.state in
       originals_apart s.vectors.dual zp1 at zp0 s.references.rp0 f.gox f.goy made.tox made.toy
 
   -- where the points are by then
-  abbrev ownIn : World → ZonePointer → ZonePointer → ℤ
-  ownIn made zp0 zp1 = project_of w.state.vectors (placeOn made zp1 at) (placeOn made zp0 w.state.references.rp0)
+  abbrev own_in : World → ZonePointer → ZonePointer → ℤ
+  own_in made zp0 zp1 = project_of w.state.vectors (place_on made zp1 at) (place_on made zp0 w.state.references.rp0)
 
   -- what is left of the line by then
   abbrev brought : ℕ → Bool → World → ℤ → Lined
@@ -182,17 +182,17 @@ module _ (f : Fixed) (w : World) (at : ℕ) where
       let s = w.state in
       point_in s.pointers.zp1 at made λ place.
       point_in s.pointers.zp0 s.references.rp0 made λ reference.
-      let distance = mirp_distance opcode (same_zone s.pointers.zp0 s.pointers.zp1) s.facts.native_clear_type_x s.round s.measures control (apartIn made s.pointers.zp0 s.pointers.zp1) in
+      let distance = mirp_distance opcode (same_zone s.pointers.zp0 s.pointers.zp1) s.facts.native_clear_type_x s.round s.measures control (apart_in made s.pointers.zp0 s.pointers.zp1) in
       rounded_move_in s.pointers.zp1 (step_from (project_of s.vectors place reference) distance) at made λ moved.
       done_in (related sets at moved)
 
   -- and of the line once the control value was found
-  abbrev madeAndBrought : ℕ → Bool → ℤ → Lined
-  madeAndBrought opcode sets control = brought opcode sets (made_from control w.state.pointers.zp0 w.state.pointers.zp1) control
+  abbrev made_and_brought : ℕ → Bool → ℤ → Lined
+  made_and_brought opcode sets control = brought opcode sets (made_from control w.state.pointers.zp0 w.state.pointers.zp1) control
 
   -- what was found, by the zones that the pointers name
-  abbrev foundIn : ℕ → ZonePointer → ZonePointer → Measured
-  foundIn next zp0 zp1 = mirp_found w.state.measures (control_found next f.controls) (reach_of at zp0 w.state.references.rp0 (length w.gx) (length w.tx) zp1)
+  abbrev found_in : ℕ → ZonePointer → ZonePointer → Measured
+  found_in next zp0 zp1 = mirp_found w.state.measures (control_found next f.controls) (reach_of at zp0 w.state.references.rp0 (length w.gx) (length w.tx) zp1)
 
 module _ (f : Fixed) (opcode : ℕ) (operands : List ℤ) (w : World) {r : Lined} where
   pub mirp_missing : length operands < 2 → r ≡ refused_in w Missing → r ≡ mirp_of f opcode operands w
@@ -200,20 +200,20 @@ module _ (f : Fixed) (opcode : ℕ) (operands : List ℤ) (w : World) {r : Lined
   mirp_missing h e = two_missing w operands _ h e
 
   -- ---- both operands are there, and the control value and the points were looked at
-  module _ {next at : ℕ} {zp0 zp1 : ZonePointer} {sets : Bool} {found : Measured} (h : 2 ≤ length operands) (i : next ≡ index_of (add32 (get_or operands 0 (pos 0)) (pos 1))) (j : at ≡ index_at operands 1) (e0 : zp0 ≡ w.state.pointers.zp0) (e1 : zp1 ≡ w.state.pointers.zp1) (s : sets ≡ sets_rp0 opcode) (e : found ≡ foundIn f w at next zp0 zp1) where
-    by-found : {said : Measured} → found ≡ said → r ≡ by_found (related_or sets at w) (madeAndBrought f w at opcode sets) said → r ≡ mirp_of f opcode operands w
+  module _ {next at : ℕ} {zp0 zp1 : ZonePointer} {sets : Bool} {found : Measured} (h : 2 ≤ length operands) (i : next ≡ index_of (add32 (get_or operands 0 (pos 0)) (pos 1))) (j : at ≡ index_at operands 1) (e0 : zp0 ≡ w.state.pointers.zp0) (e1 : zp1 ≡ w.state.pointers.zp1) (s : sets ≡ sets_rp0 opcode) (e : found ≡ found_in f w at next zp0 zp1) where
+    by_found_lem : {said : Measured} → found ≡ said → r ≡ by_found (related_or sets at w) (made_and_brought f w at opcode sets) said → r ≡ mirp_of f opcode operands w
     unfolding mirp_of
-    by-found t p =
+    by_found_lem t p =
         two_there w operands _ h
         (rw (← i, ← j, ← s)
-        (found_by f w (related_or sets at w) w.state.measures at w.state.pointers.zp1 (madeAndBrought f w at opcode sets) next (e ∙ ap₂ (foundIn f w at next) e0 e1) t p))
+        (found_by f w (related_or sets at w) w.state.measures at w.state.pointers.zp1 (made_and_brought f w at opcode sets) next (e ∙ ap₂ (found_in f w at next) e0 e1) t p))
 
     pub mirp_outside : {why : Refusal} → found ≡ Refused why → r ≡ related_or sets at w why → r ≡ mirp_of f opcode operands w
-    mirp_outside t p = by-found t p
+    mirp_outside t p = by_found_lem t p
 
     pub mirp_moved : {z control : ℤ} (made : World) {own original distance : ℤ} {within : Bool} {d step : Tracked} {m : Move} {b : BothMoved} → found ≡ Distance z → control ≡ z → made ≡ made_from f w at control zp0 zp1
-        → own ≡ ownIn f w at made zp0 zp1
-        → original ≡ apartIn f w at made zp0 zp1
+        → own ≡ own_in f w at made zp0 zp1
+        → original ≡ apart_in f w at made zp0 zp1
         → within ≡ same_zone zp0 zp1
         → d ≡ mirp_distance opcode within w.state.facts.native_clear_type_x w.state.round w.state.measures control original
         → step ≡ step_from own d → distance ≡ step.word → m ≡ move_of made.state.vectors made.state.facts distance
@@ -222,14 +222,14 @@ module _ (f : Fixed) (opcode : ℕ) (operands : List ℤ) (w : World) {r : Lined
     mirp_moved {control = control} made {m = m'} t k q o a n d x c m b p =
         let g = w.state in
         let at-zp1 = g.pointers.zp1 in
-        let there = points_there g.measures (control_found next f.controls) (reachIn w at at-zp1) (sym (e ∙ ap₂ (foundIn f w at next) e0 e1) ∙ t) in
+        let there = points_there g.measures (control_found next f.controls) (reach_in w at at-zp1) (sym (e ∙ ap₂ (found_in f w at next) e0 e1) ∙ t) in
         let is_made = q ∙ ap₂ (made_from f w at control) e0 e1 in
-        let own = o ∙ ap₂ (ownIn f w at made) e0 e1 in
-        let original = a ∙ ap₂ (apartIn f w at made) e0 e1 in
+        let own = o ∙ ap₂ (own_in f w at made) e0 e1 in
+        let original = a ∙ ap₂ (apart_in f w at made) e0 e1 in
         let within = n ∙ ap₂ same_zone e0 e1 in
         let moved = b ∙ ap (apply_in m' at made.gx made.gy made.gflags made.tx made.ty made.tflags) e1 in
         let distance = d ∙ ap₂ (λ (within : Bool) (original : ℤ). mirp_distance opcode within g.facts.native_clear_type_x g.round g.measures control original) within original in
-        by-found t
+        by_found_lem t
         (both_made w at at-zp1 _ _ _ refl there is_made refl refl (rounded_by made at-zp1 at _ (x ∙ ap₂ step_from own distance) c m moved p)
         ∙ ap (λ (v : World). brought f w at opcode sets v control) is_made
-        ∙ ap (madeAndBrought f w at opcode sets) k)
+        ∙ ap (made_and_brought f w at opcode sets) k)

@@ -13,7 +13,7 @@ use Rattle.graphics.specs.State.{with_rounding}
 use Rattle.graphics.specs.declared.Vector.{Vector}
 use Rattle.graphics.specs.declared.Vectors.{Vectors}
 use Rattle.int.specs.Word.{add32, sub32}
-use Rattle.line_relative.proofs.Both.{both_made, looked_up, placeOn, reachIn}
+use Rattle.line_relative.proofs.Both.{both_made, looked_up, place_on, reach_in}
 use Rattle.line_relative.specs.Relative.{related}
 use Rattle.line_steps.proofs.Laws.{moved_there, two_missing, two_there}
 use Rattle.line_steps.specs.Steps.{after_move, done_in, made_in, passed_over, refused_in, rounded_in}
@@ -49,15 +49,15 @@ module _ (f : Fixed) (opcode : ℕ) (operands : List ℤ) (w : World) {r : Lined
   msirp_missing h e = two_missing w operands _ h e
 
   -- ---- both operands are there
-  module _ {distance : ℤ} {at : ℕ} {there : Call} (h : 2 ≤ length operands) (d : distance ≡ get_or operands 0 (pos 0)) (j : at ≡ index_at operands 1) (e : there ≡ reachIn w at w.state.pointers.zp1) where
+  module _ {distance : ℤ} {at : ℕ} {there : Call} (h : 2 ≤ length operands) (d : distance ≡ get_or operands 0 (pos 0)) (j : at ≡ index_at operands 1) (e : there ≡ reach_in w at w.state.pointers.zp1) where
     pub msirp_passed : {why : Refusal} → there ≡ Refused why → r ≡ passed_over w why → r ≡ msirp_of f opcode operands w
     unfolding msirp_of
     msirp_passed t p = two_there w operands _ h (rw (← d, ← j) (looked_up w (passed_over w) at _ w.state.pointers.zp1 e t p))
 
     pub msirp_moved : (made : World) {place reference : Vector} {by : ℤ} {odd : Bool} {m : Move} {b : BothMoved} → there ≡ Done
         → made ≡ made_in at (made_place w.state.vectors distance (made_from f.rules (place_of w.tox w.toy at) (place_in w.state.references.rp0 f.gox f.goy w.tox w.toy w.state.pointers.zp0))) w w.state.pointers.zp1
-        → place ≡ placeOn made w.state.pointers.zp1 at
-        → reference ≡ placeOn made w.state.pointers.zp0 w.state.references.rp0
+        → place ≡ place_on made w.state.pointers.zp1 at
+        → reference ≡ place_on made w.state.pointers.zp0 w.state.references.rp0
         → by ≡ sub32 distance (project_of w.state.vectors place reference) → m ≡ move_of made.state.vectors made.state.facts by
         → b ≡ apply_in m at made.gx made.gy made.gflags made.tx made.ty made.tflags w.state.pointers.zp1 → odd ≡ is_odd opcode
         → r ≡ after_move made (λ (v : World). done_in (related odd at (rounded_in false v))) b → r ≡ msirp_of f opcode operands w

@@ -62,70 +62,70 @@ module _ (w : World) where
   abbrev pub size_in : ZonePointer → ℕ
   size_in zone = size_of (length w.gx) (length w.tx) zone
 
-  abbrev pub placeOn : ZonePointer → ℕ → Vector
-  placeOn zone at = place_in at w.gx w.gy w.tx w.ty zone
+  abbrev pub place_on : ZonePointer → ℕ → Vector
+  place_on zone at = place_in at w.gx w.gy w.tx w.ty zone
 
-  abbrev foundBy : ZonePointer → ℕ → Bool → Fetched
-  foundBy zone at b = cond b (At (placeOn zone at)) (RefusedPlace (Point at))
+  abbrev found_by : ZonePointer → ℕ → Bool → Fetched
+  found_by zone at b = cond b (At (place_on zone at)) (RefusedPlace (Point at))
 
-  fetched_by : (zone : ZonePointer) (at : ℕ) → fetch_in at w.gx w.gy w.tx w.ty zone ≡ foundBy zone at (ltb at (size_in zone))
+  fetched_by : (zone : ZonePointer) (at : ℕ) → fetch_in at w.gx w.gy w.tx w.ty zone ≡ found_by zone at (ltb at (size_in zone))
   unfolding fetch_in fetch_of place_in size_of
   fetched_by Glyph at = refl
   fetched_by Twilight at = refl
 
   -- a point and rp0 of zp0
-  abbrev pub reachIn : ℕ → ZonePointer → Call
-  reachIn at zone = reach_of at w.state.pointers.zp0 w.state.references.rp0 (length w.gx) (length w.tx) zone
+  abbrev pub reach_in : ℕ → ZonePointer → Call
+  reach_in at zone = reach_of at w.state.pointers.zp0 w.state.references.rp0 (length w.gx) (length w.tx) zone
 
   module _ (out : Refusal → Lined) where
-    by-found : (zone : ZonePointer) (at : ℕ) (rest : Vector → Lined) (b : Bool)
-        → by_fetched out rest (foundBy zone at b) ≡ cond b (rest (placeOn zone at)) (out (Point at))
-    by-found zone at rest true = refl
-    by-found zone at rest false = refl
+    by_found_lem : (zone : ZonePointer) (at : ℕ) (rest : Vector → Lined) (b : Bool)
+        → by_fetched out rest (found_by zone at b) ≡ cond b (rest (place_on zone at)) (out (Point at))
+    by_found_lem zone at rest true = refl
+    by_found_lem zone at rest false = refl
 
-    point_is : (zone : ZonePointer) (at : ℕ) (rest : Vector → Lined) → point_or zone at w out rest ≡ cond (ltb at (size_in zone)) (rest (placeOn zone at)) (out (Point at))
+    point_is : (zone : ZonePointer) (at : ℕ) (rest : Vector → Lined) → point_or zone at w out rest ≡ cond (ltb at (size_in zone)) (rest (place_on zone at)) (out (Point at))
     unfolding point_or
-    point_is zone at rest = ap (by_fetched out rest) (fetched_by zone at) ∙ by-found zone at rest (ltb at (size_in zone))
+    point_is zone at rest = ap (by_fetched out rest) (fetched_by zone at) ∙ by_found_lem zone at rest (ltb at (size_in zone))
 
-    pub point_inside : (zone : ZonePointer) (at : ℕ) (rest : Vector → Lined) {r : Lined} → ltb at (size_in zone) ≡ true → r ≡ rest (placeOn zone at) → r ≡ point_or zone at w out rest
-    point_inside zone at rest h p = p ∙ sym (point_is zone at rest ∙ ap (λ (b : Bool). cond b (rest (placeOn zone at)) (out (Point at))) h)
+    pub point_inside : (zone : ZonePointer) (at : ℕ) (rest : Vector → Lined) {r : Lined} → ltb at (size_in zone) ≡ true → r ≡ rest (place_on zone at) → r ≡ point_or zone at w out rest
+    point_inside zone at rest h p = p ∙ sym (point_is zone at rest ∙ ap (λ (b : Bool). cond b (rest (place_on zone at)) (out (Point at))) h)
 
     -- ---- both look-ups
-    abbrev pub byReach : Lined → Call → Lined
-    byReach rest Done = rest
-    byReach rest (Refused why) = out why
+    abbrev pub by_reach : Lined → Call → Lined
+    by_reach rest Done = rest
+    by_reach rest (Refused why) = out why
 
-    both-tried : (rest : Lined) (p q : Refusal) (a b : Bool)
-        → byReach rest (cond a (cond b Done (Refused q)) (Refused p)) ≡ cond a (cond b rest (out q)) (out p)
-    both-tried rest p q true true = refl
-    both-tried rest p q true false = refl
-    both-tried rest p q false b = refl
+    both_tried : (rest : Lined) (p q : Refusal) (a b : Bool)
+        → by_reach rest (cond a (cond b Done (Refused q)) (Refused p)) ≡ cond a (cond b rest (out q)) (out p)
+    both_tried rest p q true true = refl
+    both_tried rest p q true false = refl
+    both_tried rest p q false b = refl
 
     both_are : (one : ZonePointer) (first : ℕ) (two : ZonePointer) (second : ℕ) (rest : Vector → Vector → Lined)
-        → byReach (rest (placeOn one first) (placeOn two second)) (both_inside first (size_in one) second (size_in two))
+        → by_reach (rest (place_on one first) (place_on two second)) (both_inside first (size_in one) second (size_in two))
         ≡ point_or one first w out (λ (p : Vector). point_or two second w out (rest p))
     unfolding both_inside
     both_are one first two second rest =
-        both-tried (rest (placeOn one first) (placeOn two second)) (Point first) (Point second) (ltb first (size_in one)) (ltb second (size_in two))
-        ∙ ap (λ (l : Lined). cond (ltb first (size_in one)) l (out (Point first))) (sym (point_is two second (rest (placeOn one first))))
+        both_tried (rest (place_on one first) (place_on two second)) (Point first) (Point second) (ltb first (size_in one)) (ltb second (size_in two))
+        ∙ ap (λ (l : Lined). cond (ltb first (size_in one)) l (out (Point first))) (sym (point_is two second (rest (place_on one first))))
         ∙ sym (point_is one first (λ (p : Vector). point_or two second w out (rest p)))
 
     -- the first looked at first, and what the two places are
     pub both_looked_up : (one : ZonePointer) (first : ℕ) (two : ZonePointer) (second : ℕ) (rest : Vector → Vector → Lined) {r : Lined} {there said : Call}
-        → there ≡ both_inside first (size_in one) second (size_in two) → there ≡ said → r ≡ byReach (rest (placeOn one first) (placeOn two second)) said
+        → there ≡ both_inside first (size_in one) second (size_in two) → there ≡ said → r ≡ by_reach (rest (place_on one first) (place_on two second)) said
         → r ≡ point_or one first w out (λ (p : Vector). point_or two second w out (rest p))
     both_looked_up one first two second rest e t p =
-        p ∙ ap (byReach (rest (placeOn one first) (placeOn two second))) (sym t ∙ e) ∙ both_are one first two second rest
+        p ∙ ap (by_reach (rest (place_on one first) (place_on two second))) (sym t ∙ e) ∙ both_are one first two second rest
 
-    reach-is : (at : ℕ) (rest : Lined) (zone : ZonePointer) → byReach rest (reachIn at zone) ≡ both_there at w out rest zone
+    reach_is : (at : ℕ) (rest : Lined) (zone : ZonePointer) → by_reach rest (reach_in at zone) ≡ both_there at w out rest zone
     unfolding reach_of both_there size_of
-    reach-is at rest Glyph = both_are Glyph at w.state.pointers.zp0 w.state.references.rp0 (λ (_ _ : Vector). rest)
-    reach-is at rest Twilight = both_are w.state.pointers.zp0 w.state.references.rp0 Twilight at (λ (_ _ : Vector). rest)
+    reach_is at rest Glyph = both_are Glyph at w.state.pointers.zp0 w.state.references.rp0 (λ (_ _ : Vector). rest)
+    reach_is at rest Twilight = both_are w.state.pointers.zp0 w.state.references.rp0 Twilight at (λ (_ _ : Vector). rest)
 
     -- rp0 looked at first where the point is in twilight
-    pub looked_up : (at : ℕ) (rest : Lined) (zone : ZonePointer) {r : Lined} {there said : Call} → there ≡ reachIn at zone → there ≡ said → r ≡ byReach rest said
+    pub looked_up : (at : ℕ) (rest : Lined) (zone : ZonePointer) {r : Lined} {there said : Call} → there ≡ reach_in at zone → there ≡ said → r ≡ by_reach rest said
         → r ≡ both_there at w out rest zone
-    looked_up at rest zone e t p = p ∙ ap (byReach rest) (sym t ∙ e) ∙ reach-is at rest zone
+    looked_up at rest zone e t p = p ∙ ap (by_reach rest) (sym t ∙ e) ∙ reach_is at rest zone
 
 -- ---- the twilight point made: the two points are there still
 made_size : (at : ℕ) (place : Vector) (w : World) (zone other : ZonePointer) → size_in (made_in at place w zone) other ≡ size_in w other
@@ -134,8 +134,8 @@ made_size at place w Glyph other = refl
 made_size at place w Twilight other = ap (λ (n : ℕ). size_of (length w.gx) n other) (length-set w.tx at place.x)
 
 pub both_made : (w : World) (at : ℕ) (zone : ZonePointer) (out : Refusal → Lined) (rest : Vector → Vector → Lined) (put : Vector) {there : Call} {place reference : Vector} {made : World} {r : Lined}
-    → there ≡ reachIn w at zone → there ≡ Done → made ≡ made_in at put w zone
-    → place ≡ placeOn made zone at → reference ≡ placeOn made w.state.pointers.zp0 w.state.references.rp0 → r ≡ rest place reference
+    → there ≡ reach_in w at zone → there ≡ Done → made ≡ made_in at put w zone
+    → place ≡ place_on made zone at → reference ≡ place_on made w.state.pointers.zp0 w.state.references.rp0 → r ≡ rest place reference
     → r ≡ point_or zone at made out (λ (p : Vector). point_or w.state.pointers.zp0 w.state.references.rp0 made out (rest p))
 both_made w at zone out rest put {made = made} e t q o u p =
     let zp0 = w.state.pointers.zp0 in

@@ -24,16 +24,16 @@ module _ (m : Move) (operands : List ℤ) where
   one_missing z Twilight e = ap (twilight_left z.glyph) (once_missing (shift_unless_idle m) operands z.twilight e)
 
   module _ (n : length operands ≡ 0 → ⊥) where
-    idle-step : (s : Points) → is_idle m ≡ true → ended Done s ≡ each (shift_unless_idle m) 1 operands s
-    idle-step s i = rw i refl ∙ once_there (shift_unless_idle m) operands s n
+    idle_step : (s : Points) → is_idle m ≡ true → ended Done s ≡ each (shift_unless_idle m) 1 operands s
+    idle_step s i = rw i refl ∙ once_there (shift_unless_idle m) operands s n
 
     pub one_idle : (z : Zones) (zone : ZonePointer) → is_idle m ≡ true → ended Done z ≡ in_zone (each (shift_unless_idle m) 1 operands) z zone
     unfolding in_zone
-    one_idle z Glyph i = ap (glyph_left z.twilight) (idle-step z.glyph i)
-    one_idle z Twilight i = ap (twilight_left z.glyph) (idle-step z.twilight i)
+    one_idle z Glyph i = ap (glyph_left z.twilight) (idle_step z.glyph i)
+    one_idle z Twilight i = ap (twilight_left z.glyph) (idle_step z.twilight i)
 
-    moved-step : (s : Points) → is_idle m ≡ false → shift_at m (index_of (get_or operands 0 (pos 0))) s ≡ each (shift_unless_idle m) 1 operands s
-    moved-step s i = rw i refl ∙ once_there (shift_unless_idle m) operands s n
+    moved_step : (s : Points) → is_idle m ≡ false → shift_at m (index_of (get_or operands 0 (pos 0))) s ≡ each (shift_unless_idle m) 1 operands s
+    moved_step s i = rw i refl ∙ once_there (shift_unless_idle m) operands s n
 
     -- what is laid on both zones
     abbrev left : BothMoved → Ended Zones
@@ -42,13 +42,13 @@ module _ (m : Move) (operands : List ℤ) where
     module _ (gx gy : List ℤ) (gflags : List ℕ) (tx ty : List ℤ) (tflags : List ℕ) (i : is_idle m ≡ false) where
       laid : (zone : ZonePointer) → left (apply_in m (index_of (get_or operands 0 (pos 0))) gx gy gflags tx ty tflags zone) ≡ in_zone (each (shift_unless_idle m) 1 operands) (zones gx gy gflags tx ty tflags) zone
       unfolding apply_in in_zone
-      laid Glyph = ap (glyph_left (points tx ty tflags)) (moved-step (points gx gy gflags) i)
-      laid Twilight = ap (twilight_left (points gx gy gflags)) (moved-step (points tx ty tflags) i)
+      laid Glyph = ap (glyph_left (points tx ty tflags)) (moved_step (points gx gy gflags) i)
+      laid Twilight = ap (twilight_left (points gx gy gflags)) (moved_step (points tx ty tflags) i)
 
-      pub one-moved :
+      pub one_moved :
           (zone : ZonePointer) {at : ℕ} {call : Call} {gx' gy' : List ℤ} {gflags' : List ℕ} {tx' ty' : List ℤ} {tflags' : List ℕ} → at ≡ index_of (get_or operands 0 (pos 0)) →
           both_moved call gx' gy' gflags' tx' ty' tflags' ≡ apply_in m at gx gy gflags tx ty tflags zone → ended call (zones gx' gy' gflags' tx' ty' tflags') ≡ in_zone (each (shift_unless_idle m) 1 operands) (zones gx gy gflags tx ty tflags) zone
-      one-moved zone e q = ap left (q ∙ ap (λ (at : ℕ). apply_in m at gx gy gflags tx ty tflags zone) e) ∙ laid zone
+      one_moved zone e q = ap left (q ∙ ap (λ (at : ℕ). apply_in m at gx gy gflags tx ty tflags zone) e) ∙ laid zone
 
 -- the loop counter is what was counted, and the zone the one that was pointed to
 pub counted : (m : Move) (operands : List ℤ) (z : Zones) {count : ℕ} {zone zone' : ZonePointer} → count ≡ 1 → zone ≡ zone' → in_zone (each (shift_unless_idle m) 1 operands) z zone ≡ in_zone (each (shift_unless_idle m) count operands) z zone'

@@ -31,15 +31,15 @@ passed at w Glyph = refl
 passed at w Twilight = refl
 
 module _ (m : Move) (keeps : Bool) (kept : ℕ) where
-  by-kept : (keep : Bool) (point : ℤ) (w : World)
+  by_kept : (keep : Bool) (point : ℤ) (w : World)
       → cond keep (done_in w) (shift_point m point w)
       ≡ zones_in w (in_zone (λ p. cond keep (pass (index_of point) p) (shift_unless_idle m (index_of point) p)) (zones_of w) w.state.pointers.zp2)
-  by-kept true point w = passed (index_of point) w w.state.pointers.zp2
-  by-kept false point w = shift_is m point w
+  by_kept true point w = passed (index_of point) w w.state.pointers.zp2
+  by_kept false point w = shift_is m point w
 
   step_is : (point : ℤ) (w : World) → shift_but m keeps kept point w ≡ zones_in w (in_zone (shift_but_at m keeps kept (index_of point)) (zones_of w) w.state.pointers.zp2)
   unfolding shift_but
-  step_is point w = by-kept (keeps && eqb (index_of point) kept) point w
+  step_is point w = by_kept (keeps && eqb (index_of point) kept) point w
 
 -- ---- the span
 module _ (f : Fixed) (opcode : ℕ) (touches : Bool) (start end : ℕ) (w : World) where
@@ -48,13 +48,13 @@ module _ (f : Fixed) (opcode : ℕ) (touches : Bool) (start end : ℕ) (w : Worl
       let m = zp2_move_of w.state.vectors w.state.facts d.dx d.dy touches in
       each_in (shift_but m (same_zone d.zone w.state.pointers.zp2) d.at) (end - start) (points_from start (end - start)) w
 
-  by-displaced : (d : Displaced) → zones_in w (span_by w.state.vectors w.state.facts w.state.pointers.zp2 touches start end (zones_of w) d) ≡ by_displaced w moved d
+  by_displaced_lem : (d : Displaced) → zones_in w (span_by w.state.vectors w.state.facts w.state.pointers.zp2 touches start end (zones_of w) d) ≡ by_displaced w moved d
   unfolding span_by shift_span
-  by-displaced (By d) =
+  by_displaced_lem (By d) =
       let m = zp2_move_of w.state.vectors w.state.facts d.dx d.dy touches in
       let keeps = same_zone d.zone w.state.pointers.zp2 in
       sym (zone_each_is (shift_but_at m keeps d.at) (shift_but m keeps d.at) (step_is m keeps d.at) (end - start) (points_from start (end - start)) w)
-  by-displaced (RefusedDisplacement why) = refl
+  by_displaced_lem (RefusedDisplacement why) = refl
 
   pub span_is : {p : Reference} {call : Call} {z : Zones} → p ≡ reference_of w.state opcode
       → ended call z ≡ span_of w.state.vectors w.state.facts w.state.pointers.zp2 p touches start end f.gox f.goy w.tox w.toy (zones_of w)
@@ -63,4 +63,4 @@ module _ (f : Fixed) (opcode : ℕ) (touches : Bool) (start end : ℕ) (w : Worl
   unfolding span_in reference_in span_of
   span_is r e =
       ap (zones_in w) (e ∙ ap (λ (p : Reference). span_of w.state.vectors w.state.facts w.state.pointers.zp2 p touches start end f.gox f.goy w.tox w.toy (zones_of w)) r)
-      ∙ by-displaced (reference_moved f opcode w)
+      ∙ by_displaced_lem (reference_moved f opcode w)

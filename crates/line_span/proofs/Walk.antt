@@ -25,21 +25,21 @@ use Rattle.line_span.specs.Steps.{moved_from, moved_run, in_row, at_each, shift_
 
 -- ---- one list
 module _ {A : Type 0} (f : List A → ℕ → List A) where
-  run-ended : (n at : ℕ) (l : List A) → n ≤ 0 → l ≡ at_each f n at l
+  run_ended : (n at : ℕ) (l : List A) → n ≤ 0 → l ≡ at_each f n at l
   unfolding at_each
-  run-ended zero at l h = refl
-  run-ended (suc n) at l h = absurd (omega arith)
+  run_ended zero at l h = refl
+  run_ended (suc n) at l h = absurd (omega arith)
 
-  one-changed : (n at : ℕ) (l : List A) → 0 < n → at_each f (n - 1) (suc at) (f l at) ≡ at_each f n at l
+  one_changed : (n at : ℕ) (l : List A) → 0 < n → at_each f (n - 1) (suc at) (f l at) ≡ at_each f n at l
   unfolding at_each
-  one-changed zero at l h = absurd (omega arith)
-  one-changed (suc n) at l h = let e : suc n - 1 ≡ n = omega arith in rw e
+  one_changed zero at l h = absurd (omega arith)
+  one_changed (suc n) at l h = let e : suc n - 1 ≡ n = omega arith in rw e
 
   -- what is left to change from i on
-  run-turned : (end i : ℕ) (l : List A) → i < end → {m : List A} → m ≡ f l i → at_each f (end - (i + 1)) (i + 1) m ≡ at_each f (end - i) i l
-  run-turned end i l h e =
+  run_turned : (end i : ℕ) (l : List A) → i < end → {m : List A} → m ≡ f l i → at_each f (end - (i + 1)) (i + 1) m ≡ at_each f (end - i) i l
+  run_turned end i l h e =
       let p : end - (i + 1) ≡ end - i - 1 = omega arith in let q : i + 1 ≡ suc i = omega arith in
-      rw (p, q) (ap (at_each f (end - i - 1) (suc i)) e ∙ one-changed (end - i) i l (omega arith))
+      rw (p, q) (ap (at_each f (end - i - 1) (suc i)) e ∙ one_changed (end - i) i l (omega arith))
 
   -- changes that change nothing
   run_still : ((l : List A) (at : ℕ) → f l at ≡ l) → (n at : ℕ) (l : List A) → l ≡ at_each f n at l
@@ -50,18 +50,18 @@ module _ {A : Type 0} (f : List A → ℕ → List A) where
 -- coordinates moved
 module _ (by : ℤ) (end i : ℕ) (l : List ℤ) where
   pub moves_ended : end ≤ i → l ≡ moved_run true by i end l
-  moves_ended h = run-ended (λ (m : List ℤ) (at : ℕ). moved_at m at by true) (end - i) i l (omega arith)
+  moves_ended h = run_ended (λ (m : List ℤ) (at : ℕ). moved_at m at by true) (end - i) i l (omega arith)
 
   pub moves_turned : i < end → {z : ℤ} → z ≡ add32 (get_or l i (pos 0)) by → moved_run true by (i + 1) end (set l i z) ≡ moved_run true by i end l
-  moves_turned h e = run-turned (λ (m : List ℤ) (at : ℕ). moved_at m at by true) end i l h (ap (set l i) e)
+  moves_turned h e = run_turned (λ (m : List ℤ) (at : ℕ). moved_at m at by true) end i l h (ap (set l i) e)
 
 -- flags touched
 module _ (bits end i : ℕ) (l : List ℕ) where
   pub touches_ended : end ≤ i → l ≡ touched_run bits i end l
-  touches_ended h = run-ended (λ (m : List ℕ) (at : ℕ). or_at m at bits) (end - i) i l (omega arith)
+  touches_ended h = run_ended (λ (m : List ℕ) (at : ℕ). or_at m at bits) (end - i) i l (omega arith)
 
   pub touches_turned : i < end → {flag : ℕ} → flag ≡ bit_or (get_or l i 0) bits → touched_run bits (i + 1) end (set l i flag) ≡ touched_run bits i end l
-  touches_turned h e = run-turned (λ (m : List ℕ) (at : ℕ). or_at m at bits) end i l h (ap (set l i) e)
+  touches_turned h e = run_turned (λ (m : List ℕ) (at : ℕ). or_at m at bits) end i l h (ap (set l i) e)
 
 -- coordinates that move, and those that don't
 pub all_moved : (by : ℤ) (start end : ℕ) (l : List ℤ) {moves : Bool} {d : ℤ} {r : List ℤ} → moves ≡ true → d ≡ by → r ≡ moved_run true d start end l → r ≡ moved_run moves by start end l
@@ -111,18 +111,18 @@ module _ {S : Type 0} (f : ℕ → S → Ended S) where
       ∙ on_same (all_same g n (suc at) (λ i t lo hi. h i t (omega (arith, lo)) (omega (arith, hi)))) (g at s).left (g at s).call
 
   -- a row is its first part and then the others
-  on-cut : (a b at next : ℕ) → ((s : S) → onward (each f b (points_from next b)) (each f a (points_from at a) s).left (each f a (points_from at a) s).call ≡ each f (a + b) (points_from at (a + b)) s)
+  on_cut : (a b at next : ℕ) → ((s : S) → onward (each f b (points_from next b)) (each f a (points_from at a) s).left (each f a (points_from at a) s).call ≡ each f (a + b) (points_from at (a + b)) s)
       → (s : S) (call : Call) → onward (each f b (points_from next b)) (onward (each f a (points_from at a)) s call).left (onward (each f a (points_from at a)) s call).call ≡ onward (each f (a + b) (points_from at (a + b))) s call
   unfolding onward
-  on-cut a b at next h s Done = h s
-  on-cut a b at next h s (Refused why) = refl
+  on_cut a b at next h s Done = h s
+  on_cut a b at next h s (Refused why) = refl
 
   cut : (a b at next : ℕ) → next ≡ at + a → (s : S) → onward (each f b (points_from next b)) (each f a (points_from at a) s).left (each f a (points_from at a) s).call ≡ each f (a + b) (points_from at (a + b)) s
   unfolding each onward
   cut zero b at next e s = let p : next ≡ at = omega arith in let q : zero + b ≡ b = omega arith in rw (p, q)
   cut (suc a) b at next e s =
       let q : suc a + b ≡ suc (a + b) = omega arith in
-      rw q (on-cut a b (suc at) next (cut a b (suc at) next (omega arith)) (f at s).left (f at s).call)
+      rw q (on_cut a b (suc at) next (cut a b (suc at) next (omega arith)) (f at s).left (f at s).call)
 
   module _ (start mid end : ℕ) (h : start ≤ mid) (g : mid ≤ end) (s : S) where
     row_cut : onward (in_row f mid end) (in_row f start mid s).left (in_row f start mid s).call ≡ in_row f start end s
@@ -141,13 +141,13 @@ module _ {S : Type 0} (f : ℕ → S → Ended S) where
         from : (t : S) → in_row f (start + 1) end t ≡ each f (end - start - 1) (points_from (suc start) (end - start - 1)) t
         from t = let p : end - (start + 1) ≡ end - start - 1 = omega arith in let q : start + 1 ≡ suc start = omega arith in rw (p, q)
 
-    first-refused : {why : Refusal} → ended (Refused why) s ≡ f start s → ended (Refused why) s ≡ in_row f start end s
+    first_refused : {why : Refusal} → ended (Refused why) s ≡ f start s → ended (Refused why) s ≡ in_row f start end s
     unfolding onward
-    first-refused e = ap (λ (r : Ended S). onward (in_row f (start + 1) end) r.left r.call) e ∙ stepped
+    first_refused e = ap (λ (r : Ended S). onward (in_row f (start + 1) end) r.left r.call) e ∙ stepped
 
-    first-passed : ended Done s ≡ f start s → in_row f (start + 1) end s ≡ in_row f start end s
+    first_passed : ended Done s ≡ f start s → in_row f (start + 1) end s ≡ in_row f start end s
     unfolding onward
-    first-passed e = ap (λ (r : Ended S). onward (in_row f (start + 1) end) r.left r.call) e ∙ stepped
+    first_passed e = ap (λ (r : Ended S). onward (in_row f (start + 1) end) r.left r.call) e ∙ stepped
 
 -- ---- points shifted
 length_moved : (l : List ℤ) (at : ℕ) (by : ℤ) (moves : Bool) → length (moved_at l at by moves) ≡ length l
@@ -164,13 +164,13 @@ module _ (m : Move) where
   abbrev moved : ℕ → Points → Points
   moved at p = points (moved_at p.xs at m.dx m.moves_x) (moved_at p.ys at m.dy m.moves_y) (or_at p.flags at m.touch)
 
-  there-is : (at : ℕ) (p : Points) → at < length p.xs → ended Done (moved at p) ≡ shift_at m at p
+  there_is : (at : ℕ) (p : Points) → at < length p.xs → ended Done (moved at p) ≡ shift_at m at p
   unfolding apply_of
-  there-is at p h = rw (lt-ltb at (length p.xs) h)
+  there_is at p h = rw (lt-ltb at (length p.xs) h)
 
-  out-is : (at : ℕ) (p : Points) → length p.xs ≤ at → ended (Refused (Point at)) p ≡ shift_at m at p
+  out_is : (at : ℕ) (p : Points) → length p.xs ≤ at → ended (Refused (Point at)) p ≡ shift_at m at p
   unfolding apply_of
-  out-is at p h = rw (le-ltb at (length p.xs) h)
+  out_is at p h = rw (le-ltb at (length p.xs) h)
 
   -- ---- a row
   all_there : (n at : ℕ) (p : Points) → at + n ≤ length p.xs → ended Done (shifted_from m n at p) ≡ each (shift_at m) n (points_from at n) p
@@ -178,7 +178,7 @@ module _ (m : Move) where
   all_there zero at p h = refl
   all_there (suc n) at p h =
       all_there n (suc at) (moved at p) (omega (arith, length_moved p.xs at m.dx m.moves_x))
-      ∙ ap (λ (e : Ended Points). onward (each (shift_at m) n (points_from (suc at) n)) e.left e.call) (there-is at p (omega arith))
+      ∙ ap (λ (e : Ended Points). onward (each (shift_at m) n (points_from (suc at) n)) e.left e.call) (there_is at p (omega arith))
 
   module _ (start end : ℕ) (p : Points) where
     pub no_points : end ≤ start → ended Done p ≡ in_row (shift_at m) start end p
@@ -189,13 +189,13 @@ module _ (m : Move) where
       there_all g = all_there (end - start) start p (omega arith)
 
       pub out_at_once : length p.xs ≤ start → ended (Refused (Point start)) p ≡ in_row (shift_at m) start end p
-      out_at_once g = first-refused (shift_at m) start end p h (out-is start p g)
+      out_at_once g = first_refused (shift_at m) start end p h (out_is start p g)
 
     pub out_later : start < length p.xs → length p.xs < end → ended (Refused (Point (length p.xs))) (shifted_run m start (length p.xs) p) ≡ in_row (shift_at m) start end p
     unfolding onward
     out_later g h =
         let size = length p.xs in let q = shifted_run m start size p in
-        first-refused (shift_at m) size end q h (out-is size q (omega (arith, length_run m.dx m.moves_x (size - start) start p.xs)))
+        first_refused (shift_at m) size end q h (out_is size q (omega (arith, length_run m.dx m.moves_x (size - start) start p.xs)))
         ∙ ap (λ (r : Ended Points). onward (in_row (shift_at m) size end) r.left r.call) (all_there (size - start) start p (omega arith))
         ∙ row_cut (shift_at m) start size end (omega arith) (omega arith) p
 
@@ -269,7 +269,7 @@ module _ (m : Move) (keeps : Bool) (kept : ℕ) where
         after : (s : Points) → in_row (shift_at m) (kept + 1) end s ≡ in_row (shift_but_at m keeps kept) kept end s
         after s =
             row_is busy (kept + 1) end (λ i lo hi. apart i (λ e. omega (arith, lo, e))) s
-            ∙ first-passed (shift_but_at m keeps kept) kept end s high (kept_is kept s itself)
+            ∙ first_passed (shift_but_at m keeps kept) kept end s high (kept_is kept s itself)
 
     -- a point before the one that is kept was refused
     pub cut_refused : {why : Refusal} → call ≡ Refused why → ended (Refused why) left ≡ shift_span m keeps kept start end p

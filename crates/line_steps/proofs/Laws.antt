@@ -134,18 +134,18 @@ module _ (w : World) {r : Lined} where
   unfolding move_in
   moved_there zone distance at rest = laid_there zone (move_of w.state.vectors w.state.facts distance) at rest
 
-  rounded-there : (zone : ZonePointer) (d : Tracked) (at : ℕ) (rest : World → Lined) {distance : ℤ} {m : Move} {b : BothMoved}
+  rounded_there : (zone : ZonePointer) (d : Tracked) (at : ℕ) (rest : World → Lined) {distance : ℤ} {m : Move} {b : BothMoved}
       → distance ≡ d.word → m ≡ move_of w.state.vectors w.state.facts distance
       → b ≡ apply_in m at w.gx w.gy w.gflags w.tx w.ty w.tflags zone
       → r ≡ after_move w (λ (v : World). rest (rounded_in d.wrapped v)) b → r ≡ rounded_move_in zone d at w rest
   unfolding rounded_move_in
-  rounded-there zone d at rest e m = moved_there zone d.word at (λ (v : World). rest (rounded_in d.wrapped v)) (m ∙ ap (move_of w.state.vectors w.state.facts) e)
+  rounded_there zone d at rest e m = moved_there zone d.word at (λ (v : World). rest (rounded_in d.wrapped v)) (m ∙ ap (move_of w.state.vectors w.state.facts) e)
 
   pub rounded_by : (zone : ZonePointer) (at : ℕ) (rest : World → Lined) {d d' : Tracked} {distance : ℤ} {m : Move} {b : BothMoved}
       → d ≡ d' → distance ≡ d.word → m ≡ move_of w.state.vectors w.state.facts distance
       → b ≡ apply_in m at w.gx w.gy w.gflags w.tx w.ty w.tflags zone
       → r ≡ after_move w (λ (v : World). rest (rounded_in d.wrapped v)) b → r ≡ rounded_move_in zone d' at w rest
-  rounded_by zone at rest {d = d} e x m b p = rounded-there zone d at rest x m b p ∙ ap (λ (t : Tracked). rounded_move_in zone t at w rest) e
+  rounded_by zone at rest {d = d} e x m b p = rounded_there zone d at rest x m b p ∙ ap (λ (t : Tracked). rounded_move_in zone t at w rest) e
 
   -- ---- the reference point
   pub reference_out : (f : Fixed) (opcode : ℕ) (rest : Displacement → Lined) {d : Displaced} {why : Refusal}

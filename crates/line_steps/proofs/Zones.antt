@@ -27,47 +27,47 @@ zones_in w e = record { call = e.call; world = with_zones w e.left }
 
 -- ---- one step after another in a zone is each step in both
 module _ (f : ℕ → Points → Ended Points) where
-  abbrev inThe : ZonePointer → ℕ → Zones → Ended Zones
-  inThe zone at z = in_zone (f at) z zone
+  abbrev in_the : ZonePointer → ℕ → Zones → Ended Zones
+  in_the zone at z = in_zone (f at) z zone
 
-  on-in-glyph : (n : ℕ) (more : List ℤ) (t : Points) → ((z : Zones) → each (inThe Glyph) n more z ≡ in_zone (each f n more) z Glyph)
-      → (p : Points) (call : Call) → onward (each (inThe Glyph) n more) (record { glyph = p; twilight = t }) call ≡ glyph_left t (onward (each f n more) p call)
+  on_in_glyph : (n : ℕ) (more : List ℤ) (t : Points) → ((z : Zones) → each (in_the Glyph) n more z ≡ in_zone (each f n more) z Glyph)
+      → (p : Points) (call : Call) → onward (each (in_the Glyph) n more) (record { glyph = p; twilight = t }) call ≡ glyph_left t (onward (each f n more) p call)
   unfolding onward in_zone
-  on-in-glyph n more t h p Done = h (record { glyph = p; twilight = t })
-  on-in-glyph n more t h p (Refused why) = refl
+  on_in_glyph n more t h p Done = h (record { glyph = p; twilight = t })
+  on_in_glyph n more t h p (Refused why) = refl
 
-  on-in-twilight : (n : ℕ) (more : List ℤ) (g : Points) → ((z : Zones) → each (inThe Twilight) n more z ≡ in_zone (each f n more) z Twilight)
-      → (p : Points) (call : Call) → onward (each (inThe Twilight) n more) (record { glyph = g; twilight = p }) call ≡ twilight_left g (onward (each f n more) p call)
+  on_in_twilight : (n : ℕ) (more : List ℤ) (g : Points) → ((z : Zones) → each (in_the Twilight) n more z ≡ in_zone (each f n more) z Twilight)
+      → (p : Points) (call : Call) → onward (each (in_the Twilight) n more) (record { glyph = g; twilight = p }) call ≡ twilight_left g (onward (each f n more) p call)
   unfolding onward in_zone
-  on-in-twilight n more g h p Done = h (record { glyph = g; twilight = p })
-  on-in-twilight n more g h p (Refused why) = refl
+  on_in_twilight n more g h p Done = h (record { glyph = g; twilight = p })
+  on_in_twilight n more g h p (Refused why) = refl
 
-  each-in-zone : (zone : ZonePointer) (n : ℕ) (operands : List ℤ) (z : Zones) → each (inThe zone) n operands z ≡ in_zone (each f n operands) z zone
+  each_in_zone : (zone : ZonePointer) (n : ℕ) (operands : List ℤ) (z : Zones) → each (in_the zone) n operands z ≡ in_zone (each f n operands) z zone
   unfolding each in_zone
-  each-in-zone Glyph zero operands z = refl
-  each-in-zone Glyph (suc n) [] z = refl
-  each-in-zone Glyph (suc n) (o ∷ more) z = let e = f (index_of o) z.glyph in on-in-glyph n more z.twilight (each-in-zone Glyph n more) e.left e.call
-  each-in-zone Twilight zero operands z = refl
-  each-in-zone Twilight (suc n) [] z = refl
-  each-in-zone Twilight (suc n) (o ∷ more) z = let e = f (index_of o) z.twilight in on-in-twilight n more z.glyph (each-in-zone Twilight n more) e.left e.call
+  each_in_zone Glyph zero operands z = refl
+  each_in_zone Glyph (suc n) [] z = refl
+  each_in_zone Glyph (suc n) (o ∷ more) z = let e = f (index_of o) z.glyph in on_in_glyph n more z.twilight (each_in_zone Glyph n more) e.left e.call
+  each_in_zone Twilight zero operands z = refl
+  each_in_zone Twilight (suc n) [] z = refl
+  each_in_zone Twilight (suc n) (o ∷ more) z = let e = f (index_of o) z.twilight in on_in_twilight n more z.glyph (each_in_zone Twilight n more) e.left e.call
 
   -- ---- in any world that holds both
   module _ (step : ℤ → World → Lined) (step_is : (o : ℤ) (w : World) → step o w ≡ zones_in w (in_zone (f (index_of o)) (zones_of w) w.state.pointers.zp2)) where
-    abbrev inZp2 : GraphicsState → ℕ → Zones → Ended Zones
-    inZp2 s = inThe s.pointers.zp2
+    abbrev in_zp2 : GraphicsState → ℕ → Zones → Ended Zones
+    in_zp2 s = in_the s.pointers.zp2
 
     pub zone_each_is : (n : ℕ) (operands : List ℤ) (w : World) → each_in step n operands w ≡ zones_in w (in_zone (each f n operands) (zones_of w) w.state.pointers.zp2)
     zone_each_is n operands w =
-        each_is zones_of with_zones (λ v z. refl) (λ v. refl) (λ v y z. refl) (λ v z. refl) step inZp2 step_is n operands w
-        ∙ ap (zones_in w) (each-in-zone w.state.pointers.zp2 n operands (zones_of w))
+        each_is zones_of with_zones (λ v z. refl) (λ v. refl) (λ v y z. refl) (λ v z. refl) step in_zp2 step_is n operands w
+        ∙ ap (zones_in w) (each_in_zone w.state.pointers.zp2 n operands (zones_of w))
 
     pub zone_looped_is : (operands : List ℤ) (w : World) {r : Stepped} {call : Call} {z : Zones}
         → r ≡ record { call = call; state = with_loop_counter w.state 1 }
         → ended call z ≡ in_zone (each f w.state.loop_counter operands) (zones_of w) w.state.pointers.zp2
         → lined r z.glyph.xs z.glyph.ys z.glyph.flags w.tox w.toy z.twilight.xs z.twilight.ys z.twilight.flags ≡ looped operands w step
     zone_looped_is operands w p e =
-        looped_is zones_of with_zones (λ v z. refl) (λ v. refl) (λ v y z. refl) (λ v z. refl) step inZp2 step_is operands w p
-        (e ∙ sym (each-in-zone w.state.pointers.zp2 w.state.loop_counter operands (zones_of w)))
+        looped_is zones_of with_zones (λ v z. refl) (λ v. refl) (λ v y z. refl) (λ v z. refl) step in_zp2 step_is operands w p
+        (e ∙ sym (each_in_zone w.state.pointers.zp2 w.state.loop_counter operands (zones_of w)))
 
 -- ---- a point shifted
 laid_is : (m : Move) (at : ℕ) (w : World) (zone : ZonePointer) → laid_in zone m at w done_in ≡ zones_in w (in_zone (shift_at m at) (zones_of w) zone)

@@ -135,23 +135,23 @@ module _ (across : Bool) (operands : List ℤ) (zp1 zp2 : ZonePointer) (gx gy tx
   line_there h i j ep eq er = rw (le-ltb (length operands) 2 h, er, ep, eq, i, j) refl
 
 -- ---- the lines
-along-is :
+along_is :
     (across : Bool) (op : ℕ) (w : World) (g h : Fetched) → into w (settled_by w.state op (line_by across g h))
     ≡ by_fetched (refused_in w) (λ (p : Vector). by_fetched (refused_in w) (λ (q : Vector). done_in (in_state w (along_at w.state op (line_vector across p q)))) h) g
 unfolding settled_by line_by
-along-is across op w (Refused why) h = refl
-along-is across op w (At p) (Refused why) = refl
-along-is across op w (At p) (At q) = refl
+along_is across op w (Refused why) h = refl
+along_is across op w (At p) (Refused why) = refl
+along_is across op w (At p) (At q) = refl
 
-dual-is :
+dual_is :
     (across : Bool) (w : World) (i j g h : Fetched) → into w (dual_by w.state (line_by across i j) (line_by across g h))
     ≡ by_fetched (refused_in w) (λ (k : Vector). by_fetched (refused_in w) (λ (l : Vector). by_fetched (refused_in w) (λ (p : Vector). by_fetched (refused_in w) (λ (q : Vector). done_in (in_state w (dual_at w.state (line_vector across k l) (line_vector across p q)))) h) g) j) i
 unfolding dual_by line_by
-dual-is across w (Refused why) j g h = refl
-dual-is across w (At k) (Refused why) g h = refl
-dual-is across w (At k) (At l) (Refused why) h = refl
-dual-is across w (At k) (At l) (At p) (Refused why) = refl
-dual-is across w (At k) (At l) (At p) (At q) = refl
+dual_is across w (Refused why) j g h = refl
+dual_is across w (At k) (Refused why) g h = refl
+dual_is across w (At k) (At l) (Refused why) h = refl
+dual_is across w (At k) (At l) (At p) (Refused why) = refl
+dual_is across w (At k) (At l) (At p) (At q) = refl
 
 two_or_more : (a b : ℤ) (more : List ℤ) → ltb (length (a ∷ b ∷ more)) 2 ≡ false
 two_or_more a b more = le-ltb (length (a ∷ b ∷ more)) 2 (omega arith)
@@ -165,18 +165,18 @@ old_in f op operands w = line_found (is_odd op) operands w.state.pointers.zp1 w.
 
 module _ (f : Fixed) (op : ℕ) (w : World) where
   -- SPVTL, SFVTL
-  is-line : (operands : List ℤ) → into w (settled_by w.state op (now_in op operands w)) ≡ to_line_of f op operands w
+  is_line : (operands : List ℤ) → into w (settled_by w.state op (now_in op operands w)) ≡ to_line_of f op operands w
   unfolding to_line_of two point_or line_found settled_by
-  is-line [] = refl
-  is-line (a ∷ []) = refl
-  is-line (a ∷ b ∷ more) = rw (two_or_more a b more) (along-is (is_odd op) op w _ _)
+  is_line [] = refl
+  is_line (a ∷ []) = refl
+  is_line (a ∷ b ∷ more) = rw (two_or_more a b more) (along_is (is_odd op) op w _ _)
 
   -- SDPVTL
-  is-dual : (operands : List ℤ) → into w (dual_by w.state (old_in f op operands w) (now_in op operands w)) ≡ to_dual_line_of f op operands w
+  is_dual : (operands : List ℤ) → into w (dual_by w.state (old_in f op operands w) (now_in op operands w)) ≡ to_dual_line_of f op operands w
   unfolding to_dual_line_of two point_or original_or line_found dual_by
-  is-dual [] = refl
-  is-dual (a ∷ []) = refl
-  is-dual (a ∷ b ∷ more) = rw (two_or_more a b more) (dual-is (is_odd op) w _ _ _ _)
+  is_dual [] = refl
+  is_dual (a ∷ []) = refl
+  is_dual (a ∷ b ∷ more) = rw (two_or_more a b more) (dual_is (is_odd op) w _ _ _ _)
 
 or_left : (a b : Bool) → (a || b) ≡ false → a ≡ false
 or_left true b e = e
@@ -196,15 +196,15 @@ module _ (f : Fixed) (op : ℕ) (operands : List ℤ) (w : World) where
   turned_none a er = rw (er, lt-ltb op 0x86 (leb-false 0x86 op (or_right (ltb op 0x0A) (leb 0x86 op) a)), or_left (ltb op 0x0A) (leb 0x86 op) a) refl
 
   module _ {across : Bool} {zp1 zp2 : ZonePointer} {now : Fetched} (a : is_along op ≡ true) (ea : across ≡ is_odd op) (e1 : zp1 ≡ w.state.pointers.zp1) (e2 : zp2 ≡ w.state.pointers.zp2) (en : now ≡ line_found across operands zp1 zp2 w.gx w.gy w.tx w.ty) where
-    found-now : now ≡ now_in op operands w
-    found-now = rw (en, ea, e1, e2) refl
+    found_now : now ≡ now_in op operands w
+    found_now = rw (en, ea, e1, e2) refl
 
     pub turned_one : {r : Stepped} → op < 0x86 → r ≡ settled_by w.state op now → into w r ≡ turn_of f op operands w
     unfolding turn_of
-    turned_one k er = rw (er, found-now, lt-ltb op 0x86 k, or_first (ltb op 0x0A) (leb 0x86 op) a (lt-leb 0x86 op k)) (is-line f op w operands)
+    turned_one k er = rw (er, found_now, lt-ltb op 0x86 k, or_first (ltb op 0x0A) (leb 0x86 op) a (lt-leb 0x86 op k)) (is_line f op w operands)
 
-    pub turned-both :
+    pub turned_both :
         {old : Fetched} {r : Stepped} → 0x86 ≤ op → old ≡ line_found across operands zp1 zp2 f.gox f.goy w.tox w.toy → r ≡ dual_by w.state old now →
         into w r ≡ turn_of f op operands w
     unfolding turn_of
-    turned-both h eo er = rw (er, found-now, eo, ea, e1, e2, le-ltb op 0x86 h) (is-dual f op w operands)
+    turned_both h eo er = rw (er, found_now, eo, ea, e1, e2, le-ltb op 0x86 h) (is_dual f op w operands)

@@ -50,57 +50,57 @@ stack_in_range kept x y f g h = stack_cases _ kept x y refl f g h
 
 -- ---- the states
 module _ (s : GraphicsState) (ok : usable_state s ≡ true) where
-  projection-ok : vector_in_range s.vectors.projection ≡ true
-  projection-ok = and_left _ (vector_in_range s.vectors.dual) (measured_ok s ok)
+  projection_ok : vector_in_range s.vectors.projection ≡ true
+  projection_ok = and_left _ (vector_in_range s.vectors.dual) (measured_ok s ok)
 
-  along-cases : (measured : Bool) (op : ℕ) (v : Vector) → ltb op 0x08 ≡ measured → vector_in_range v ≡ true → usable_state (along_at s op v) ≡ true
+  along_cases : (measured : Bool) (op : ℕ) (v : Vector) → ltb op 0x08 ≡ measured → vector_in_range v ≡ true → usable_state (along_at s op v) ≡ true
   unfolding along_at
-  along-cases true op v e h = rw e (usable_projection_vectors s ok v h)
-  along-cases false op v e h = rw e (usable_freedom_vector s ok v h)
+  along_cases true op v e h = rw e (usable_projection_vectors s ok v h)
+  along_cases false op v e h = rw e (usable_freedom_vector s ok v h)
 
   along_usable : (op : ℕ) (v : Vector) → vector_in_range v ≡ true → usable_state (along_at s op v) ≡ true
-  along_usable op v h = along-cases _ op v refl h
+  along_usable op v h = along_cases _ op v refl h
 
   dual_usable : (dual v : Vector) → vector_in_range dual ≡ true → vector_in_range v ≡ true → usable_state (dual_at s dual v) ≡ true
   unfolding dual_at usable_state vectors_in_range
   dual_usable dual v d h = rw (h, d, freedom_ok s ok, round_ok s ok) refl
 
-  stack-state-cases : (measured : Bool) (op : ℕ) (x y : ℤ) → eqb op 0x0A ≡ measured → SFits w32 x → SFits w32 y → usable_state (stack_at s op x y) ≡ true
+  stack_state_cases : (measured : Bool) (op : ℕ) (x y : ℤ) → eqb op 0x0A ≡ measured → SFits w32 x → SFits w32 y → usable_state (stack_at s op x y) ≡ true
   unfolding stack_at
-  stack-state-cases true op x y e f g = rw e (usable_projection_vectors s ok _ (stack_in_range _ x y f g projection-ok))
-  stack-state-cases false op x y e f g = rw e (usable_freedom_vector s ok _ (stack_in_range _ x y f g (freedom_ok s ok)))
+  stack_state_cases true op x y e f g = rw e (usable_projection_vectors s ok _ (stack_in_range _ x y f g projection_ok))
+  stack_state_cases false op x y e f g = rw e (usable_freedom_vector s ok _ (stack_in_range _ x y f g (freedom_ok s ok)))
 
-  vector-cases : (follows : Bool) (op : ℕ) (operands : List ℤ) → eqb op 0x0E ≡ follows → usable_state (vector_by s op operands).state ≡ true
+  vector_cases : (follows : Bool) (op : ℕ) (operands : List ℤ) → eqb op 0x0E ≡ follows → usable_state (vector_by s op operands).state ≡ true
   unfolding vector_by followed
-  vector-cases true op operands e = rw e (usable_freedom_vector s ok s.vectors.projection projection-ok)
-  vector-cases false op [] e = rw e ok
-  vector-cases false op (y ∷ []) e = rw e ok
-  vector-cases false op (y ∷ x ∷ more) e = rw e (stack-state-cases _ op (short x) (short y) refl (short_fits x) (short_fits y))
+  vector_cases true op operands e = rw e (usable_freedom_vector s ok s.vectors.projection projection_ok)
+  vector_cases false op [] e = rw e ok
+  vector_cases false op (y ∷ []) e = rw e ok
+  vector_cases false op (y ∷ x ∷ more) e = rw e (stack_state_cases _ op (short x) (short y) refl (short_fits x) (short_fits y))
 
   -- SPVFS, SFVFS, SFVTPV
   pub vector_usable : (op : ℕ) (operands : List ℤ) → usable_state (vector_by s op operands).state ≡ true
-  vector_usable op operands = vector-cases _ op operands refl
+  vector_usable op operands = vector_cases _ op operands refl
 
 -- ---- the lines of two points
 module _ (f : Fixed) (op : ℕ) (w : World) (ok : usable_state w.state ≡ true) where
-  found-usable : (g h : Fetched) → usable_state (by_fetched (refused_in w) (λ (p : Vector). by_fetched (refused_in w) (λ (q : Vector). done_in (in_state w (along_at w.state op (line_vector (is_odd op) p q)))) h) g).world.state ≡ true
-  found-usable (Refused why) h = ok
-  found-usable (At p) (Refused why) = ok
-  found-usable (At p) (At q) = along_usable w.state ok op (line_vector (is_odd op) p q) (line_in_range (is_odd op) p q)
+  found_usable : (g h : Fetched) → usable_state (by_fetched (refused_in w) (λ (p : Vector). by_fetched (refused_in w) (λ (q : Vector). done_in (in_state w (along_at w.state op (line_vector (is_odd op) p q)))) h) g).world.state ≡ true
+  found_usable (Refused why) h = ok
+  found_usable (At p) (Refused why) = ok
+  found_usable (At p) (At q) = along_usable w.state ok op (line_vector (is_odd op) p q) (line_in_range (is_odd op) p q)
 
-  dual-found-usable : (i j g h : Fetched) → usable_state (by_fetched (refused_in w) (λ (k : Vector). by_fetched (refused_in w) (λ (l : Vector). by_fetched (refused_in w) (λ (p : Vector). by_fetched (refused_in w) (λ (q : Vector). done_in (in_state w (dual_at w.state (line_vector (is_odd op) k l) (line_vector (is_odd op) p q)))) h) g) j) i).world.state ≡ true
-  dual-found-usable (Refused why) j g h = ok
-  dual-found-usable (At k) (Refused why) g h = ok
-  dual-found-usable (At k) (At l) (Refused why) h = ok
-  dual-found-usable (At k) (At l) (At p) (Refused why) = ok
-  dual-found-usable (At k) (At l) (At p) (At q) = dual_usable w.state ok (line_vector (is_odd op) k l) (line_vector (is_odd op) p q) (line_in_range (is_odd op) k l) (line_in_range (is_odd op) p q)
+  dual_found_usable : (i j g h : Fetched) → usable_state (by_fetched (refused_in w) (λ (k : Vector). by_fetched (refused_in w) (λ (l : Vector). by_fetched (refused_in w) (λ (p : Vector). by_fetched (refused_in w) (λ (q : Vector). done_in (in_state w (dual_at w.state (line_vector (is_odd op) k l) (line_vector (is_odd op) p q)))) h) g) j) i).world.state ≡ true
+  dual_found_usable (Refused why) j g h = ok
+  dual_found_usable (At k) (Refused why) g h = ok
+  dual_found_usable (At k) (At l) (Refused why) h = ok
+  dual_found_usable (At k) (At l) (At p) (Refused why) = ok
+  dual_found_usable (At k) (At l) (At p) (At q) = dual_usable w.state ok (line_vector (is_odd op) k l) (line_vector (is_odd op) p q) (line_in_range (is_odd op) k l) (line_in_range (is_odd op) p q)
 
   -- SPVTL, SFVTL
   pub to_line_usable : (operands : List ℤ) → usable_state (to_line_of f op operands w).world.state ≡ true
   unfolding to_line_of two point_or
   to_line_usable [] = ok
   to_line_usable (a ∷ []) = ok
-  to_line_usable (a ∷ b ∷ more) = found-usable (fetch_in (index_of b) w.gx w.gy w.tx w.ty w.state.pointers.zp1) (fetch_in (index_of a) w.gx w.gy w.tx w.ty w.state.pointers.zp2)
+  to_line_usable (a ∷ b ∷ more) = found_usable (fetch_in (index_of b) w.gx w.gy w.tx w.ty w.state.pointers.zp1) (fetch_in (index_of a) w.gx w.gy w.tx w.ty w.state.pointers.zp2)
 
   -- SDPVTL
   pub to_dual_line_usable : (operands : List ℤ) → usable_state (to_dual_line_of f op operands w).world.state ≡ true
@@ -108,6 +108,6 @@ module _ (f : Fixed) (op : ℕ) (w : World) (ok : usable_state w.state ≡ true)
   to_dual_line_usable [] = ok
   to_dual_line_usable (a ∷ []) = ok
   to_dual_line_usable (a ∷ b ∷ more) =
-      dual-found-usable (fetch_in (index_of b) f.gox f.goy w.tox w.toy w.state.pointers.zp1) (fetch_in (index_of a) f.gox f.goy w.tox w.toy w.state.pointers.zp2)
+      dual_found_usable (fetch_in (index_of b) f.gox f.goy w.tox w.toy w.state.pointers.zp1) (fetch_in (index_of a) f.gox f.goy w.tox w.toy w.state.pointers.zp2)
       (fetch_in (index_of b) w.gx w.gy w.tx w.ty w.state.pointers.zp1)
       (fetch_in (index_of a) w.gx w.gy w.tx w.ty w.state.pointers.zp2)

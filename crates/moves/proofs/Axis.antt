@@ -54,22 +54,22 @@ unfolding step_by
 y_step f fdotp d e = rw e refl
 
 -- a primed number is what is read back
-pub slanted-step :
+pub slanted_step :
     {px py fx fy d px' py' fx' fy' d' fdotp mx my mx' my' : ℤ} {g : Derived} {ex ey : Bool} {t : ℕ} → px' ≡ px → py' ≡ py → fx' ≡ fx → fy' ≡ fy → d' ≡ d → g ≡ derived_of (vectors px' py' fx' fy') → fdotp ≡ g.fdotp →
     ex ≡ eq_z fx' (pos 0) → ey ≡ eq_z fy' (pos 0) → mx' ≡ mx → mx ≡ mul_div d' fx' fdotp → my' ≡ my → my ≡ mul_div d' fy' fdotp → t ≡ bits_for (not ex) (not ey)
     → record { moves_x = not ex; dx = mx'; moves_y = not ey; dy = my'; touch = t } ≡ step_by (vector fx fy) (fdotp_of (vectors px py fx fy)) d Both
 unfolding step_by
-slanted-step epx epy efx efy ed eg ep eex eey emx' emx emy' emy et = rw (et, emx', emx, emy', emy, eex, eey, ep, eg, epx, epy, efx, efy, ed) refl
+slanted_step epx epy efx efy ed eg ep eex eey emx' emx emy' emy et = rw (et, emx', emx, emy', emy, eex, eey, ep, eg, epx, epy, efx, efy, ed) refl
 
 module _ (v : Vectors) (d : ℤ) where
   pub straight_step : {axis : CoordAxis} {m : Move} {d' : ℤ} → axis ≡ freedom_axis_of v → d' ≡ d → m ≡ step_by v.freedom (fdotp_of v) d' axis → m ≡ step_along v d
   straight_step e ed em = rw (em, ed, e) refl
 
   -- by the numbers of both vectors, whatever the dual vector is
-  pub slanted-along :
+  pub slanted_along :
       {m : Move} {px py fx fy d' : ℤ} → Both ≡ freedom_axis_of v → px ≡ v.projection.x → py ≡ v.projection.y → fx ≡ v.freedom.x → fy ≡ v.freedom.y → d' ≡ d →
       m ≡ step_by (vector fx fy) (fdotp_of (vectors px py fx fy)) d' Both → m ≡ step_along v d
-  slanted-along e epx epy efx efy ed em = rw (em, epx, epy, efx, efy, ed, ← e) refl
+  slanted_along e epx epy efx efy ed em = rw (em, epx, epy, efx, efy, ed, ← e) refl
 
   -- ---- the move
   module _ (f : Facts) {m r : Move} {past : Bool} (em : m ≡ step_along v d) (ep : past ≡ past_both_iups f) where

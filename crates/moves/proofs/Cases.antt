@@ -73,12 +73,12 @@ pub original_from : (v : Vectors) (distance : ℤ) {m : Move} {x y : ℤ} → m 
 unfolding original_move_of
 original_from v distance e p q = rw (p, q) (ap untouching e)
 
-pub zp2-from :
+pub zp2_from :
     (v : Vectors) (f : Facts) (dx dy : ℤ) (touches : Bool) {fx fy dx' dy' : ℤ} {ex ey past : Bool} {t : ℕ} {m : Move} → fx ≡ v.freedom.x → fy ≡ v.freedom.y → dx' ≡ dx → dy' ≡ dy →
     ex ≡ eq_z fx (pos 0) → ey ≡ eq_z fy (pos 0) → t ≡ bits_for (not ex && touches) (not ey && touches) → past ≡ past_both_iups f →
     m ≡ held_back (record { moves_x = not ex; dx = dx'; moves_y = not ey; dy = dy'; touch = t }) f.backward_compatibility past → m ≡ zp2_move_of v f dx dy touches
 unfolding zp2_move_of
-zp2-from v f dx dy touches efx efy edx edy eex eey et ep em = rw (em, et, ep, eex, eey, efx, efy, edx, edy) refl
+zp2_from v f dx dy touches efx efy edx edy eex eey et ep em = rw (em, et, ep, eex, eey, efx, efy, edx, edy) refl
 
 abbrev pub vector : ℤ → ℤ → Vector
 vector x y = record { x = x; y = y }
@@ -86,19 +86,19 @@ vector x y = record { x = x; y = y }
 abbrev pub vectors : ℤ → ℤ → ℤ → ℤ → Vectors
 vectors px py fx fy = record { projection = vector px py; dual = vector px py; freedom = vector fx fy }
 
-pub displacement-from :
+pub displacement_from :
     {px py fx fy cx cy ox oy px' py' fx' fy' cx' cy' ox' oy' : ℤ} {d : Derived} {fdotp distance x y : ℤ} → px' ≡ px → py' ≡ py → fx' ≡ fx → fy' ≡ fy → cx' ≡ cx → cy' ≡ cy → ox' ≡ ox → oy' ≡ oy →
     d ≡ derived_of (vectors px' py' fx' fy') → fdotp ≡ d.fdotp → distance ≡ project_of (vectors px' py' fx' fy') (vector cx' cy') (vector ox' oy') → x ≡ mul_div distance fx' fdotp → y ≡ mul_div distance fy' fdotp →
     vector x y ≡ displacement_of (vectors px py fx fy) (vector cx cy) (vector ox oy)
 unfolding displacement_of
-displacement-from epx epy efx efy ecx ecy eox eoy e p q h k = rw (h, k, q, p, e, epx, epy, efx, efy, ecx, ecy, eox, eoy)
+displacement_from epx epy efx efy ecx ecy eox eoy e p q h k = rw (h, k, q, p, e, epx, epy, efx, efy, ecx, ecy, eox, eoy)
 
 -- by the numbers of vectors and places, whatever the dual vector is
-pub displacement-is :
+pub displacement_is :
     (v : Vectors) (a b : Vector) {px py fx fy cx cy ox oy : ℤ} {d : Vector} → px ≡ v.projection.x → py ≡ v.projection.y → fx ≡ v.freedom.x → fy ≡ v.freedom.y → cx ≡ a.x → cy ≡ a.y → ox ≡ b.x → oy ≡ b.y →
     d ≡ displacement_of (vectors px py fx fy) (vector cx cy) (vector ox oy) → d ≡ displacement_of v a b
 unfolding displacement_of
-displacement-is v a b epx epy efx efy ecx ecy eox eoy e = e ∙ rw (epx, epy, efx, efy, ecx, ecy, eox, eoy) refl
+displacement_is v a b epx epy efx efy ecx ecy eox eoy e = e ∙ rw (epx, epy, efx, efy, ecx, ecy, eox, eoy) refl
 
 pub displaced_by : (p : Reference) {d m : Vector} {x y : ℤ} → d ≡ m → x ≡ d.x → y ≡ d.y → ◌≡◌ {A = Displacement} (record { zone = p.zone; at = p.at; dx = x; dy = y }) (displacement p m)
 displaced_by p e f g = rw (f, g) (ap (displacement p) e)

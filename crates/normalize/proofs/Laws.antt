@@ -45,10 +45,10 @@ settles x y f g e d = rest_of (start_of (nat_abs x) (nat_abs y)) (begun x y f g 
 
 -- so that with more steps given, nothing else comes out
 module _ (x y : ℤ) where
-  no-further : (k : ℕ) (b : ℤ) → lt_z (pos 0) (correction x y b) ≡ false → settled k x y b ≡ b
+  no_further : (k : ℕ) (b : ℤ) → lt_z (pos 0) (correction x y b) ≡ false → settled k x y b ≡ b
   unfolding settled
-  no-further zero b e = refl
-  no-further (suc k) b e = rw e refl
+  no_further zero b e = refl
+  no_further (suc k) b e = rw e refl
 
   by_test :
       (n k : ℕ) (b : ℤ) → (lt_z (pos 0) (correction x y (settled n x y (add32 b (correction x y b)))) ≡ false → settled (n + k) x y (add32 b (correction x y b)) ≡ settled n x y (add32 b (correction x y b))) →
@@ -59,13 +59,13 @@ module _ (x y : ℤ) where
 
   longer : (n k : ℕ) (b : ℤ) → lt_z (pos 0) (correction x y (settled n x y b)) ≡ false → settled (n + k) x y b ≡ settled n x y b
   unfolding settled
-  longer zero k b e = let z : 0 + k ≡ k = omega arith in ap (λ (i : ℕ). settled i x y b) z ∙ no-further k b e
+  longer zero k b e = let z : 0 + k ≡ k = omega arith in ap (λ (i : ℕ). settled i x y b) z ∙ no_further k b e
   longer (suc n) k b e = let z : suc n + k ≡ suc (n + k) = omega arith in ap (λ (i : ℕ). settled i x y b) z ∙ by_test n k b (λ d. longer n k (add32 b (correction x y b)) d) (lt_z (pos 0) (correction x y b)) refl e
 
-pub never-more :
+pub never_more :
     (x y : ℤ) (k : ℕ) → SFits w32 x → SFits w32 y → eq_z x (pos 0) ≡ false → eq_z y (pos 0) ≡ false →
     let s = start_of (nat_abs x) (nat_abs y) in settled (rounds + k) s.x s.y s.b ≡ settled rounds s.x s.y s.b
-never-more x y k f g e d = let s = start_of (nat_abs x) (nat_abs y) in longer s.x s.y rounds k s.b (settles x y f g e d)
+never_more x y k f g e d = let s = start_of (nat_abs x) (nat_abs y) in longer s.x s.y rounds k s.b (settles x y f g e d)
 
 -- ---- the vector is in range
 quarter : (t : Bool) (u : ℕ) → u < 65540 → in_range (component t (pos u)) ≡ true

@@ -149,9 +149,9 @@ module _ (l : ℕ) (some : 0 < l) (fits : l < 2 ^ 32) where
   abbrev W : ℕ
   W = 2 ^ zeros l
 
-  zeros-le : zeros l ≤ 31
+  zeros_le : zeros l ≤ 31
   unfolding zeros
-  zeros-le = let top = leading_top 32 l some fits in omega (arith, top.1)
+  zeros_le = let top = leading_top 32 l some fits in omega (arith, top.1)
 
   at_top : 2 ^ 31 ≤ W * l
   unfolding zeros
@@ -171,11 +171,11 @@ module _ (l : ℕ) (some : 0 < l) (fits : l < 2 ^ 32) where
   abbrev third : ℕ
   third = 0xAAAAAAAA / W
 
-  below-third : l < third → W * suc l ≤ 0xAAAAAAAA
-  below-third h = omega (arith, div-add-mod' 0xAAAAAAAA W, mul-le-mul_left W h)
+  below_third : l < third → W * suc l ≤ 0xAAAAAAAA
+  below_third h = omega (arith, div-add-mod' 0xAAAAAAAA W, mul-le-mul_left W h)
 
-  from-third : third ≤ l → 0xAAAAAAAA < W * suc l
-  from-third h =
+  from_third : third ≤ l → 0xAAAAAAAA < W * suc l
+  from_third h =
       let r : 0xAAAAAAAA % W < W = mod-lt 0xAAAAAAAA (pow_pos (zeros l)) in
       omega (arith, div-add-mod' 0xAAAAAAAA W, r, mul-le-mul_left W h)
 
@@ -191,9 +191,9 @@ record Moved (up down l a c : ℕ) : Type 0 where
   x : ℕ
   y : ℕ
   n : ℕ
-  x-is : shifted up down a ≡ x
-  y-is : shifted up down c ≡ y
-  n-is : near_length up down l x y ≡ n
+  x_is : shifted up down a ≡ x
+  y_is : shifted up down c ≡ y
+  n_is : near_length up down l x y ≡ n
   least : 40960 ≤ n
   most : n ≤ 87381
   estimated : Estimated x y n
@@ -221,45 +221,45 @@ module _ (a c : ℕ) (some-a : 0 < a) (some-c : 0 < c) (le-a : a ≤ 2 ^ 31) (le
   fits : l < 2 ^ 32
   fits = omega (arith, estimate_le a c (2 ^ 31) le-a le-c)
 
-  abbrev n-up : ℕ → ℕ
-  n-up k = estimate (a * 2 ^ k) (c * 2 ^ k)
+  abbrev n_up : ℕ → ℕ
+  n_up k = estimate (a * 2 ^ k) (c * 2 ^ k)
 
-  up_by : (k : ℕ) → 0 < k → 40960 ≤ n-up k → n-up k ≤ 87381 → Moved k 0 l a c
-  up_by k h f g = record { x = a * 2 ^ k; y = c * 2 ^ k; n = n-up k; x-is = shifted_up k a; y-is = shifted_up k c; n-is = sym (anew k 0 l (a * 2 ^ k) (c * 2 ^ k) h); least = f; most = g; estimated = exactly (a * 2 ^ k) (c * 2 ^ k) }
+  up_by : (k : ℕ) → 0 < k → 40960 ≤ n_up k → n_up k ≤ 87381 → Moved k 0 l a c
+  up_by k h f g = record { x = a * 2 ^ k; y = c * 2 ^ k; n = n_up k; x_is = shifted_up k a; y_is = shifted_up k c; n_is = sym (anew k 0 l (a * 2 ^ k) (c * 2 ^ k) h); least = f; most = g; estimated = exactly (a * 2 ^ k) (c * 2 ^ k) }
 
   down_by : (k : ℕ) → 40960 * 2 ^ k ≤ l → l < 87382 * 2 ^ k → Moved 0 k l a c
   down_by k f g = let b = between l (2 ^ k) 40960 87381 (pow_pos k) f g in
-      record { x = a / 2 ^ k; y = c / 2 ^ k; n = l / 2 ^ k; x-is = shifted_down k a; y-is = shifted_down k c; n-is = sym (moved_down 0 k l (a / 2 ^ k) (c / 2 ^ k) (omega arith)) ∙ shifted_down k l; least = b.0; most = b.1; estimated = over a c (2 ^ k) (pow_pos k) }
+      record { x = a / 2 ^ k; y = c / 2 ^ k; n = l / 2 ^ k; x_is = shifted_down k a; y_is = shifted_down k c; n_is = sym (moved_down 0 k l (a / 2 ^ k) (c / 2 ^ k) (omega arith)) ∙ shifted_down k l; least = b.0; most = b.1; estimated = over a c (2 ^ k) (pow_pos k) }
 
   -- an estimate below 2/3 of its highest bit's double goes to place 16, any other to place 15
-  up-15 : (k : ℕ) → 0 < k → k + 15 ≡ zeros l → l < third l some fits → Moved k 0 l a c
-  up-15 k h e t =
+  up_15 : (k : ℕ) → 0 < k → k + 15 ≡ zeros l → l < third l some fits → Moved k 0 l a c
+  up_15 k h e t =
       let m = times a c (2 ^ k) some-a some-c (pow_pos k) in
       let w = higher l some fits 15 k e in
       let i : 2 ^ k * 2 ^ 15 * l ≡ 2 ^ zeros l * l = ap (λ (j : ℕ). j * l) w in
       let j : 2 ^ k * 2 ^ 15 * suc l ≡ 2 ^ zeros l * suc l = ap (λ (j : ℕ). j * suc l) w in
-      up_by k h (omega (arith, i, at_top l some fits, m.least)) (omega (arith, j, below-third l some fits t, m.most))
+      up_by k h (omega (arith, i, at_top l some fits, m.least)) (omega (arith, j, below_third l some fits t, m.most))
 
-  up-16 : (k : ℕ) → 0 < k → k + 16 ≡ zeros l → third l some fits ≤ l → Moved k 0 l a c
-  up-16 k h e t =
+  up_16 : (k : ℕ) → 0 < k → k + 16 ≡ zeros l → third l some fits ≤ l → Moved k 0 l a c
+  up_16 k h e t =
       let m = times a c (2 ^ k) some-a some-c (pow_pos k) in
       let w = higher l some fits 16 k e in
       let j : 2 ^ k * 2 ^ 16 * suc l ≡ 2 ^ zeros l * suc l = ap (λ (j : ℕ). j * suc l) w in
-      let few : k ≤ 15 = omega (arith, e, zeros-le l some fits) in
-      up_by k h (not_too_short k l (n-up k) m.t few (omega (arith, j, from-third l some fits t)) m.least m.full m.doubled.1.1.0 m.doubled.1.1.1) (omega (arith, j, below_top l some fits, m.most))
+      let few : k ≤ 15 = omega (arith, e, zeros_le l some fits) in
+      up_by k h (not_too_short k l (n_up k) m.t few (omega (arith, j, from_third l some fits t)) m.least m.full m.doubled.1.1.0 m.doubled.1.1.1) (omega (arith, j, below_top l some fits, m.most))
 
-  down-15 : (k : ℕ) → k + zeros l ≡ 15 → l < third l some fits → Moved 0 k l a c
-  down-15 k e t =
+  down_15 : (k : ℕ) → k + zeros l ≡ 15 → l < third l some fits → Moved 0 k l a c
+  down_15 k e t =
       let w = lower l some fits 15 k e in
       let i : 2 ^ k * 2 ^ zeros l * l ≡ 2 ^ 15 * l = ap (λ (j : ℕ). j * l) w in
       let j : 2 ^ k * 2 ^ zeros l * suc l ≡ 2 ^ 15 * suc l = ap (λ (j : ℕ). j * suc l) w in
-      down_by k (omega (arith, i, mul-le-mul_left (2 ^ k) (at_top l some fits))) (omega (arith, j, mul-le-mul_left (2 ^ k) (below-third l some fits t), pow_pos k))
+      down_by k (omega (arith, i, mul-le-mul_left (2 ^ k) (at_top l some fits))) (omega (arith, j, mul-le-mul_left (2 ^ k) (below_third l some fits t), pow_pos k))
 
-  down-16 : (k : ℕ) → k + zeros l ≡ 16 → third l some fits ≤ l → Moved 0 k l a c
-  down-16 k e t =
+  down_16 : (k : ℕ) → k + zeros l ≡ 16 → third l some fits ≤ l → Moved 0 k l a c
+  down_16 k e t =
       let w = lower l some fits 16 k e in
       let j : 2 ^ k * 2 ^ zeros l * suc l ≡ 2 ^ 16 * suc l = ap (λ (j : ℕ). j * suc l) w in
-      down_by k (omega (arith, j, mul-le-mul_left (2 ^ k) (from-third l some fits t), pow_pos k)) (omega (arith, j, mul-le-mul_left (2 ^ k) (below_top l some fits), pow_pos k))
+      down_by k (omega (arith, j, mul-le-mul_left (2 ^ k) (from_third l some fits t), pow_pos k)) (omega (arith, j, mul-le-mul_left (2 ^ k) (below_top l some fits), pow_pos k))
 
   moved_by_lem : (p : ℕ) → ((k : ℕ) → 0 < k → k + p ≡ zeros l → Moved k 0 l a c) → ((k : ℕ) → k + zeros l ≡ p → Moved 0 k l a c) → Moved (zeros l - p) (p - zeros l) l a c
   moved_by_lem p up down = ⊎_elim
@@ -270,8 +270,8 @@ module _ (a c : ℕ) (some-a : 0 < a) (some-c : 0 < c) (le-a : a ≤ 2 ^ 31) (le
   moved : Moved (zeros l - past (zeros l) l) (past (zeros l) l - zeros l) l a c
   unfolding past
   moved = ⊎_elim
-      (λ h. rw (lt-leb (third l some fits) l h) (moved_by_lem 15 (λ k i e. up-15 k i e h) (λ k e. down-15 k e h)))
-      (λ h. rw (le-leb (third l some fits) l h) (moved_by_lem 16 (λ k i e. up-16 k i e h) (λ k e. down-16 k e h)))
+      (λ h. rw (lt-leb (third l some fits) l h) (moved_by_lem 15 (λ k i e. up_15 k i e h) (λ k e. down_15 k e h)))
+      (λ h. rw (le-leb (third l some fits) l h) (moved_by_lem 16 (λ k i e. up_16 k i e h) (λ k e. down_16 k e h)))
       (split l (third l some fits))
 
 -- ---- and the start
@@ -302,7 +302,7 @@ start_is up down l a c m =
             near_of m.x m.y m.n m.least m.most e,
             (
               held_of m.x m.y m.n m.least m.most e,
-              rw (m.x-is, m.y-is, m.n-is, wrap_of m.x small-x, wrap_of m.y small-y, wrap_of m.n small_n, guess_is m.n m.most) refl,
+              rw (m.x_is, m.y_is, m.n_is, wrap_of m.x small-x, wrap_of m.y small-y, wrap_of m.n small_n, guess_is m.n m.most) refl,
             ),
           ),
         ),

@@ -29,35 +29,35 @@ cube Q D m e = subst (λ (k : ℕ). Q * ((2 * k + D) * (2 * k + D)) ≤ 4 * (k *
 
 -- ---- one step
 module _ (x g z D : ℕ) (some : 2 ^ 33 * z ≤ D * g) where
-  grown-by : 2 ^ 33 * (x * (g + z)) ≤ x * g * (2 ^ 33 + D)
-  grown-by = omega (arith, mul-le-mul_left x some)
+  grown_by : 2 ^ 33 * (x * (g + z)) ≤ x * g * (2 ^ 33 + D)
+  grown_by = omega (arith, mul-le-mul_left x some)
 
   -- in terms of what x was grown to
   pub part_le : (u : ℕ) → u ≡ x * g / 65536 → 131072 * (x * (g + z)) ≤ suc u * (2 ^ 33 + D)
   part_le u e =
       let a : x * g ≤ 65536 * suc u = omega (arith, e) in
       let b : x * g * (2 ^ 33 + D) ≤ 65536 * suc u * (2 ^ 33 + D) = mul-le-mul_right (2 ^ 33 + D) a in
-      omega (arith, grown-by, b)
+      omega (arith, grown_by, b)
 
 module _ (u v D : ℕ) (e : u * u + v * v + D ≡ 2 ^ 32) (l : 2 * D ≤ 2 ^ 32) where
   abbrev E : ℕ
   E = 2 ^ 33 + D
 
-  u-le : u ≤ 65536
-  u-le = omega (arith, root_lt u 65537 (2 ^ 32) (omega (arith, e)) (omega arith))
+  u_le : u ≤ 65536
+  u_le = omega (arith, root_lt u 65537 (2 ^ 32) (omega (arith, e)) (omega arith))
 
-  v-le : v ≤ 65536
-  v-le = omega (arith, root_lt v 65537 (2 ^ 32) (omega (arith, e)) (omega arith))
+  v_le : v ≤ 65536
+  v_le = omega (arith, root_lt v 65537 (2 ^ 32) (omega (arith, e)) (omega arith))
 
   E-le : 2 * E ≤ 5 * 2 ^ 32
   E-le = omega (arith, l)
 
   -- both parts, one larger than they are
-  both-le : (suc u * suc u + suc v * suc v) * (E * E) ≤ 4 * 2 ^ 32 * bound
-  both-le =
+  both_le : (suc u * suc u + suc v * suc v) * (E * E) ≤ 4 * 2 ^ 32 * bound
+  both_le =
       let c : (u * u + v * v) * (E * E) ≤ 4 * (2 ^ 32 * (2 ^ 32 * 2 ^ 32)) = cube (u * u + v * v) D (2 ^ 32) e in
       let s : 4 * (E * E) ≤ 25 * (2 ^ 32 * 2 ^ 32) = omega (arith, mul-le-mul E-le E-le) in
-      let w : 2 * u + 2 * v + 2 ≤ 262146 = omega (arith, u-le, v-le) in
+      let w : 2 * u + 2 * v + 2 ≤ 262146 = omega (arith, u_le, v_le) in
       let t : (2 * u + 2 * v + 2) * (E * E) ≤ 262146 * (E * E) = mul-le-mul_right (E * E) w in
       omega (arith, c, s, t)
 
@@ -65,7 +65,7 @@ module _ (u v D : ℕ) (e : u * u + v * v + D ≡ 2 ^ 32) (l : 2 * D ≤ 2 ^ 32)
   step_le a b f h =
       let p : 131072 * a * (131072 * a) ≤ suc u * E * (suc u * E) = mul-le-mul f f in
       let q : 131072 * b * (131072 * b) ≤ suc v * E * (suc v * E) = mul-le-mul h h in
-      omega (arith, p, q, both-le)
+      omega (arith, p, q, both_le)
 
 -- ---- what is kept: numbers near length 1 grown to a squared length of at most the bound
 -- the numbers: neither above 4/3, and the length at least 5/8 of what is estimated as 1

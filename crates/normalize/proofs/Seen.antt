@@ -48,29 +48,29 @@ pub moved_down : (u d l x y : ℕ) → u ≤ 0 → shifted u d l ≡ near_length
 unfolding near_length
 moved_down u d l x y h = rw (le-ltb 0 u h) refl
 
-pub start-at :
+pub start_at_lem :
     (u d l x y : ℕ) {p q k : ℕ} {p' q' k' a a' b b' c c' r r' : ℤ} → p ≡ shifted u d x → q ≡ shifted u d y → k ≡ near_length u d l p q → p' ≡ pos p → q' ≡ pos q → k' ≡ pos k →
     a' ≡ a → a ≡ wrap32 p' → b' ≡ b → b ≡ wrap32 q' → c' ≡ c → c ≡ wrap32 k' → r' ≡ r → r ≡ sub32 (pos 65536) c' →
     Path Start (record { x = a'; y = b'; b = r' }) (start_at u d l x y)
 unfolding start_at
-start-at u d l x y ep eq ek ep' eq' ek' ea' ea eb' eb ec' ec er' er = rw (er', er, ec', ec, ek', ek, ea', ea, ep', ep, eb', eb, eq', eq) refl
+start_at_lem u d l x y ep eq ek ep' eq' ek' ea' ea eb' eb ec' ec er' er = rw (er', er, ec', ec, ek', ek, ea', ea, ep', ep, eb', eb, eq', eq) refl
 
-pub start-of :
+pub start_of_lem :
     (x y : ℕ) {l z p u d : ℕ} {r : Start} → l ≡ estimate x y → z ≡ zeros l → p ≡ past z l → u ≡ z - p → d ≡ p - z → r ≡ start_at u d l x y → r ≡ start_of x y
 unfolding start_of start_by
-start-of x y el ez ep eu ed er = rw (er, eu, ed, ep, ez, el) refl
+start_of_lem x y el ez ep eu ed er = rw (er, eu, ed, ep, ez, el) refl
 
-pub normal-axis :
+pub normal_axis :
     {x x' y y' p p' q q' : ℤ} {m n : Bool} → x' ≡ x → y' ≡ y → m ≡ eq_z x' (pos 0) → n ≡ eq_z y' (pos 0) → (m || n) ≡ true → p' ≡ p → p ≡ unit_by x' → q' ≡ q → q ≡ unit_by y' →
     Path Vector (record { x = p'; y = q' }) (unit_of x y)
 unfolding unit_of
-normal-axis {x = x} {y = y} ex ey em en e ep' ep eq' eq = let t : (eq_z x (pos 0) || eq_z y (pos 0)) ≡ true = rw (sym ex, sym ey, sym em, sym en) e in rw (t, ep', ep, eq', eq, ex, ey) refl
+normal_axis {x = x} {y = y} ex ey em en e ep' ep eq' eq = let t : (eq_z x (pos 0) || eq_z y (pos 0)) ≡ true = rw (sym ex, sym ey, sym em, sym en) e in rw (t, ep', ep, eq', eq, ex, ey) refl
 
-pub normal-aimed :
+pub normal_aimed :
     {x x' y y' : ℤ} {m n : Bool} {k l : ℕ} {s : Start} {r : Vector} → x' ≡ x → y' ≡ y → m ≡ eq_z x' (pos 0) → n ≡ eq_z y' (pos 0) → (m || n) ≡ false → k ≡ nat_abs x' → l ≡ nat_abs y' → s ≡ start_of k l →
     r ≡ aimed_from x' y' s → r ≡ unit_of x y
 unfolding unit_of
-normal-aimed {x = x} {y = y} ex ey em en e ek el es er = let t : (eq_z x (pos 0) || eq_z y (pos 0)) ≡ false = rw (sym ex, sym ey, sym em, sym en) e in rw (t, er, es, ek, el, ex, ey) refl
+normal_aimed {x = x} {y = y} ex ey em en e ek el es er = let t : (eq_z x (pos 0) || eq_z y (pos 0)) ≡ false = rw (sym ex, sym ey, sym em, sym en) e in rw (t, er, es, ek, el, ex, ey) refl
 
 -- a magnitude is at most 2 ^ 31
 pub most : (x : ℤ) (m : ℕ) → SFits w32 x → m ≡ nat_abs (to_z w32 (of_z w32 x)) → m ≤ 2 ^ 31
@@ -133,10 +133,10 @@ pub aim :
 unfolding aimed
 aim s eb ex ey ep eq em eu' eu ek' ek en ev' ev el' el = rw (ek', ek, em, eu', eu, ep, el', el, en, ev', ev, eq, eb, ex, ey) refl
 
-pub aim-from :
+pub aim_from :
     (s : Start) {x x' y y' p q f b b' : ℤ} {r : Vector} → x' ≡ x → y' ≡ y → p ≡ s.x → q ≡ s.y → f ≡ s.b → b' ≡ b → b ≡ settled rounds p q f → r ≡ aimed b' x' y' s → r ≡ aimed_from x y s
 unfolding aimed_from
-aim-from s ex ey ep eq ef eb' eb er = rw (er, eb', eb, ep, eq, ef, ex, ey) refl
+aim_from s ex ey ep eq ef eb' eb er = rw (er, eb', eb, ep, eq, ef, ex, ey) refl
 
 pub unit_zero : (x : ℤ) → eq_z x (pos 0) ≡ true → pos 0 ≡ unit_by x
 unit_zero x e = rw (eq_z_true x (pos 0) e) refl

@@ -93,10 +93,10 @@ lacks : (Q : ℕ) → 2 ^ 31 < Q → Q < 2 ^ 32 → wrap32 (neg_ℤ (pos Q)) ≡
 lacks Q f h = sym (wrap_unique (pos (2 ^ 32 - Q)) (neg_ℤ (pos Q)) (record { sfits = omega (arith, f, h) }) (omega (arith, low_negpos Q, f, h)))
 
 too_long : (Q : ℕ) → 2 ^ 32 ≤ Q → Q ≤ 2 ^ 32 + 2 ^ 31 → wrap32 (neg_ℤ (pos Q)) ≡ neg_ℤ (pos (Q - 2 ^ 32))
-too_long Q f h = wrap-unique' (Q - 2 ^ 32) (omega (arith, f, h)) (omega (arith, low_negpos Q, low_negpos (Q - 2 ^ 32), f, h)) where
-  wrap-unique' : (m : ℕ) → m ≤ 2 ^ 31 → low (neg_ℤ (pos m)) ≡ low (neg_ℤ (pos Q)) → wrap32 (neg_ℤ (pos Q)) ≡ neg_ℤ (pos m)
-  wrap-unique' zero l e = sym (wrap_unique (pos 0) (neg_ℤ (pos Q)) (record { sfits = omega arith }) e)
-  wrap-unique' (suc m) l e = sym (wrap_unique (negsuc m) (neg_ℤ (pos Q)) (record { sfits = l }) e)
+too_long Q f h = wrap_unique' (Q - 2 ^ 32) (omega (arith, f, h)) (omega (arith, low_negpos Q, low_negpos (Q - 2 ^ 32), f, h)) where
+  wrap_unique' : (m : ℕ) → m ≤ 2 ^ 31 → low (neg_ℤ (pos m)) ≡ low (neg_ℤ (pos Q)) → wrap32 (neg_ℤ (pos Q)) ≡ neg_ℤ (pos m)
+  wrap_unique' zero l e = sym (wrap_unique (pos 0) (neg_ℤ (pos Q)) (record { sfits = omega arith }) e)
+  wrap_unique' (suc m) l e = sym (wrap_unique (negsuc m) (neg_ℤ (pos Q)) (record { sfits = l }) e)
 
 -- ---- the correction
 abbrev corrected : ℤ → ℕ → ℤ
@@ -165,9 +165,9 @@ module _ (x y g : ℕ) (near : Near x y) (held : Held x y g) where
   abbrev b : ℤ
   b = sub_ℕ g 65536
 
-  correction-is : correction (pos x) (pos y) b ≡ corrected (wrap32 (neg_ℤ (pos Q))) (g / 256)
+  correction_is : correction (pos x) (pos y) b ≡ corrected (wrap32 (neg_ℤ (pos Q))) (g / 256)
   unfolding correction lacking add32
-  correction-is =
+  correction_is =
       let p = grown_is x g (x_part x y g near held) near.0 held.0 below in
       let q = grown_is y g (y_part x y g near held) near.1.0 held.0 below in
       rw (p, q, back_to g, wrap_of g (omega (arith, below))) (ap (λ (z : ℤ). corrected z (g / 256)) (squares u v))
@@ -178,7 +178,7 @@ module _ (x y g : ℕ) (near : Near x y) (held : Held x y g) where
   -- nothing lacking: too short to be told, or long enough
   enough : (m : ℕ) → m ≤ 2 ^ 31 → wrap32 (neg_ℤ (pos Q)) ≡ neg_ℤ (pos m) → lt_z (pos 0) (correction (pos x) (pos y) b) ≡ false
   enough m l e =
-      ap (lt_z (pos 0)) (correction-is ∙ ap (λ (z : ℤ). corrected z (g / 256)) e ∙ not_long m (g / 256) l part_small)
+      ap (lt_z (pos 0)) (correction_is ∙ ap (λ (z : ℤ). corrected z (g / 256)) e ∙ not_long m (g / 256) l part_small)
       ∙ not_above (m / 512 * (g / 256) / 65536)
 
   -- what a step adds
@@ -187,7 +187,7 @@ module _ (x y g : ℕ) (near : Near x y) (held : Held x y g) where
 
   module _ (f : 2 ^ 31 < Q) (h : Q < 2 ^ 32) where
     step_is : correction (pos x) (pos y) b ≡ pos step
-    step_is = correction-is ∙ ap (λ (z : ℤ). corrected z (g / 256)) (lacks Q f h) ∙ not_short (2 ^ 32 - Q) (g / 256) (omega (arith, f, h)) part_small (omega (arith, f, h))
+    step_is = correction_is ∙ ap (λ (z : ℤ). corrected z (g / 256)) (lacks Q f h) ∙ not_short (2 ^ 32 - Q) (g / 256) (omega (arith, f, h)) part_small (omega (arith, f, h))
 
     step_small : 2 ^ 33 * step ≤ (2 ^ 32 - Q) * g
     step_small =
@@ -195,8 +195,8 @@ module _ (x y g : ℕ) (near : Near x y) (held : Held x y g) where
         let j : g / 256 * 256 ≤ g = omega arith in
         omega (arith, mul-le-mul i j)
 
-    held-again : Held x y (g + step)
-    held-again =
+    held_again : Held x y (g + step)
+    held_again =
         let D = 2 ^ 32 - Q in
         let e : Q + D ≡ 2 ^ 32 = omega (arith, h) in
         let l : 2 * D ≤ 2 ^ 32 = omega (arith, f) in
@@ -226,7 +226,7 @@ module _ (x y : ℕ) (near : Near x y) where
       (λ f. ⊎_elim
       (λ h. let z = step x y g near held in let e = step_is x y g near held (omega (arith, f)) h in
       ⊎_elim
-      (λ some. let again = held-again x y g near held (omega (arith, f)) h in
+      (λ some. let again = held_again x y g near held (omega (arith, f)) h in
       let rest = comes_to_rest n (g + z) again (omega (arith, l, some)) in
       (rest.0, (rest.1.0, (goes n g z some (g_lt x y (g + z) near again) e ∙ rest.1.1.0, rest.1.1.1))))
       (λ none. stays n g held (no_step g z none e))

@@ -24,8 +24,8 @@ InOne (r ∷ more) first last = cond (has r first) (leb last r.last) (ltb r.last
 
 -- a number of the range
 module _ (opcode first last : ℕ) (h : first ≤ opcode) (k : opcode ≤ last) where
-  has-too : (r : Row) → has r first ≡ true → leb last r.last ≡ true → has r opcode ≡ true
-  has-too r e t =
+  has_too : (r : Row) → has r first ≡ true → leb last r.last ≡ true → has r opcode ≡ true
+  has_too r e t =
       let low = leb-true r.first first (and_left (leb r.first first) (leb first r.last) e) in
       let high = leb-true last r.last t in
       rw (le-leb r.first opcode (omega arith), le-leb opcode r.last (omega arith))
@@ -39,7 +39,7 @@ module _ (opcode first last : ℕ) (h : first ≤ opcode) (k : opcode ≤ last) 
   by_tests : (r p q : Row) (rest a b : Bool) → has r first ≡ a → has r opcode ≡ b → cond a (leb last r.last) (ltb r.last first && rest) ≡ true → (rest ≡ true → p ≡ q)
       → cond b r p ≡ cond a r q
   by_tests r p q rest true true e d t same = refl
-  by_tests r p q rest true false e d t same = absurd (true≢false (sym (has-too r e t) ∙ d))
+  by_tests r p q rest true false e d t same = absurd (true≢false (sym (has_too r e t) ∙ d))
   by_tests r p q rest false true e d t same = absurd (passes r (and_left (ltb r.last first) rest t) d)
   by_tests r p q rest false false e d t same = same (and_right (ltb r.last first) rest t)
 
@@ -49,17 +49,17 @@ module _ (opcode first last : ℕ) (h : first ≤ opcode) (k : opcode ≤ last) 
       by_tests r (row_in more opcode) (row_in more first) (InOne more first last) (has r first) (has r opcode) refl refl t (same_row more)
 
 module _ (f : Fixed) (opcode : ℕ) (operands : List ℤ) (w : World) {r : Lined} where
-  by-line : (line : Line) → (row_in rows opcode).line ≡ line → r ≡ line f opcode operands w → r ≡ line_of f opcode operands w
+  by_line : (line : Line) → (row_in rows opcode).line ≡ line → r ≡ line f opcode operands w → r ≡ line_of f opcode operands w
   unfolding line_of row_of
-  by-line line e q = q ∙ sym (ap (λ (l : Line). l f opcode operands w) e)
+  by_line line e q = q ∙ sym (ap (λ (l : Line). l f opcode operands w) e)
 
   pub at_number : (n : ℕ) → opcode ≡ n → r ≡ (row_in rows n).line f opcode operands w → r ≡ line_of f opcode operands w
-  at_number n e = by-line (row_in rows n).line (ap (λ (m : ℕ). (row_in rows m).line) e)
+  at_number n e = by_line (row_in rows n).line (ap (λ (m : ℕ). (row_in rows m).line) e)
 
   pub at_range : (first last : ℕ) → first ≤ opcode → opcode < suc last → InOne rows first last ≡ true → r ≡ (row_in rows first).line f opcode operands w
       → r ≡ line_of f opcode operands w
   at_range first last h k t =
-      by-line (row_in rows first).line (ap (λ (row : Row). row.line) (same_row opcode first last h (le_of_suc-le-suc k) rows t))
+      by_line (row_in rows first).line (ap (λ (row : Row). row.line) (same_row opcode first last h (le_of_suc-le-suc k) rows t))
 
 -- ---- at none of them
 -- the numbers, the last first, as a `match` says it
@@ -100,9 +100,9 @@ module _ (opcode : ℕ) where
   Outside [] = Unit
   Outside (range ∷ more) = (range.0 ≤ opcode → opcode ≤ range.1 → ⊥) × Outside more
 
-  of-numbers : (numbers : List ℕ) → NoneOf numbers opcode → Outside (ones numbers)
-  of-numbers [] none = tt
-  of-numbers (n ∷ before) none = (λ h k. let e : opcode ≡ n = omega arith in none.1 e, of-numbers before none.0)
+  of_numbers : (numbers : List ℕ) → NoneOf numbers opcode → Outside (ones numbers)
+  of_numbers [] none = tt
+  of_numbers (n ∷ before) none = (λ h k. let e : opcode ≡ n = omega arith in none.1 e, of_numbers before none.0)
 
   module _ (low : ℕ) (range : ℕ × ℕ) (more : List (ℕ × ℕ)) (up : rising low (range ∷ more) ≡ true) where
     starts : low ≤ range.0
@@ -130,15 +130,15 @@ module _ (opcode : ℕ) where
       let c = at_least (suc range.1) more (rest low range more up) g in
       omega arith
 
-  of-ranges : (low : ℕ) (ranges : List (ℕ × ℕ)) → rising low ranges ≡ true → Above low ranges opcode → Outside ranges
-  of-ranges low [] up g = tt
-  of-ranges low (range ∷ more) up (inl g) =
+  of_ranges : (low : ℕ) (ranges : List (ℕ × ℕ)) → rising low ranges ≡ true → Above low ranges opcode → Outside ranges
+  of_ranges low [] up g = tt
+  of_ranges low (range ∷ more) up (inl g) =
       let b = ends low range more up in
       let k : opcode < range.0 = g.1 in
       (λ p q. omega arith, below (suc range.1) more (rest low range more up) (omega arith))
-  of-ranges low (range ∷ more) up (inr g) =
+  of_ranges low (range ∷ more) up (inr g) =
       let c = at_least (suc range.1) more (rest low range more up) g in
-      (λ p q. omega arith, of-ranges (suc range.1) more (rest low range more up) g)
+      (λ p q. omega arith, of_ranges (suc range.1) more (rest low range more up) g)
 
   not_within : (r : Row) (ranges : List (ℕ × ℕ)) → Outside ranges → r.first ≤ opcode → opcode ≤ r.last → within r ranges ≡ true → ⊥
   not_within r [] out h k t = let z : ◌≡◌ {A = ℕ} 0 1 = cc in omega arith
@@ -163,13 +163,13 @@ module _ (opcode : ℕ) where
     passed r p t e true false h k = e
     passed r p t e false b h k = e
 
-    set-in : (rs : List Row) → Covered numbers ranges rs → (row_in rs opcode).line ≡ set_of
-    set-in [] covered = refl
-    set-in (r ∷ more) (inl e, covered) = either (λ (row : Row). row.line ≡ set_of) (has r opcode) e (set-in more covered)
-    set-in (r ∷ more) (inr t, covered) = passed r (row_in more opcode) t (set-in more covered) (leb r.first opcode) (leb opcode r.last) refl refl
+    set_in : (rs : List Row) → Covered numbers ranges rs → (row_in rs opcode).line ≡ set_of
+    set_in [] covered = refl
+    set_in (r ∷ more) (inl e, covered) = either (λ (row : Row). row.line ≡ set_of) (has r opcode) e (set_in more covered)
+    set_in (r ∷ more) (inr t, covered) = passed r (row_in more opcode) t (set_in more covered) (leb r.first opcode) (leb opcode r.last) refl refl
 
 module _ (f : Fixed) (opcode : ℕ) (operands : List ℤ) (w : World) {r : Lined} where
   pub at_none : (numbers : List ℕ) (ranges : List (ℕ × ℕ)) → Covered numbers ranges rows → rising 0 ranges ≡ true → NoneOf numbers opcode → Above 0 ranges opcode
       → r ≡ set_of f opcode operands w → r ≡ line_of f opcode operands w
   at_none numbers ranges covered up none gap =
-      by-line f opcode operands w set_of (set-in opcode numbers ranges (of-numbers opcode numbers none) (of-ranges opcode 0 ranges up gap) rows covered)
+      by_line f opcode operands w set_of (set_in opcode numbers ranges (of_numbers opcode numbers none) (of_ranges opcode 0 ranges up gap) rows covered)

@@ -62,17 +62,17 @@ point_added x y (box k) h g w =
 -- ---- a step that is drawn
 -- the numbers of a near curve
 module _ (cx cy x y : ℤ) (e : near cx && near cy && near x && near y ≡ true) where
-  before-y : (near cx && near cy) && near x ≡ true
-  before-y = left_of ((near cx && near cy) && near x) (near y) e
+  before_y : (near cx && near cy) && near x ≡ true
+  before_y = left_of ((near cx && near cy) && near x) (near y) e
 
   control : near cx && near cy ≡ true
-  control = left_of (near cx && near cy) (near x) before-y
+  control = left_of (near cx && near cy) (near x) before_y
 
 pub step_within : (k : Extent) (d : Stroke) → is_near d ≡ true → Within k → Within (with_spots k (spots_of d))
 step_within k (Move x y) e w = within_point x y k (left_of (near x) (near y) e) (right_of (near x) (near y) e) w
 step_within k (Line x y) e w = within_point x y k (left_of (near x) (near y) e) (right_of (near x) (near y) e) w
 step_within k (Curve cx cy x y) e w =
-    within_point x y (with_point cx cy k) (right_of (near cx && near cy) (near x) (before-y cx cy x y e)) (right_of ((near cx && near cy) && near x) (near y) e)
+    within_point x y (with_point cx cy k) (right_of (near cx && near cy) (near x) (before_y cx cy x y e)) (right_of ((near cx && near cy) && near x) (near y) e)
     (within_point cx cy k (left_of (near cx) (near cy) (control cx cy x y e)) (right_of (near cx) (near cy) (control cx cy x y e)) w)
 step_within k Close e w = w
 
@@ -83,7 +83,7 @@ step_added k (Curve cx cy x y) e w =
     let hx = left_of (near cx) (near cy) (control cx cy x y e) in
     let hy = right_of (near cx) (near cy) (control cx cy x y e) in
     ap (around_by (of128 x) (of128 y)) (point_added cx cy k hx hy w)
-    ∙ point_added x y (with_point cx cy k) (right_of (near cx && near cy) (near x) (before-y cx cy x y e)) (right_of ((near cx && near cy) && near x) (near y) e) (within_point cx cy k hx hy w)
+    ∙ point_added x y (with_point cx cy k) (right_of (near cx && near cy) (near x) (before_y cx cy x y e)) (right_of ((near cx && near cy) && near x) (near y) e) (within_point cx cy k hx hy w)
 step_added k Close e w = refl
 
 -- points one after the other

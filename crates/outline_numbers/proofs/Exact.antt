@@ -108,9 +108,9 @@ below_255 : (x : ℕ) → suc x < 256 → (suc x ≡ 255 → ⊥) → suc x < 25
 below_255 x h n = elim (eq-or-lt_of_le (le_of_suc-le-suc h)) [ inl e ↦ absurd (n e) | inr l ↦ l ]
 
 module _ (sb : Bool) (x t : ℕ) (s : Bool) (a : ℕ) (small : suc x < 256) where
-  fields-suc : (b : Bool) → (T (not b) → suc x ≡ 255 → ⊥) → HasValue (cond b (cond (eqb t 0) (inf sb) nan) (odd 24 sb (2 ^ 23 + t) x 149)) s a 128 → Fields sb (suc x) t s a
-  fields-suc true n v = absurd (no_inf (eqb t 0) sb s a 128 v)
-  fields-suc false n v =
+  fields_suc : (b : Bool) → (T (not b) → suc x ≡ 255 → ⊥) → HasValue (cond b (cond (eqb t 0) (inf sb) nan) (odd 24 sb (2 ^ 23 + t) x 149)) s a 128 → Fields sb (suc x) t s a
+  fields_suc true n v = absurd (no_inf (eqb t 0) sb s a 128 v)
+  fields_suc false n v =
       let u = unique (odd 24 sb (2 ^ 23 + t) x 149) sb s ((2 ^ 23 + t) * 2 ^ x) a (2 ^ 149) 128 (odd_sign 24 sb (2 ^ 23 + t) x 149) v in (
         below_255 x small (n tt),
         u.0,
@@ -126,7 +126,7 @@ fields sb zero t s a k v =
       u.0,
       doubled t 1 a (2 ^ 149) (2 ^ 150) refl u.1,
     )
-fields sb (suc x) t s a k v = fields-suc sb x t s a k (eqb (suc x) 255) (λ n e. T_not (eqb (suc x) 255) n (subst (λ (y : ℕ). T (eqb (suc x) y)) e (eqb_refl (suc x)))) v
+fields sb (suc x) t s a k v = fields_suc sb x t s a k (eqb (suc x) 255) (λ n e. T_not (eqb (suc x) 255) n (subst (λ (y : ℕ). T (eqb (suc x) y)) e (eqb_refl (suc x)))) v
 
 field_small : (b : ℕ) → b % 2 ^ 31 / 2 ^ 23 < 256
 field_small b = omega (arith, mod-lt b {m = 2 ^ 31} (lit< tt))

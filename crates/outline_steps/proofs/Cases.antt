@@ -30,21 +30,21 @@ use Rattle.outline_steps.specs.declared.Walked.TheVariants.{Went, Ended}
 
 -- ---- two words add up at 64 bits
 module _ (a b : ℤ) (f : mag a < 2 ^ 31) (g : mag b < 2 ^ 31) {p q : ℤ} (x : p ≡ to_z w32 (of_z w32 a)) (y : q ≡ to_z w32 (of_z w32 b)) where
-  fit-a : SFits w32 a
-  fit-a = record { sfits = f }
+  fit_a : SFits w32 a
+  fit_a = record { sfits = f }
 
-  fit-b : SFits w32 b
-  fit-b = record { sfits = g }
+  fit_b : SFits w32 b
+  fit_b = record { sfits = g }
 
   summands : to_z w64 (of_z w64 p) +ℤ to_z w64 (of_z w64 q) ≡ a +ℤ b
   summands =
       let u = x ∙ back32 a f in let v = y ∙ back32 b g in
-      let l = ap (λ (z : ℤ). to_z w64 (of_z w64 z)) u ∙ read64 fit-a in
-      let r = ap (λ (z : ℤ). to_z w64 (of_z w64 z)) v ∙ read64 fit-b in
+      let l = ap (λ (z : ℤ). to_z w64 (of_z w64 z)) u ∙ read64 fit_a in
+      let r = ap (λ (z : ℤ). to_z w64 (of_z w64 z)) v ∙ read64 fit_b in
       λ i. l i +ℤ r i
 
   pub sum_holds : SFits w64 (to_z w64 (of_z w64 p) +ℤ to_z w64 (of_z w64 q))
-  sum_holds = subst (SFits w64) (sym summands) (sum_fits a b fit-a fit-b)
+  sum_holds = subst (SFits w64) (sym summands) (sum_fits a b fit_a fit_b)
 
   pub sum_read : to_z w64 (of_z w64 (to_z w64 (of_z w64 p) +ℤ to_z w64 (of_z w64 q))) ≡ a +ℤ b
   sum_read = to_z-of_z w64 (to_z w64 (of_z w64 p) +ℤ to_z w64 (of_z w64 q)) sum_holds ∙ summands
@@ -83,20 +83,20 @@ module _ (g : Glyph) (w : Walk) where
 
   -- ---- a point waits
   module _ (c at : ℕ) {control s : Spot} {d : Stroke} {v : Walk} (is : control ≡ own g c) (made : d ≡ curve_to control s) where
-    drawn-to : {r : Spot} {u : Walk} → s ≡ r → v ≡ u → stroked d v ≡ stroked (curve_to (own g c) r) u
-    drawn-to e f = let m = made ∙ (λ i. curve_to (is i) (e i)) in λ i. stroked (m i) (f i)
+    drawn_to : {r : Spot} {u : Walk} → s ≡ r → v ≡ u → stroked d v ≡ stroked (curve_to (own g c) r) u
+    drawn_to e f = let m = made ∙ (λ i. curve_to (is i) (e i)) in λ i. stroked (m i) (f i)
 
     pub curve_on : at < w.stop → on g at ≡ true → s ≡ own g at → v ≡ on_to w (at + 1) Onward → stroked d v ≡ curve_from g w c at
     unfolding curve_from
-    curve_on h t e f = drawn-to e f ∙ sym (rw (lt-ltb at w.stop h, t))
+    curve_on h t e f = drawn_to e f ∙ sym (rw (lt-ltb at w.stop h, t))
 
     pub curve_off : at < w.stop → on g at ≡ false → s ≡ between g c at → v ≡ on_to w (at + 1) (Waiting at) → stroked d v ≡ curve_from g w c at
     unfolding curve_from
-    curve_off h t e f = drawn-to e f ∙ sym (rw (lt-ltb at w.stop h, t))
+    curve_off h t e f = drawn_to e f ∙ sym (rw (lt-ltb at w.stop h, t))
 
     pub curve_back : w.stop ≤ at → s ≡ between g w.from w.to → v ≡ on_to w at Onward → stroked d v ≡ curve_from g w c at
     unfolding curve_from
-    curve_back h e f = drawn-to e f ∙ sym (rw (le-ltb at w.stop h))
+    curve_back h e f = drawn_to e f ∙ sym (rw (le-ltb at w.stop h))
 
   -- ---- no point waits
   pub line_on : {s : Spot} {d : Stroke} {v : Walk} → w.at < w.stop → on g w.at ≡ true → s ≡ own g w.at → d ≡ line_to s → v ≡ on_to w (w.at + 1) Onward → stroked d v ≡ onward_from g w

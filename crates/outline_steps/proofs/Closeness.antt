@@ -15,15 +15,15 @@ use Rattle.outline_numbers.proofs.Near.{left_of, right_of, small_near}
 use Rattle.outline_steps.specs.Outline.{is_close, all_close, midway}
 
 module _ (l : List ℤ) (i : ℕ) (h : i < length l) {t : Bool} (is : t ≡ is_close (get_or l i (pos 0))) where
-  next-is : all_close (drop i l) ≡ is_close (get_or l i (pos 0)) && all_close (drop (i + 1) l)
+  next_is : all_close (drop i l) ≡ is_close (get_or l i (pos 0)) && all_close (drop (i + 1) l)
   unfolding all_close
-  next-is = rw (drop-cons l i (pos 0) h, add-one i)
+  next_is = rw (drop-cons l i (pos 0) h, add-one i)
 
   pub one_far : t ≡ false → false ≡ all_close (drop i l)
-  one_far e = sym (next-is ∙ ap (λ (b : Bool). b && all_close (drop (i + 1) l)) (sym is ∙ e))
+  one_far e = sym (next_is ∙ ap (λ (b : Bool). b && all_close (drop (i + 1) l)) (sym is ∙ e))
 
   pub goes_on : t ≡ true → all_close (drop (i + 1) l) ≡ all_close (drop i l)
-  goes_on e = sym (next-is ∙ ap (λ (b : Bool). b && all_close (drop (i + 1) l)) (sym is ∙ e))
+  goes_on e = sym (next_is ∙ ap (λ (b : Bool). b && all_close (drop (i + 1) l)) (sym is ∙ e))
 
 pub all_seen : (l : List ℤ) (i : ℕ) → length l ≤ i → true ≡ all_close (drop i l)
 unfolding all_close

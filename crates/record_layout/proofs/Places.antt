@@ -26,16 +26,16 @@ module _ (l : Layout) where
   pub contour_count : (k : ℕ) → 7 ≤ k → k < 8 → l.contours ≡ count_of l k
   contour_count k g h = let e : 7 ≡ k = omega arith in ap (count_of l) e
 
-  behind-contours : (j : ℕ) → j < 5 → l.twilight ≡ count_of l (8 + j)
-  behind-contours zero h = refl
-  behind-contours (suc zero) h = refl
-  behind-contours (suc (suc zero)) h = refl
-  behind-contours (suc (suc (suc zero))) h = refl
-  behind-contours (suc (suc (suc (suc zero)))) h = refl
-  behind-contours (suc (suc (suc (suc (suc j))))) h = absurd (omega arith)
+  behind_contours : (j : ℕ) → j < 5 → l.twilight ≡ count_of l (8 + j)
+  behind_contours zero h = refl
+  behind_contours (suc zero) h = refl
+  behind_contours (suc (suc zero)) h = refl
+  behind_contours (suc (suc (suc zero))) h = refl
+  behind_contours (suc (suc (suc (suc zero)))) h = refl
+  behind_contours (suc (suc (suc (suc (suc j))))) h = absurd (omega arith)
 
   pub twilight_count : (k : ℕ) → 8 ≤ k → k < 13 → l.twilight ≡ count_of l k
-  twilight_count k g h = let e : 8 + (k - 8) ≡ k = omega arith in behind-contours (k - 8) (omega arith) ∙ ap (count_of l) e
+  twilight_count k g h = let e : 8 + (k - 8) ≡ k = omega arith in behind_contours (k - 8) (omega arith) ∙ ap (count_of l) e
 
   pub control_count : (k : ℕ) → 13 ≤ k → k < 14 → l.controls ≡ count_of l k
   control_count k g h = let e : 13 ≡ k = omega arith in ap (count_of l) e
@@ -61,8 +61,8 @@ module _ (l : Layout) where
       sym (behind (k - 15)) ∙ ap (list_place l) g
   by_test k false e = refl
 
-  capped-place : (k : ℕ) → list_place l (capped k) ≡ list_place l k
-  capped-place k = by_test k (leb 15 k) refl
+  capped_place : (k : ℕ) → list_place l (capped k) ≡ list_place l k
+  capped_place k = by_test k (leb 15 k) refl
 
 -- ---- a sum of the counts
 -- what is summed up to list i
@@ -91,4 +91,4 @@ next_place {l} {end} {at} {i} {n} s h e f =
 pub last_place : {l : Layout} {end at i : ℕ} (k : ℕ) → Summed l end at i → end ≤ i → end ≡ capped k → at ≡ list_place l k
 last_place {l} {end} {at} {i} k s h e =
     let g : i ≡ end = omega (arith, s.within) in
-    s.place_is ∙ ap (list_place l) (g ∙ e) ∙ capped-place l k
+    s.place_is ∙ ap (list_place l) (g ∙ e) ∙ capped_place l k

@@ -70,17 +70,17 @@ module _ (bytes : List ℕ) (l : Layout) (e : open_of bytes ≡ Whole l) where
   pub layout_is : layout_of bytes ≡ l
   layout_is = all_passed.same
 
-  frame-holds : framed bytes ≡ true
-  frame-holds = and_left (framed bytes) (words_fit bytes (layout_of bytes)) all_passed.fits
+  frame_holds : framed bytes ≡ true
+  frame_holds = and_left (framed bytes) (words_fit bytes (layout_of bytes)) all_passed.fits
 
-  words-hold : words_fit bytes (layout_of bytes) ≡ true
-  words-hold = and_right (framed bytes) (words_fit bytes (layout_of bytes)) all_passed.fits
+  words_hold : words_fit bytes (layout_of bytes) ≡ true
+  words_hold = and_right (framed bytes) (words_fit bytes (layout_of bytes)) all_passed.fits
 
   pub sound : Sound bytes (layout_of bytes)
   sound =
       let m = layout_of bytes in
-      let f = and3 {a = length_fits bytes} {b = counts_fit m} {c = trailer_fits bytes m} frame-holds in
-      let w = and4 {a = is_state (state_in bytes)} {b = all_at_most 255 (part bytes (list_place m 6) m.points)} {c = all_at_most 65535 (part bytes (list_place m 7) m.contours)} {d = all_at_most 255 (part bytes (list_place m 12) m.twilight)} words-hold in
+      let f = and3 {a = length_fits bytes} {b = counts_fit m} {c = trailer_fits bytes m} frame_holds in
+      let w = and4 {a = is_state (state_in bytes)} {b = all_at_most 255 (part bytes (list_place m 6) m.points)} {c = all_at_most 65535 (part bytes (list_place m 7) m.contours)} {d = all_at_most 255 (part bytes (list_place m 12) m.twilight)} words_hold in
       let t = and3 {a = eqb (at_trailer m + trailer_size) (word_count bytes)} {b = ltb 0 m.state} {c = eqb (trailer_word bytes 6) (at_trailer m * 4)} f.2 in
       record {
         size_is = leb-true (length bytes) most_bytes all_passed.short_enough;

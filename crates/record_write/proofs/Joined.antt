@@ -161,15 +161,15 @@ module _ (h : Held) (l : Layout) (s : Sized h l) (same : l ≡ layout_for h) (by
   room2 : record_size l ≤ length b2
   room2 = omega (arith, room1, placed_size (list_place l 8) (twilight_words h) b1)
 
-  abbrev before-trailer : List ℕ
-  before-trailer =
+  abbrev before_trailer : List ℕ
+  before_trailer =
       with_sources l h.fixed.controls h.sheet
       (with_twilight l h.world.tox h.world.toy h.world.tx h.world.ty h.world.tflags
       (with_currents l h.world.gx h.world.gy h.world.gflags h.fixed.contours
       (with_originals l h.fixed.gux h.fixed.guy h.fixed.gox h.fixed.goy (with_state h.world.state bytes))))
 
-  body-length : length (body_words h) ≡ at_trailer l
-  body-length =
+  body_length : length (body_words h) ≡ at_trailer l
+  body_length =
       omega (
         arith,
         length-append state (glyph_words h ++ (twilight_words h ++ sources)),
@@ -181,8 +181,8 @@ module _ (h : Held) (l : Layout) (s : Sized h l) (same : l ≡ layout_for h) (by
         sources_ends h l s b0 room0,
       )
 
-  body-joined : before-trailer ≡ placed 0 (body_words h) bytes
-  body-joined =
+  body_joined : before_trailer ≡ placed 0 (body_words h) bytes
+  body_joined =
       let p1 : 0 + length state ≡ list_place l 0 = omega (arith, s.state) in
       let p2 : 0 + length state + length (glyph_words h) ≡ list_place l 8 = omega (arith, p1, glyph_ends h l s b0 room0) in
       let p3 : 0 + length state + length (glyph_words h) + length (twilight_words h) ≡ list_place l 13 = omega (arith, p2, twilight_ends h l s b0 room0) in
@@ -190,37 +190,37 @@ module _ (h : Held) (l : Layout) (s : Sized h l) (same : l ≡ layout_for h) (by
       ∙ ap (with_sources l h.fixed.controls h.sheet) (twilight_joined h l s b1 room1)
       ∙ sources_joined h l s b2 room2
       ∙ cc (p1, p2, p3)
-      ∙ stacked_flat 0 state (glyph_words h ∷ twilight_words h ∷ sources ∷ []) bytes (omega (arith, body-length, room))
+      ∙ stacked_flat 0 state (glyph_words h ∷ twilight_words h ∷ sources ∷ []) bytes (omega (arith, body_length, room))
 
   abbrev framed : List ℕ
   framed = body_words h ++ trailer_words l
 
-  framed-length : 0 + length framed ≡ sum_place l
-  framed-length = omega (arith, length-append (body_words h) (trailer_words l), body-length)
+  framed_length : 0 + length framed ≡ sum_place l
+  framed_length = omega (arith, length-append (body_words h) (trailer_words l), body_length)
 
-  framed-joined : with_counts l before-trailer ≡ placed 0 framed bytes
-  framed-joined =
-      let p : at_trailer l ≡ 0 + length (body_words h) = omega (arith, body-length) in
-      ap₂ (λ (at : ℕ) (b : List ℕ). placed at (trailer_words l) b) p body-joined
-      ∙ placed_join 0 (body_words h) (trailer_words l) bytes (omega (arith, body-length, room))
+  framed_joined : with_counts l before_trailer ≡ placed 0 framed bytes
+  framed_joined =
+      let p : at_trailer l ≡ 0 + length (body_words h) = omega (arith, body_length) in
+      ap₂ (λ (at : ℕ) (b : List ℕ). placed at (trailer_words l) b) p body_joined
+      ∙ placed_join 0 (body_words h) (trailer_words l) bytes (omega (arith, body_length, room))
 
   sum_is : wrapping_sum (part (placed 0 framed bytes) 0 (sum_place l)) ≡ wrapping_sum framed
   sum_is =
-      let n : sum_place l ≡ length framed = omega (arith, framed-length) in
-      ap₂ (λ (b : List ℕ) (n : ℕ). wrapping_sum (part b 0 n)) (placed_front framed bytes (omega (arith, framed-length, room))) n
+      let n : sum_place l ≡ length framed = omega (arith, framed_length) in
+      ap₂ (λ (b : List ℕ) (n : ℕ). wrapping_sum (part b 0 n)) (placed_front framed bytes (omega (arith, framed_length, room))) n
       ∙ written_sum framed (drop ((0 + length framed) * 4) bytes)
 
-  record-joined : with_trailer l before-trailer ≡ placed 0 (framed ++ (wrapping_sum framed ∷ [])) bytes
-  record-joined =
-      ap (with_sum l) framed-joined
-      ∙ ap₂ (λ (at w : ℕ). placed at (w ∷ []) (placed 0 framed bytes)) (sym framed-length) sum_is
-      ∙ placed_join 0 framed (wrapping_sum framed ∷ []) bytes (omega (arith, framed-length, room))
+  record_joined : with_trailer l before_trailer ≡ placed 0 (framed ++ (wrapping_sum framed ∷ [])) bytes
+  record_joined =
+      ap (with_sum l) framed_joined
+      ∙ ap₂ (λ (at w : ℕ). placed at (w ∷ []) (placed 0 framed bytes)) (sym framed_length) sum_is
+      ∙ placed_join 0 framed (wrapping_sum framed ∷ []) bytes (omega (arith, framed_length, room))
 
   -- the stores leave the record at the front of the bytes
   pub stored_record : with_record l h bytes ≡ record_of h ++ drop (record_size l) bytes
   unfolding with_record record_of
   stored_record =
-      let e : (0 + length (framed ++ (wrapping_sum framed ∷ []))) * 4 ≡ record_size l = omega (arith, length-append framed (wrapping_sum framed ∷ []), framed-length) in
-      record-joined
+      let e : (0 + length (framed ++ (wrapping_sum framed ∷ []))) * 4 ≡ record_size l = omega (arith, length-append framed (wrapping_sum framed ∷ []), framed_length) in
+      record_joined
       ∙ placed_front (framed ++ (wrapping_sum framed ∷ [])) bytes (omega (arith, e, room))
       ∙ ap₂ (λ (m : Layout) (n : ℕ). bytes_of ((body_words h ++ trailer_words m) ++ (wrapping_sum (body_words h ++ trailer_words m) ∷ [])) ++ drop n bytes) same e

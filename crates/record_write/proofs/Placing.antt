@@ -35,11 +35,11 @@ placed_join first us vs l h =
 
 -- bytes keep their number, with room or without
 pub placed_size : (first : ℕ) (ws l : List ℕ) → length (placed first ws l) ≡ length l
-placed_size first ws l = by-room (leb ((first + length ws) * 4) (length l)) refl
+placed_size first ws l = by_room (leb ((first + length ws) * 4) (length l)) refl
   where
-    by-room : (t : Bool) → leb ((first + length ws) * 4) (length l) ≡ t → length (placed first ws l) ≡ length l
-    by-room true e = placed_length first ws l (leb-true ((first + length ws) * 4) (length l) e)
-    by-room false e = ap length (sym (no_room first ws l (leb-false ((first + length ws) * 4) (length l) e)))
+    by_room : (t : Bool) → leb ((first + length ws) * 4) (length l) ≡ t → length (placed first ws l) ≡ length l
+    by_room true e = placed_length first ws l (leb-true ((first + length ws) * 4) (length l) e)
+    by_room false e = ap length (sym (no_room first ws l (leb-false ((first + length ws) * 4) (length l) e)))
 
 -- words from the first on, over the front of the bytes
 pub placed_front : (ws l : List ℕ) → (0 + length ws) * 4 ≤ length l → placed 0 ws l ≡ bytes_of ws ++ drop ((0 + length ws) * 4) l

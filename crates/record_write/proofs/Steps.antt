@@ -12,10 +12,10 @@ pub stored : (words : List ℕ) {at at' : ℕ} {before before' after : List ℕ}
 stored words ea e eb = e ∙ ap₂ (λ (n : ℕ) (l : List ℕ). placed n words l) ea eb
 
 module _ (l : Layout) (bytes : List ℕ) {at : ℕ} {after : List ℕ} where
-  pub counts-stored :
+  pub counts_stored :
       {back : ℕ} → back ≡ at_trailer l * 4 % 2 ^ 32 → at ≡ at_trailer l →
       after ≡ placed at (l.points ∷ l.contours ∷ l.twilight ∷ l.controls ∷ l.words ∷ edition ∷ back ∷ []) bytes → after ≡ with_counts l bytes
-  counts-stored eb ea e = rw (e, eb, ea) refl
+  counts_stored eb ea e = rw (e, eb, ea) refl
 
   pub sum_stored : {sum : ℕ} → at ≡ sum_place l → sum ≡ wrapping_sum (part bytes 0 at) → after ≡ placed at (sum ∷ []) bytes → after ≡ with_sum l bytes
   sum_stored ea es e = rw (e, es, ea) refl

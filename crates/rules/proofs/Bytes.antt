@@ -13,15 +13,15 @@ use Rattle.rules.specs.Rules.{same_bytes}
 
 -- ---- the bytes from k on, where there are some
 module _ (a b : List ℕ) (k : ℕ) (ha : k < length a) (hb : k < length b) where
-  next-is : same_bytes (drop k a) (drop k b) ≡ eqb (get_or a k 0) (get_or b k 0) && same_bytes (drop (k + 1) a) (drop (k + 1) b)
+  next_is : same_bytes (drop k a) (drop k b) ≡ eqb (get_or a k 0) (get_or b k 0) && same_bytes (drop (k + 1) a) (drop (k + 1) b)
   unfolding same_bytes
-  next-is = rw (drop-cons a k 0 ha, drop-cons b k 0 hb, add-one k)
+  next_is = rw (drop-cons a k 0 ha, drop-cons b k 0 hb, add-one k)
 
   pub parts : (get_or a k 0 ≡ get_or b k 0 → ⊥) → false ≡ same_bytes (drop k a) (drop k b)
-  parts g = sym (next-is ∙ rw (ne_eqb (get_or a k 0) (get_or b k 0) g))
+  parts g = sym (next_is ∙ rw (ne_eqb (get_or a k 0) (get_or b k 0) g))
 
   pub goes_on : get_or a k 0 ≡ get_or b k 0 → same_bytes (drop (k + 1) a) (drop (k + 1) b) ≡ same_bytes (drop k a) (drop k b)
-  goes_on g = sym (next-is ∙ rw (eq-eqb (get_or a k 0) (get_or b k 0) g))
+  goes_on g = sym (next_is ∙ rw (eq-eqb (get_or a k 0) (get_or b k 0) g))
 
 -- ---- none is left
 pub all_same : (a b : List ℕ) (k : ℕ) → length a ≡ length b → length a ≤ k → true ≡ same_bytes (drop k a) (drop k b)
@@ -34,8 +34,8 @@ unfolding same_bytes
 other_length [] [] g = absurd (g refl)
 other_length [] (y ∷ ys) g = refl
 other_length (x ∷ xs) [] g = refl
-other_length (x ∷ xs) (y ∷ ys) g = both-no (eqb x y) (same_bytes xs ys) (other_length xs ys (λ e. g (ap (λ (n : ℕ). suc n) e)))
+other_length (x ∷ xs) (y ∷ ys) g = both_no (eqb x y) (same_bytes xs ys) (other_length xs ys (λ e. g (ap (λ (n : ℕ). suc n) e)))
   where
-    both-no : (s t : Bool) → false ≡ t → false ≡ s && t
-    both-no true t e = e
-    both-no false t e = refl
+    both_no : (s t : Bool) → false ≡ t → false ≡ s && t
+    both_no true t e = e
+    both_no false t e = refl

@@ -26,7 +26,7 @@ use Rattle.int.specs.Word.{bits_of, of_bits}
 use Rattle.words.specs.Lists.{all_at_most}
 use Rattle.state_words.specs.Words.{fact_of, fact_word, is_state, mode_of, mode_word, state_of, state_size, state_words, state_word, zone_of, zone_word}
 use Rattle.state_words.proofs.Parts.{at_most_nth, part_nth}
-use Rattle.state_words.proofs.Same.{same_facts, same-measures, same_pointers, same_references, same_round, same-state, same_tallies, same_vector, same_vectors}
+use Rattle.state_words.proofs.Same.{same_facts, same_measures, same_pointers, same_references, same_round, same_state, same_tallies, same_vector, same_vectors}
 
 -- ---- one word, written and read
 word_read : {z : ℤ} → SFits w32 z → of_bits (bits_of z) ≡ z
@@ -106,7 +106,7 @@ facts_read s =
 measures_read : (s : GraphicsState) → MeasuresFit s.measures → (state_of (state_words s)).measures ≡ s.measures
 unfolding state_of state_words
 measures_read s f =
-    same-measures (word_read f.cut_in) (word_read f.minimum_distance) (word_read f.single_width) (word_read f.single_width_cut_in)
+    same_measures (word_read f.cut_in) (word_read f.minimum_distance) (word_read f.single_width) (word_read f.single_width_cut_in)
     (fact_read s.measures.auto_flip) (word_read f.scale)
 
 tallies_read : (s : GraphicsState) → SFits w32 s.tallies.last_pushed → (state_of (state_words s)).tallies ≡ s.tallies
@@ -116,7 +116,7 @@ tallies_read s f = same_tallies refl (word_read f) refl
 pub read_written : (s : GraphicsState) → StateFits s → state_of (state_words s) ≡ s
 unfolding state_of state_words
 read_written s f =
-    same-state (vectors_read s f.vectors) (round_read s f.round) (references_read s) refl (pointers_read s) (measures_read s f.measures) (facts_read s)
+    same_state (vectors_read s f.vectors) (round_read s f.round) (references_read s) refl (pointers_read s) (measures_read s f.measures) (facts_read s)
     (tallies_read s f.last_pushed)
 
 -- ---- one word, read and written
@@ -183,23 +183,23 @@ module _ (ws : List ℕ) (e : is_state ws ≡ true) where
   pub size_is : length ws ≡ state_size
   size_is = eqb-true (length ws) state_size (and_left _ (leb (state_word ws 6) 7) first_two)
 
-  mode-in : state_word ws 6 ≤ 7
-  mode-in = leb-true (state_word ws 6) 7 (and_right (eqb (length ws) state_size) _ first_two)
+  mode_in : state_word ws 6 ≤ 7
+  mode_in = leb-true (state_word ws 6) 7 (and_right (eqb (length ws) state_size) _ first_two)
 
   small : (j : ℕ) → j < 8 → state_word ws (17 + j) ≤ 1
   small j h =
       let within = at_most_nth 1 (take 8 (drop 17 ws)) j (and_right (eqb (length ws) state_size && leb (state_word ws 6) 7) _ first_three) in
       omega (arith, within, part_nth ws 17 8 j h)
 
-  flip-in : state_word ws 30 ≤ 1
-  flip-in = leb-true (state_word ws 30) 1 (and_right (eqb (length ws) state_size && leb (state_word ws 6) 7 && all_at_most 1 (take 8 (drop 17 ws))) _ all_in)
+  flip_in : state_word ws 30 ≤ 1
+  flip_in = leb-true (state_word ws 30) 1 (and_right (eqb (length ws) state_size && leb (state_word ws 6) 7 && all_at_most 1 (take 8 (drop 17 ws))) _ all_in)
 
 module _ (ws : List ℕ) (in-range : is_state ws ≡ true) where
-  zone-at : (j : ℕ) → j < 8 → zone_word (zone_of (state_word ws (17 + j))) ≡ state_word ws (17 + j)
-  zone-at j h = zone_written (state_word ws (17 + j)) (small ws in-range j h)
+  zone_at : (j : ℕ) → j < 8 → zone_word (zone_of (state_word ws (17 + j))) ≡ state_word ws (17 + j)
+  zone_at j h = zone_written (state_word ws (17 + j)) (small ws in-range j h)
 
-  fact-at : (j : ℕ) → j < 8 → fact_word (fact_of (state_word ws (17 + j))) ≡ state_word ws (17 + j)
-  fact-at j h = fact_written (state_word ws (17 + j)) (small ws in-range j h)
+  fact_at : (j : ℕ) → j < 8 → fact_word (fact_of (state_word ws (17 + j))) ≡ state_word ws (17 + j)
+  fact_at j h = fact_written (state_word ws (17 + j)) (small ws in-range j h)
 
   module _ (fit : (k : ℕ) → state_word ws k < 2 ^ 32) where
     num : (k : ℕ) → bits_of (of_bits (state_word ws k)) ≡ state_word ws k
@@ -215,13 +215,13 @@ module _ (ws : List ℕ) (in-range : is_state ws ≡ true) where
     unfolding state_words state_of
     each =
         cons (num 0) (cons (num 1) (cons (num 2) (cons (num 3) (cons (num 4) (cons (num 5)
-        (cons (mode_written (state_word ws 6) (mode-in ws in-range)) (cons (num 7) (cons (num 8) (cons (num 9)
+        (cons (mode_written (state_word ws 6) (mode_in ws in-range)) (cons (num 7) (cons (num 8) (cons (num 9)
         (cons (low 10 11) (cons (high 10 11) (cons (low 12 13) (cons (high 12 13) (cons (low 14 15) (cons (high 14 15)
         (cons refl
-        (cons (zone-at 0 (omega arith)) (cons (zone-at 1 (omega arith)) (cons (zone-at 2 (omega arith))
-        (cons (fact-at 3 (omega arith)) (cons (fact-at 4 (omega arith)) (cons (fact-at 5 (omega arith)) (cons (fact-at 6 (omega arith)) (cons (fact-at 7 (omega arith))
+        (cons (zone_at 0 (omega arith)) (cons (zone_at 1 (omega arith)) (cons (zone_at 2 (omega arith))
+        (cons (fact_at 3 (omega arith)) (cons (fact_at 4 (omega arith)) (cons (fact_at 5 (omega arith)) (cons (fact_at 6 (omega arith)) (cons (fact_at 7 (omega arith))
         (cons (num 25) (cons refl
-        (cons (num 27) (cons (num 28) (cons (num 29) (cons (fact_written (state_word ws 30) (flip-in ws in-range)) (cons (num 31) (cons (num 32) (cons refl refl)))))))))))))))))))))))))))))))))
+        (cons (num 27) (cons (num 28) (cons (num 29) (cons (fact_written (state_word ws 30) (flip_in ws in-range)) (cons (num 31) (cons (num 32) (cons refl refl)))))))))))))))))))))))))))))))))
 
     pub written_read : state_words (state_of ws) ≡ ws
     written_read = each ∙ ap (λ (n : ℕ). listed 0 n ws) (sym (size_is ws in-range)) ∙ listed_all ws

@@ -55,10 +55,10 @@ abbrev measures6 : ℤ → ℤ → ℤ → ℤ → Bool → ℤ → Measures
 measures6 a b c d e f =
     record { cut_in = a; minimum_distance = b; single_width = c; single_width_cut_in = d; auto_flip = e; scale = f }
 
-pub same-measures :
+pub same_measures :
     {a u b v c w d x : ℤ} {e y : Bool} {f z : ℤ}
     → a ≡ u → b ≡ v → c ≡ w → d ≡ x → e ≡ y → f ≡ z → measures6 a b c d e f ≡ measures6 u v w x y z
-same-measures i j k l m n = cc
+same_measures i j k l m n = cc
 
 abbrev tallies3 : ℕ → ℤ → ℕ → Tallies
 tallies3 a b c = record { wrapped_roundings = a; last_pushed = b; pushes = c }
@@ -70,10 +70,10 @@ abbrev state8 : Vectors → RoundState → References → ℕ → ZonePointers �
 state8 v r p n z m f t =
     record { vectors = v; round = r; references = p; loop_counter = n; pointers = z; measures = m; facts = f; tallies = t }
 
-pub same-state :
+pub same_state :
     {v v' : Vectors} {r r' : RoundState} {p p' : References} {n n' : ℕ} {z z' : ZonePointers} {m m' : Measures} {f f' : Facts} {t t' : Tallies}
     → v ≡ v' → r ≡ r' → p ≡ p' → n ≡ n' → z ≡ z' → m ≡ m' → f ≡ f' → t ≡ t' → state8 v r p n z m f t ≡ state8 v' r' p' n' z' m' f' t'
-same-state d e g h i j k l = cc
+same_state d e g h i j k l = cc
 
 pub same_and : {a u b v : Bool} → a ≡ u → b ≡ v → a && b ≡ u && v
 same_and e f = cc

@@ -34,11 +34,11 @@ module _ (ox oy cx cy : List ℤ) (flags : List ℕ) where
   unfolding twilight_fits
   twilight_are e f = ap₂ (λ (a b : Bool). eqb (length ox) (length cx) && a && b) e f
 
-  pub glyph-are :
+  pub glyph_are :
       (ux uy : List ℤ) (contours : List ℕ) {u t c : Bool} → u ≡ pair_fits ux uy → t ≡ twilight_fits ox oy cx cy flags → c ≡ leb (length contours) most_contours →
       eqb (length ux) (length cx) && u && t && c ≡ glyph_fits ux uy ox oy cx cy flags contours
   unfolding glyph_fits
-  glyph-are ux uy contours e f g = rw (e, f, g) refl
+  glyph_are ux uy contours e f g = rw (e, f, g) refl
 
 -- ---- one point
 -- two coordinates, as they were read

@@ -3,7 +3,7 @@ use Prim.Native.Nat.{◌^◌, ◌<◌}
 use native.Mathlib.Omega.{arith}
 use lib.Signed.{mag}
 use Rattle.int.proofs.Words.{back32}
-use Rattle.crossing.proofs.Seen.{in-middle, on_line}
+use Rattle.crossing.proofs.Seen.{in_middle, on_line}
 use Rattle.crossing.proofs.crossing.Goals as goal
 use Rattle.crossing.proofs.crossing.Goals.{After-from_to-da, Start}
 
@@ -23,7 +23,7 @@ returns-then-do_meet c = let m = c in let v = m in let w = v in let i = w in let
 
 pub returns-else-do_meet : goal.returns-else-do_meet
 returns-else-do_meet c = let m = c in let i = m in let k = i in let o = k in let x = o in let g = x in let f = g in let s = f in let p = s.args.a0 in let q = s.args.a1 in let u = s.args.b0 in let v = s.args.b1 in
-    in-middle p q u v f.from_to-da.ensures g.from_to-db.ensures (back32 x.cross-discriminant.result x.cross-discriminant.type_inv) x.cross-discriminant.ensures (back32 o.dot.result o.dot.type_inv) o.dot.ensures k.do_meet.ensures
+    in_middle p q u v f.from_to-da.ensures g.from_to-db.ensures (back32 x.cross-discriminant.result x.cross-discriminant.type_inv) x.cross-discriminant.ensures (back32 o.dot.result o.dot.type_inv) o.dot.ensures k.do_meet.ensures
     i.if-do_meet.false
     (back32 p.x (told (goal.at.returns-else-do_meet c).Start).0) (back32 q.x (told (goal.at.returns-else-do_meet c).Start).1) (back32 u.x (told (goal.at.returns-else-do_meet c).Start).2) (back32 v.x (told (goal.at.returns-else-do_meet c).Start).3) (back32 p.y (told (goal.at.returns-else-do_meet c).Start).4) (back32 q.y (told (goal.at.returns-else-do_meet c).Start).5) (back32 u.y (told (goal.at.returns-else-do_meet c).Start).6) (back32 v.y (told (goal.at.returns-else-do_meet c).Start).7)
     (back32 m.middle-x.result m.middle-x.type_inv) m.middle-x.ensures (back32 c.middle-y.result c.middle-y.type_inv) c.middle-y.ensures

@@ -6,7 +6,7 @@ use Rattle.graphics.specs.declared.GraphicsState.{GraphicsState}
 use Rattle.line.specs.World.{Fixed, World, fixed, world}
 use Rattle.rules.specs.declared.Rules.{Rules}
 use Rattle.feed.specs.Feed.{left as leaves}
-use Rattle.feed_calls.proofs.Cases.{end_closed, end-taken, end_unstated}
+use Rattle.feed_calls.proofs.Cases.{end_closed, end_taken, end_unstated}
 use Rattle.feed_calls.proofs.feed_end_call.Goals as goal
 use Rattle.feed_calls.proofs.feed_end_call.Goals.{Start}
 
@@ -28,6 +28,6 @@ returns-then-not-is_state c by = let a = c.args in
 
 pub returns : goal.returns
 returns c by = let a = c.args in
-    end-taken (lent (goal.at.returns c).Start by) a.state.now a.numbers.now a.carry.now (over (goal.at.returns c).Start) _ (sym c.is_open.ensures ∙ not-false _ c.if-not-is_open.false-raw) c.say_fed.new.numbers
+    end_taken (lent (goal.at.returns c).Start by) a.state.now a.numbers.now a.carry.now (over (goal.at.returns c).Start) _ (sym c.is_open.ensures ∙ not-false _ c.if-not-is_open.false-raw) c.say_fed.new.numbers
     c.read_state-s.result c.fed_of-c.result (leaves c.end-fed.result a.carry.now a.gx.now a.gy.now a.gflags.now a.tox.now a.toy.now a.tx.now a.ty.now a.tflags.now)
     (sym c.is_state.ensures ∙ not-false _ c.if-not-is_state.false-raw) c.read_state-s.ensures c.fed_of-c.ensures (c.end-fed.ensures by) c.say_fed.ensures.value c.say_fed.ensures.numbers_after

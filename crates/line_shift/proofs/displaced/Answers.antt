@@ -4,7 +4,7 @@ use Prim.Native.Nat.{◌^◌, ◌<◌}
 use native.Mathlib.Omega.{arith}
 use lib.Signed.{mag}
 use Rattle.int.proofs.Words.{back32}
-use Rattle.moves.proofs.Cases.{displaced_by, displacement-is}
+use Rattle.moves.proofs.Cases.{displaced_by, displacement_is}
 use Rattle.moves.specs.declared.Displaced.TheVariants.{By}
 use Rattle.line_shift.proofs.Cases.{both_read, current_read}
 use Rattle.line_shift.proofs.displaced.Goals as goal
@@ -29,7 +29,7 @@ returns-in-Refused-there c = let a = c.args in
 
 pub returns-in-At-there : goal.returns-in-At-there
 returns-in-At-there c = let a = c.args in let m = c.displacement_by-d.result in let k = small (goal.at.returns-in-At-there c).Start in let v = a.v in
-    ap By (displaced_by a.p (displacement-is v _ _ (back32 v.projection.x k.0) (back32 v.projection.y k.1) (back32 v.freedom.x k.2) (back32 v.freedom.y k.3)
+    ap By (displaced_by a.p (displacement_is v _ _ (back32 v.projection.x k.0) (back32 v.projection.y k.1) (back32 v.freedom.x k.2) (back32 v.freedom.y k.3)
     (back32 _ (omega (arith, c.struct_told-in-At-there-4-1.given))) (back32 _ (omega (arith, c.struct_told-in-At-there-5-1.given))) (back32 _ (omega (arith, c.struct_told-in-At-there-6-1.given))) (back32 _ (omega (arith, c.struct_told-in-At-there-7-1.given))) c.displacement_by-d.ensures)
     (back32 m.x (omega (arith, c.struct_told-in-At-there-8-1.given.0))) (back32 m.y (omega (arith, c.struct_told-in-At-there-8-1.given.1.0))))
     ∙ both_read a.v a.p a.gox.now a.goy.now a.gx.now a.gy.now a.tox.now a.toy.now a.tx.now a.ty.now c.fetch_in-here.ensures c.in-At.is c.fetch_in-there.ensures c.in-At-there.is

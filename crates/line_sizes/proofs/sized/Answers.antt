@@ -5,7 +5,7 @@ use native.Mathlib.Omega.{arith}
 use lib.Signed.{mag}
 use mir.Facts.{to_z-of_z}
 use Rattle.int.proofs.Words.{back32}
-use Rattle.line_sizes.proofs.Cases.{other-size}
+use Rattle.line_sizes.proofs.Cases.{other_size}
 use Rattle.line_sizes.specs.Sizes.{minimum_at, cut_in_at, single_cut_in_at, sized_by}
 use Rattle.line_sizes.proofs.sized.Goals as goal
 use Rattle.line_sizes.proofs.sized.Goals.{Start}
@@ -31,4 +31,4 @@ returns-in-30 c = let a = c.args in
 
 pub returns-in_default : goal.returns-in_default
 returns-in_default c = let a = c.args in
-    other-size a.m a.opcode c.in_default.in_default-own.rest.0.0.1 c.in_default.in_default-own.rest.0.1 c.in_default.in_default-own.rest.1 (to_z-of_z c.ranges.word) (back32 a.m.scale (told (goal.at.returns-in_default c).Start)) (back32 c.mul.result c.mul.type_inv) c.mul.ensures c.with_single_width.ensures
+    other_size a.m a.opcode c.in_default.in_default-own.rest.0.0.1 c.in_default.in_default-own.rest.0.1 c.in_default.in_default-own.rest.1 (to_z-of_z c.ranges.word) (back32 a.m.scale (told (goal.at.returns-in_default c).Start)) (back32 c.mul.result c.mul.type_inv) c.mul.ensures c.with_single_width.ensures

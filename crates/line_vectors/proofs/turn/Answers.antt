@@ -7,7 +7,7 @@ use borrow.Author.Tests.{not-false, not-true}
 use lib.IntN.{ℤ}
 use Rattle.line.specs.World.{Fixed, World, fixed, world}
 use Rattle.rules.specs.declared.Rules.{Rules}
-use Rattle.line_vectors.proofs.Cases.{turned-both, turned_none, turned_one}
+use Rattle.line_vectors.proofs.Cases.{turned_both, turned_none, turned_one}
 use Rattle.line_vectors.proofs.turn.Goals as goal
 use Rattle.line_vectors.proofs.turn.Goals.{Start}
 
@@ -26,4 +26,4 @@ pub returns-then-opcode-lt134 : goal.returns-then-opcode-lt134
 returns-then-opcode-lt134 c = λ rules controls gux guy contours gflags tflags. turned_one (held (goal.at.returns-then-opcode-lt134 c).Start rules controls gux guy contours) c.args.opcode c.args.operands.now (entry (goal.at.returns-then-opcode-lt134 c).Start gflags tflags) (sym c.is_along.ensures ∙ not-false _ c.if-not-is_along.false-raw) c.is_odd-across.ensures c.zp1-zp1.ensures c.zp2-zp2.ensures c.line_found-now.ensures c.if-opcode-lt134.true c.settle_along.ensures
 
 pub returns : goal.returns
-returns c = λ rules controls gux guy contours gflags tflags. turned-both (held (goal.at.returns c).Start rules controls gux guy contours) c.args.opcode c.args.operands.now (entry (goal.at.returns c).Start gflags tflags) (sym c.is_along.ensures ∙ not-false _ c.if-not-is_along.false-raw) c.is_odd-across.ensures c.zp1-zp1.ensures c.zp2-zp2.ensures c.line_found-now.ensures c.if-opcode-lt134.false c.line_found-old.ensures c.settle_dual.ensures
+returns c = λ rules controls gux guy contours gflags tflags. turned_both (held (goal.at.returns c).Start rules controls gux guy contours) c.args.opcode c.args.operands.now (entry (goal.at.returns c).Start gflags tflags) (sym c.is_along.ensures ∙ not-false _ c.if-not-is_along.false-raw) c.is_odd-across.ensures c.zp1-zp1.ensures c.zp2-zp2.ensures c.line_found-now.ensures c.if-opcode-lt134.false c.line_found-old.ensures c.settle_dual.ensures

@@ -5,7 +5,7 @@ use lib.IntN.{ℤ, pos}
 use mir.Facts.{to_z-of_z}
 use Rattle.int.proofs.Words.{back32}
 use Rattle.int.specs.Word.{eq_z}
-use Rattle.moves.proofs.Axis.{slanted-along, slanted_move, straight_move, straight_step}
+use Rattle.moves.proofs.Axis.{slanted_along, slanted_move, straight_move, straight_step}
 use Rattle.moves.specs.Move.{is_slanted}
 use Rattle.projection.specs.Projection.{fdotp_of}
 use Rattle.moves.proofs.move_of.Goals as goal
@@ -22,7 +22,7 @@ pub returns-in-Both : goal.returns-in-Both
 returns-in-Both c = let m = c in let e = m in let t = e in let k = t in let p = k in let s = p in let v = s.args.v in let axis = sym t.in-Both.is ∙ k.freedom_axis-axis.ensures in
     let fy = p in let fx = fy in let py = fx in let px = py in let level = back32 v.projection.y (omega (arith, py.struct_told-2-1.given.1.0)) in
     slanted_move v s.args.distance s.args.f
-    (slanted-along v s.args.distance axis
+    (slanted_along v s.args.distance axis
     (back32 v.projection.x (omega (arith, px.struct_told-1.given.0))) level
     (back32 v.freedom.x (omega (arith, fx.struct_told-3-1.given.0))) (back32 v.freedom.y (omega (arith, fy.struct_told-4-1.given.1.0)))
     (to_z-of_z s.ranges.distance) m.step_slanted.ensures)

@@ -4,7 +4,7 @@ use native.Mathlib.Omega.{arith}
 use lib.Signed.{mag}
 use mir.Facts.{to_z-of_z}
 use Rattle.int.proofs.Words.{back32}
-use Rattle.normalize.proofs.Seen.{aim-from}
+use Rattle.normalize.proofs.Seen.{aim_from}
 use Rattle.normalize.proofs.aim_from.Goals as goal
 use Rattle.normalize.proofs.aim_from.Goals.{Start}
 
@@ -14,4 +14,4 @@ told s = omega arith
 
 pub returns : goal.returns
 returns c = let m = c in let s = m in let n = s.args.s in
-    aim-from n (to_z-of_z s.ranges.x) (to_z-of_z s.ranges.y) (back32 n.x (told (goal.at.returns c).Start).0) (back32 n.y (told (goal.at.returns c).Start).1.0) (back32 n.b (told (goal.at.returns c).Start).1.1) (back32 m.settle.result m.settle.type_inv) m.settle.ensures c.aim.ensures
+    aim_from n (to_z-of_z s.ranges.x) (to_z-of_z s.ranges.y) (back32 n.x (told (goal.at.returns c).Start).0) (back32 n.y (told (goal.at.returns c).Start).1.0) (back32 n.b (told (goal.at.returns c).Start).1.1) (back32 m.settle.result m.settle.type_inv) m.settle.ensures c.aim.ensures

@@ -1,7 +1,7 @@
 -- `normalize::start_of` meets its contract: it is what its calls ensure, put together. Assumes nothing.
 use native.Mathlib.Omega.{arith}
 use Prim.Native.Nat.{◌^◌}
-use Rattle.normalize.proofs.Seen.{start-of, estimate_le, past_ge}
+use Rattle.normalize.proofs.Seen.{start_of_lem, estimate_le, past_ge}
 use Rattle.normalize.proofs.start_of.Goals as goal
 
 pub zeros_of-zeros-requires : goal.zeros_of-zeros-requires
@@ -14,4 +14,4 @@ start_at-requires c = let u = c in let p = u in let z = p in let l = z in let s 
 
 pub returns : goal.returns
 returns c = let d = c in let u = d in let p = u in let z = p in let l = z in let s = l in
-    start-of s.args.x s.args.y l.estimate_of-len.ensures z.zeros_of-zeros.ensures.0 p.past_of-past.ensures.0 u.minus.ensures d.minus-2.ensures c.start_at.ensures
+    start_of_lem s.args.x s.args.y l.estimate_of-len.ensures z.zeros_of-zeros.ensures.0 p.past_of-past.ensures.0 u.minus.ensures d.minus-2.ensures c.start_at.ensures

@@ -9,7 +9,7 @@ use mir.Val.{to_z, of_z}
 use Rattle.graphics.specs.State.{unit}
 use Rattle.int.proofs.Words.{back32}
 use Rattle.math.specs.Fixed.{dot_fix14}
-use Rattle.projection.proofs.Seen.{along-both, along_x, along_y, seen}
+use Rattle.projection.proofs.Seen.{along_both, along_x, along_y, seen}
 use Rattle.projection.proofs.along.Goals as goal
 use Rattle.projection.proofs.along.Goals.{After-dot14, Start}
 
@@ -32,7 +32,7 @@ returns-then-equal-2 c = let g = c in let i = g in let e = i in let w = e in let
 
 pub returns-else-equal-2 : goal.returns-else-equal-2
 returns-else-equal-2 c = let j = c in let g = j in let i = g in let e = i in let w = e in let u = w in let s = u in let v = s.args.v in let a = s.args.a in let b = s.args.b in
-    along-both v a b (seen unit (back32 v.x (told (goal.at.returns-else-equal-2 c).Start).4) e.equal.ensures i.if-equal.false) (seen unit (back32 v.y (told (goal.at.returns-else-equal-2 c).Start).5) g.equal-else-equal.ensures j.if-equal-2.false)
+    along_both v a b (seen unit (back32 v.x (told (goal.at.returns-else-equal-2 c).Start).4) e.equal.ensures i.if-equal.false) (seen unit (back32 v.y (told (goal.at.returns-else-equal-2 c).Start).5) g.equal-else-equal.ensures j.if-equal-2.false)
     (back32 a.x (told (goal.at.returns-else-equal-2 c).Start).0) (back32 b.x (told (goal.at.returns-else-equal-2 c).Start).1) (back32 a.y (told (goal.at.returns-else-equal-2 c).Start).2) (back32 b.y (told (goal.at.returns-else-equal-2 c).Start).3) (back32 v.x (told (goal.at.returns-else-equal-2 c).Start).4) (back32 v.y (told (goal.at.returns-else-equal-2 c).Start).5)
     (back32 u.wrapping_sub-dx.result u.wrapping_sub-dx.type_inv) u.wrapping_sub-dx.ensures
     (back32 w.wrapping_sub-dy.result w.wrapping_sub-dy.type_inv) w.wrapping_sub-dy.ensures

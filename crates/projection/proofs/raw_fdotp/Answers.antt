@@ -5,7 +5,7 @@ use native.Mathlib.Omega.{arith}
 use lib.Signed.{mag}
 use Rattle.graphics.specs.State.{unit}
 use Rattle.int.proofs.Words.{back32}
-use Rattle.projection.proofs.Seen.{raw-both, raw_x, raw_y, seen}
+use Rattle.projection.proofs.Seen.{raw_both, raw_x, raw_y, seen}
 use Rattle.projection.proofs.raw_fdotp.Goals as goal
 use Rattle.projection.proofs.raw_fdotp.Goals.{Start}
 
@@ -23,7 +23,7 @@ returns-then-equal-2 c = let g = c in let i = g in let e = i in let s = e in let
 
 pub returns-else-equal-2 : goal.returns-else-equal-2
 returns-else-equal-2 c = let a = c in let n = a in let m = n in let j = m in let g = j in let i = g in let e = i in let s = e in let p = s.args.p in let f = s.args.f in
-    raw-both p f (seen unit (back32 f.x (told (goal.at.returns-else-equal-2 c).Start).2) e.equal.ensures i.if-equal.false) (seen unit (back32 f.y (told (goal.at.returns-else-equal-2 c).Start).3) g.equal-else-equal.ensures j.if-equal-2.false)
+    raw_both p f (seen unit (back32 f.x (told (goal.at.returns-else-equal-2 c).Start).2) e.equal.ensures i.if-equal.false) (seen unit (back32 f.y (told (goal.at.returns-else-equal-2 c).Start).3) g.equal-else-equal.ensures j.if-equal-2.false)
     (back32 p.x (told (goal.at.returns-else-equal-2 c).Start).0) (back32 p.y (told (goal.at.returns-else-equal-2 c).Start).1) (back32 f.x (told (goal.at.returns-else-equal-2 c).Start).2) (back32 f.y (told (goal.at.returns-else-equal-2 c).Start).3)
     (back32 m.wrapping_mul.result m.wrapping_mul.type_inv) m.wrapping_mul.ensures
     (back32 n.wrapping_mul-else-equal-2.result n.wrapping_mul-else-equal-2.type_inv) n.wrapping_mul-else-equal-2.ensures

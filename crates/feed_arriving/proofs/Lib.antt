@@ -1,3 +1,0 @@
-mod Counts
-mod Ends
-mod Loop

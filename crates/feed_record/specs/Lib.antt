@@ -1,2 +1,0 @@
-pub mod Fed
-pub mod Steps

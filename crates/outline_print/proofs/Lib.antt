@@ -1,4 +1,0 @@
-pub mod Outlined
-pub mod Printed
-pub mod Putting
-pub mod Room
