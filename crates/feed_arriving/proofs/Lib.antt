@@ -1,0 +1,3 @@
+mod Counts
+mod Ends
+mod Loop
