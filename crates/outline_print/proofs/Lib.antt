@@ -1,0 +1,4 @@
+pub mod Outlined
+pub mod Printed
+pub mod Putting
+pub mod Room
