@@ -1,3 +1,0 @@
-pub mod Feeds
-pub mod Outcome
-pub mod Reader
