@@ -85,6 +85,11 @@ module _ (flags : List ℕ) (at : ℕ) where
     try_is_touched = by_test said_of_touched (flags_fit flags) touched refl
 
 module _ (flags : List ℕ) (start end : ℕ) (on : Bool) where
+  set_on_curve : said_of_marked (set_on_curve_of flags start end on) ≡ in_order (range start (leb start end && leb end (length flags)) ∷ [])
+  unfolding set_on_curve_of
+  set_on_curve = by_test said_of_marked (leb start end && leb end (length flags)) refl refl
+
+  -- by itself, so that nothing rests on the one above, which an impostor breaks
   pub try_set_on_curve :
       said_of_call (try_set_on_curve_of flags start end on).call
       ≡ in_order (sizes (flags_fit flags) ∷ range start (leb start end && leb end (length flags)) ∷ [])
