@@ -22,6 +22,8 @@ LEMMAS = ["bit-and", "bit-or", "bit-xor", "place-seen", "older-measures", "start
     "displaced-in", "on-entry", "by-found", "by-displaced"]
 # A definition that would fall together with a lemma of another crate.
 OTHERS = {"isOpen": "said_is_open", "hasRoom": "carry_has_room"}
+# A lemma that would have, in its own file alone, the name of a definition that is brought in.
+HERE = {"crates/laws_outcome/proofs/Outcome.antt": {"both-moved": "both_moved_lem"}}
 
 
 def snake(name):
@@ -62,9 +64,10 @@ def renamed(found):
 def clashes(found, table):
     said = []
     for path, names in found.items():
+        here = {**table, **HERE.get(path, {})}
         new = collections.defaultdict(set)
         for name in names:
-            new[table.get(name, name)].add(name)
+            new[here.get(name, name)].add(name)
         said += [f"{path}: {sorted(olds)} would all be {name}" for name, olds in new.items() if len(olds) > 1]
         text = open(path, encoding="utf-8").read()
         for line in re.findall(r"^use .*\{(.*)\}", text, re.M):
@@ -115,7 +118,8 @@ def main():
         if "/out/" in path or not os.path.isfile(path) or not path.endswith((".rt", ".antt", ".edit")):
             continue
         text = open(path, encoding="utf-8").read()
-        new = turned_rt(text, table) if path.endswith(".rt") else turned(text, table)
+        here = {**table, **HERE.get(path, {})}
+        new = turned_rt(text, here) if path.endswith(".rt") else turned(text, here)
         if new != text:
             open(path, "w", encoding="utf-8").write(new)
     pages = ["README.md"] + sorted(glob.glob("docs/**/*.md", recursive=True))
