@@ -22,8 +22,17 @@ LEMMAS = ["bit-and", "bit-or", "bit-xor", "place-seen", "older-measures", "start
     "displaced-in", "on-entry", "by-found", "by-displaced"]
 # A definition that would fall together with a lemma of another crate.
 OTHERS = {"isOpen": "said_is_open", "hasRoom": "carry_has_room"}
-# A lemma that would have, in its own file alone, the name of a definition that is brought in.
-HERE = {"crates/laws_outcome/proofs/Outcome.antt": {"both-moved": "both_moved_lem"}}
+# A lemma that would have the name of a definition that its file brings in; port.py has turned the dashes of all but the last.
+HERE = {
+    "crates/feed_arriving/proofs/Loop.antt": {"at_first": "at_first_lem"},
+    "crates/feed_look/proofs/Looks.antt": {"whole_by": "whole_by_lem"},
+    "crates/iup/proofs/Spread.antt": {"moved_by": "moved_by_lem"},
+    "crates/laws_feed/proofs/Examples.antt": {"reads_short": "reads_short_lem"},
+    "crates/laws_feed/proofs/Whole.antt": {"whole_by": "whole_by_lem"},
+    "crates/normalize/proofs/Nearness.antt": {"moved_by": "moved_by_lem"},
+    "crates/round/proofs/Seen.antt": {"by_mode": "by_mode_lem"},
+    "crates/laws_outcome/proofs/Outcome.antt": {"both-moved": "both_moved_lem"},
+}
 
 
 def snake(name):

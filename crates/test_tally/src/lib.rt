@@ -1,7 +1,7 @@
 // How many of the oracle's answers a program agreed with, and the line that it prints; and standard input by the piece, for the programs that read rows.
 #![tactic(auto)]
 
-ghost use Rattle.std.specs.Prelude.{IfOk, ◌≡◌, ◌≤◌, length, take};
+ghost use Rattle.std.specs.Prelude.{◌≡◌, ◌≤◌, length, take};
 
 use std::io;
 use std::io::{Read, Stdin};
@@ -45,18 +45,21 @@ pub struct Turn {
     pub more: bool,
 }
 
-// Standard input to the front of `bytes`, until they are full or it ends; how many bytes were read.
-pub fn read_full(mut stdin: Stdin, bytes: &mut [u8]) -> io::Result<usize>
-    ensures in_bounds { IfOk result (λ n. n ≤ length bytes.new) }
-    ensures prefix { IfOk result (λ n. n ≡ length (take n bytes.new)) }
+// Standard input to the front of `bytes`, until they are full, it ends, or a read fails; how many bytes were read.
+pub fn read_full(mut stdin: Stdin, bytes: &mut [u8]) -> usize
+    ensures in_bounds { result ≤ length bytes.new }
+    ensures prefix { result ≡ length (take result bytes.new) }
 {
     let mut size = 0;
     while size < bytes.len() {
-        let more = stdin.read(&mut bytes[size..])?;
+        let more = match stdin.read(&mut bytes[size..]) {
+            Ok(more) => more,
+            Err(_) => 0,
+        };
         if more == 0 {
             break;
         }
         size += more;
     }
-    Ok(size)
+    size
 }

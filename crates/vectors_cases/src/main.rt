@@ -7,7 +7,7 @@
 // and runs under each of the rules. Room for the lists is made once, and lent.
 #![tactic(auto)]
 
-ghost use Rattle.std.specs.Prelude.{IfOk, ◌<◌, ◌≤◌, length};
+ghost use Rattle.std.specs.Prelude.{◌<◌, ◌≤◌, length};
 
 use std::io;
 use std::io::Stdin;
@@ -65,13 +65,13 @@ struct First {
     bytes: usize,
 }
 
-fn read_first(stdin: Stdin) -> io::Result<First> {
+fn read_first(stdin: Stdin) -> First {
     let mut four = [0u8; 4];
-    let bytes = read_full(stdin, &mut four)?;
-    Ok(First {
+    let bytes = read_full(stdin, &mut four);
+    First {
         word: word(&four, 0),
         bytes,
-    })
+    }
 }
 
 // The bytes of a case of so many words; one that the room doesn't hold has none.
@@ -83,11 +83,11 @@ fn bytes_of(words: u32, room: usize) -> usize
 }
 
 // The case's bytes after its first word. That word isn't kept: nothing asks for it again.
-fn read_rest(stdin: Stdin, buffer: &mut [u8], end: usize) -> io::Result<usize>
+fn read_rest(stdin: Stdin, buffer: &mut [u8], end: usize) -> usize
     requires { end ≤ length buffer.old }
 {
     if end < 4 {
-        return Ok(0);
+        return 0;
     }
     read_full(stdin, &mut buffer[4..end])
 }
@@ -111,18 +111,18 @@ impl Read {
     }
 }
 
-fn read_case(stdin: Stdin, buffer: &mut [u8]) -> io::Result<Read>
-    ensures { IfOk result (λ r. r.end ≤ length buffer.old) }
+fn read_case(stdin: Stdin, buffer: &mut [u8]) -> Read
+    ensures { result.end ≤ length buffer.old }
 {
-    let first = read_first(stdin)?;
+    let first = read_first(stdin);
     let end = bytes_of(first.word, buffer.len());
-    let got = read_rest(stdin, buffer, end)?;
+    let got = read_rest(stdin, buffer, end);
     let whole = first.bytes == 4 && (got as u64).wrapping_add(4) == end as u64;
-    Ok(Read {
+    Read {
         end,
         found: 0 < first.bytes,
         whole,
-    })
+    }
 }
 
 // A proved loop has to end, so the turns are counted down, from more than the input has; after the last case none is left.
@@ -151,11 +151,11 @@ fn replay_all(
     tx: &mut [i32],
     ty: &mut [i32],
     tflags: &mut [u8],
-) -> io::Result<Tally> {
+) -> Tally {
     let mut tally = Tally::new();
     let mut turns: u64 = 1000000;
     while 0 < turns {
-        let read = read_case(stdin, buffer)?;
+        let read = read_case(stdin, buffer);
         let end = read.end;
         let agreed = agrees(
             &buffer[..end],
@@ -178,7 +178,7 @@ fn replay_all(
         tally = read.count(tally, agreed);
         turns = turns_left(turns, read.whole);
     }
-    Ok(tally)
+    tally
 }
 
 fn main(rt: HostRuntime) -> io::Result<()> {
@@ -216,6 +216,6 @@ fn main(rt: HostRuntime) -> io::Result<()> {
         &mut tx,
         &mut ty,
         &mut tflags,
-    )?
+    )
     .print(&rt)
 }
