@@ -275,7 +275,7 @@ def ask_rt(verb, name, why):
     """Has rt prove and build a crate, what it says in a log, with a line that shows the crate under way."""
     if not shutil.which("rt"):
         raise Bad(f"{why}, and no 'rt' to prove and build {name}: install the Rattle kit and put its 'rt' on the path")
-    say(f"{why}: proving and building {name}; it takes some minutes where nothing is proved yet")
+    say(f"{why}: proving and building {name}; it takes a quarter of an hour or more where nothing is proved yet")
     log = TARGET / (name + ".log")
     try:
         log.parent.mkdir(exist_ok=True)

@@ -68,7 +68,9 @@ fn refuse(start: usize, answer: &mut [u64]) -> u32
 // What a run says, in the answer and as its number.
 fn say(out: Outcome, answer: &mut [u64]) -> u32
     ensures value { result ≡ number_of_answer out.answer }
-    ensures answer_after { answer.new ≡ answered (number_of_answer out.answer) out.place out.lines (detail_of_answer out.answer) answer.old }
+    ensures answer_after { answer.new
+        ≡ answered (number_of_answer out.answer) out.place out.lines
+        (detail_of_answer out.answer) answer.old }
 {
     let said = out.answer;
     let number = said.number();
@@ -99,7 +101,12 @@ pub fn taleviqa_run(
     tflags: &mut [u8],
     answer: &mut [u64],
 ) -> u32
-    ensures { left result state.new answer.new gx.new gy.new gflags.new tox.new toy.new tx.new ty.new tflags.new ≡ call_of (λ (by : Rules). fixed by controls.now gux.now guy.now gox.now goy.now contours.now) sheet.now budget start state.old answer.old gx.old gy.old gflags.old tox.old toy.old tx.old ty.old tflags.old (by_number rules) }
+    ensures { left result state.new answer.new
+        gx.new gy.new gflags.new tox.new toy.new tx.new ty.new tflags.new
+        ≡ call_of (λ (by : Rules). fixed by controls.now gux.now guy.now gox.now goy.now contours.now)
+        sheet.now budget start state.old answer.old
+        gx.old gy.old gflags.old tox.old toy.old tx.old ty.old tflags.old
+        (by_number rules) }
 {
     let named = by_number(rules);
     match named {
@@ -142,7 +149,12 @@ pub fn taleviqa_feed(
     tflags: &mut [u8],
     numbers: &mut [u64],
 ) -> u32
-    ensures { carried carry.new (left result state.new numbers.new gx.new gy.new gflags.new tox.new toy.new tx.new ty.new tflags.new) ≡ feed_call_of (λ (by : Rules). fixed by controls.now gux.now guy.now gox.now goy.now contours.now) piece.now state.old numbers.old carry.old gx.old gy.old gflags.old tox.old toy.old tx.old ty.old tflags.old (by_number rules) }
+    ensures { carried carry.new
+        (left result state.new numbers.new gx.new gy.new gflags.new tox.new toy.new tx.new ty.new tflags.new)
+        ≡ feed_call_of (λ (by : Rules). fixed by controls.now gux.now guy.now gox.now goy.now contours.now)
+        piece.now state.old numbers.old carry.old
+        gx.old gy.old gflags.old tox.old toy.old tx.old ty.old tflags.old
+        (by_number rules) }
 {
     feed_from(
         piece, 0, rules, state, carry, controls, gux, guy, gox, goy, gx, gy, gflags, contours, tox,
@@ -170,7 +182,10 @@ pub fn taleviqa_feed_end(
     tflags: &[u8],
     numbers: &mut [u64],
 ) -> u32
-    ensures { (by : Rules) → told result numbers.new ≡ feed_end_call_of (fixed by controls.now gux.now guy.now gox.now goy.now contours.now) state.now numbers.old carry.now (λ (s : GraphicsState). world s gx.now gy.now gflags.now tox.now toy.now tx.now ty.now tflags.now) }
+    ensures { (by : Rules) → told result numbers.new
+        ≡ feed_end_call_of (fixed by controls.now gux.now guy.now gox.now goy.now contours.now)
+        state.now numbers.old carry.now
+        (λ (s : GraphicsState). world s gx.now gy.now gflags.now tox.now toy.now tx.now ty.now tflags.now) }
 {
     feed_end_call(
         state, carry, controls, gux, guy, gox, goy, gx, gy, gflags, contours, tox, toy, tx, ty,
@@ -203,7 +218,9 @@ pub fn taleviqa_outline_next(
     step: &mut [u32],
     numbers: &mut [f32],
 ) -> u32
-    ensures { drawnLeft result pen.new edges.new step.new numbers.new ≡ next_call_of (glyph gx.now gy.now gflags.now contours.now) pen.old edges.old step.old numbers.old }
+    ensures { drawnLeft result pen.new edges.new step.new numbers.new
+        ≡ next_call_of (glyph gx.now gy.now gflags.now contours.now)
+        pen.old edges.old step.old numbers.old }
 {
     next_call(gx, gy, gflags, contours, pen, edges, step, numbers)
 }

@@ -37,7 +37,12 @@ pub extern "C" fn taleviqa_run(
     tflags: &mut [u8],
     answer: &mut [u64],
 ) -> u32
-    ensures { left result state.new answer.new gx.new gy.new gflags.new tox.new toy.new tx.new ty.new tflags.new ≡ call_of (λ (by : Rules). fixed by controls.now gux.now guy.now gox.now goy.now contours.now) sheet.now budget start state.old answer.old gx.old gy.old gflags.old tox.old toy.old tx.old ty.old tflags.old (by_number rules) }
+    ensures { left result state.new answer.new
+        gx.new gy.new gflags.new tox.new toy.new tx.new ty.new tflags.new
+        ≡ call_of (λ (by : Rules). fixed by controls.now gux.now guy.now gox.now goy.now contours.now)
+        sheet.now budget start state.old answer.old
+        gx.old gy.old gflags.old tox.old toy.old tx.old ty.old tflags.old
+        (by_number rules) }
 {
     exports::taleviqa_run(
         rules, start, budget, state, sheet, controls, gux, guy, gox, goy, gx, gy, gflags, contours,
@@ -68,7 +73,12 @@ pub extern "C" fn taleviqa_feed(
     tflags: &mut [u8],
     numbers: &mut [u64],
 ) -> u32
-    ensures { carried carry.new (left result state.new numbers.new gx.new gy.new gflags.new tox.new toy.new tx.new ty.new tflags.new) ≡ feed_call_of (λ (by : Rules). fixed by controls.now gux.now guy.now gox.now goy.now contours.now) piece.now state.old numbers.old carry.old gx.old gy.old gflags.old tox.old toy.old tx.old ty.old tflags.old (by_number rules) }
+    ensures { carried carry.new
+        (left result state.new numbers.new gx.new gy.new gflags.new tox.new toy.new tx.new ty.new tflags.new)
+        ≡ feed_call_of (λ (by : Rules). fixed by controls.now gux.now guy.now gox.now goy.now contours.now)
+        piece.now state.old numbers.old carry.old
+        gx.old gy.old gflags.old tox.old toy.old tx.old ty.old tflags.old
+        (by_number rules) }
 {
     exports::taleviqa_feed(
         rules, state, piece, carry, controls, gux, guy, gox, goy, gx, gy, gflags, contours, tox,
@@ -97,7 +107,10 @@ pub extern "C" fn taleviqa_feed_end(
     tflags: &[u8],
     numbers: &mut [u64],
 ) -> u32
-    ensures { (by : Rules) → told result numbers.new ≡ feed_end_call_of (fixed by controls.now gux.now guy.now gox.now goy.now contours.now) state.now numbers.old carry.now (λ (s : GraphicsState). world s gx.now gy.now gflags.now tox.now toy.now tx.now ty.now tflags.now) }
+    ensures { (by : Rules) → told result numbers.new
+        ≡ feed_end_call_of (fixed by controls.now gux.now guy.now gox.now goy.now contours.now)
+        state.now numbers.old carry.now
+        (λ (s : GraphicsState). world s gx.now gy.now gflags.now tox.now toy.now tx.now ty.now tflags.now) }
 {
     exports::taleviqa_feed_end(
         state, carry, controls, gux, guy, gox, goy, gx, gy, gflags, contours, tox, toy, tx, ty,
@@ -131,7 +144,9 @@ pub extern "C" fn taleviqa_outline_next(
     step: &mut [u32],
     numbers: &mut [f32],
 ) -> u32
-    ensures { drawnLeft result pen.new edges.new step.new numbers.new ≡ next_call_of (glyph gx.now gy.now gflags.now contours.now) pen.old edges.old step.old numbers.old }
+    ensures { drawnLeft result pen.new edges.new step.new numbers.new
+        ≡ next_call_of (glyph gx.now gy.now gflags.now contours.now)
+        pen.old edges.old step.old numbers.old }
 {
     exports::taleviqa_outline_next(gx, gy, gflags, contours, pen, edges, step, numbers)
 }
