@@ -39,9 +39,11 @@ def braced(text, at):
 
 
 def calls(crate):
-    """The public functions and methods of a crate, in the order of its sources."""
+    """The public functions and methods of a crate, those of its traits among them, in the order of its sources."""
     for path in sorted((ROOT / "crates" / crate / "src").glob("*.rt")):
         text = re.sub(r"//[^\n]*", "", path.read_text())
+        # A public trait's methods are public, and have no word for it
+        text = re.sub(r"^pub trait .*?^\}", lambda trait: re.sub(r"(?m)^    fn ", "    pub fn ", trait.group(0)), text, flags=re.S | re.M)
         for found in re.finditer(r"\bpub (?:extern \"C\" )?fn (\w+)(?:<[^>]*>)?\(([^)]*)\)", text):
             parameters = [tuple(part.strip() for part in one.split(":", 1)) for one in found.group(2).split(",") if ":" in one]
             returns = re.compile(r"\s*->\s*(.*?)\s*(?=\brequires\b|\bensures\b|\{)", re.S).match(text, found.end())
@@ -50,7 +52,7 @@ def calls(crate):
             while True:
                 clause = re.compile(r"\s*(requires|ensures)\b[^{]*(?={)").search(text, at)
                 body = text.index("{", at)
-                if not clause or clause.end() > body:
+                if not clause or clause.end() > body or text[at:].lstrip().startswith(";"):
                     break
                 inside, at = braced(text, clause.end())
                 (call.requires if clause.group(1) == "requires" else call.ensures).append(inside)

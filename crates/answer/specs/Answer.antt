@@ -1,10 +1,8 @@
 -- The number and the detail of each refusal, and what a direct call says: document 01, "What the replayer says back"; 12, 13, 14
 -- and 19 are document 02's, K1, K8 and K13. Assumes nothing.
-use Rattle.std.specs.Prelude.{ℕ}
+use Rattle.std.specs.Prelude.{ℕ, Result, Ok, Err}
 use Rattle.answer.specs.declared.Refusal.{Refusal}
 use Rattle.answer.specs.declared.Refusal.TheVariants.{Sizes, State, Line, Surplus, Missing, Point, ControlValue, ZonePointer, LoopCount, Range, Contour, Compatibility, Ends, Far}
-use Rattle.answer.specs.declared.Call.{Call}
-use Rattle.answer.specs.declared.Call.TheVariants.{Done, Refused}
 
 abbrev pub number_of : Refusal → ℕ
 number_of Sizes = 2
@@ -56,7 +54,7 @@ said_done = said_directly 0 0
 abbrev pub said_by : Refusal → Said
 said_by why = said_directly (number_of why) (detail_of why)
 
--- of a call that returns nothing; one that returns a value has an enum of its own, which says the same
-abbrev pub said_of_call : Call → Said
-said_of_call Done = said_done
-said_of_call (Refused why) = said_by why
+-- of a call, whatever it gives back
+abbrev pub said_of : {T : Type 0} → Result T Refusal → Said
+said_of (Ok given) = said_done
+said_of (Err why) = said_by why

@@ -5,8 +5,8 @@
 // coordinates, flags and state is said where it is given.
 #![tactic(auto)]
 
-ghost use Rattle.std.specs.Prelude.{◌≡◌};
-ghost use Rattle.answer.specs.Answer.{number_of, detail_of, said_of_call};
+ghost use Rattle.std.specs.Prelude.{◌≡◌, ℕ};
+ghost use Rattle.answer.specs.Answer.{number_of, detail_of, said_of};
 
 #[derive(Clone, Copy)]
 pub enum Refusal {
@@ -40,10 +40,25 @@ pub enum Refusal {
     Far,
 }
 
-impl Refusal {
-    pub fn number(self) -> u32
-        ensures { result ≡ number_of self }
-    {
+// What an answer says, as a number and a detail.
+pub trait Says {
+    ghost number_said: { Self → ℕ };
+
+    ghost detail_said: { Self → ℕ };
+
+    fn number(self) -> u32
+        ensures { result ≡ number_said self };
+
+    fn detail(self) -> u64
+        ensures { result ≡ detail_said self };
+}
+
+impl Says for Refusal {
+    ghost number_said = { number_of };
+
+    ghost detail_said = { detail_of };
+
+    fn number(self) -> u32 {
         match self {
             Refusal::Sizes => 2,
             Refusal::State => 3,
@@ -62,51 +77,36 @@ impl Refusal {
         }
     }
 
-    pub fn detail(self) -> u64
-        ensures { result ≡ detail_of self }
-    {
+    fn detail(self) -> u64 {
         match self {
-            Refusal::Sizes => 0,
-            Refusal::State => 0,
-            Refusal::Line => 0,
-            Refusal::Surplus => 0,
-            Refusal::Missing => 0,
             Refusal::Point(at) => at,
             Refusal::ControlValue(at) => at,
             Refusal::ZonePointer(operand) => operand,
             Refusal::LoopCount(operand) => operand,
             Refusal::Range(start) => start,
             Refusal::Contour(at) => at,
-            Refusal::Compatibility => 0,
-            Refusal::Ends => 0,
-            Refusal::Far => 0,
+            _ => 0,
         }
     }
 }
 
-// What a direct call that returns nothing says. Its place and its line count are 0.
-#[derive(Clone, Copy)]
-pub enum Call {
-    Done,
-    Refused(Refusal),
-}
+// What a direct call says: 0 and 0 where it was done, whatever it gives back. Its place and its line count are 0.
+impl<T: Drop> Says for Result<T, Refusal> {
+    ghost number_said = { λ said. (said_of said).number };
 
-impl Call {
-    pub fn number(self) -> u32
-        ensures { result ≡ (said_of_call self).number }
-    {
+    ghost detail_said = { λ said. (said_of said).detail };
+
+    fn number(self) -> u32 {
         match self {
-            Call::Done => 0,
-            Call::Refused(why) => why.number(),
+            Ok(_) => 0,
+            Err(why) => why.number(),
         }
     }
 
-    pub fn detail(self) -> u64
-        ensures { result ≡ (said_of_call self).detail }
-    {
+    fn detail(self) -> u64 {
         match self {
-            Call::Done => 0,
-            Call::Refused(why) => why.detail(),
+            Ok(_) => 0,
+            Err(why) => why.detail(),
         }
     }
 }

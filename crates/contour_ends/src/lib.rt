@@ -7,12 +7,6 @@
 ghost use Rattle.std.specs.Prelude.{◌≡◌};
 ghost use Rattle.contour_ends.specs.Ends.{ends_rise};
 
-fn index_of(end: u16) -> usize
-    ensures { result ≡ end }
-{
-    end as usize
-}
-
 pub fn ends_rise(contours: &[u16], points: usize) -> bool
     ensures { result ≡ ends_rise points contours.now }
 {
@@ -20,15 +14,13 @@ pub fn ends_rise(contours: &[u16], points: usize) -> bool
     if n == 0 {
         return true;
     }
-    if points <= index_of(contours[n - 1]) {
+    if points <= usize::from(contours[n - 1]) {
         return false;
     }
     // No exit between, so that the compiler takes several pairs at once.
     let mut rise = true;
-    let mut k = 1;
-    while k < n {
-        rise = rise & (contours[k - 1] < contours[k]);
-        k += 1;
+    for k in 1..n {
+        rise &= contours[k - 1] < contours[k];
     }
     rise
 }

@@ -1,5 +1,7 @@
 -- What the tests at entry tell, and how each call goes on by what they say, over plain lists: the functions' proofs cite these.
 -- Assumes nothing.
+use Rattle.std.specs.Prelude.{⊤, Result, Ok}
+use Rattle.answer.specs.declared.Refusal.{Refusal}
 use mathlib.Core.Path.{◌≡◌, refl, sym, ap, ap₂, ◌∙◌}
 use mathlib.Core.Bool.{Bool, true, false, cond, ◌&&◌}
 use mathlib.Core.List.{List}
@@ -7,8 +9,6 @@ use Prim.Native.Nat.{ℕ}
 use lib.Dec.{eqb}
 use lib.IntN.{ℤ}
 use lib.ListN.{length}
-use Rattle.answer.specs.declared.Call.{Call}
-use Rattle.answer.specs.declared.Call.TheVariants.{Done}
 use Rattle.direct_moves.specs.Direct.{entry_by, pairs_fit, zones_fit, outline_fits, shift_after, try_move_original_of, move_after, try_move_point_of, zp2_after, try_move_zp2_of, displaced_after, try_displacement_of}
 use Rattle.graphics.specs.State.{usable_state}
 use Rattle.graphics.specs.declared.GraphicsState.{GraphicsState}
@@ -35,16 +35,16 @@ pub entry_is : {fits ready f u v : Bool} → fits ≡ f → u ≡ ready → u �
 entry_is p q e = ap₂ entry_by (sym p) (sym e ∙ q)
 
 -- ---- what the tests tell
-entry_done : (fits ready : Bool) → entry_by fits ready ≡ Done → fits ≡ true
+entry_done : (fits ready : Bool) → entry_by fits ready ≡ Ok tt → fits ≡ true
 entry_done true ready e = refl
 entry_done false ready e = cc e
 
 -- what was begun, from the two tests
-begun_is : {fits given : Bool} (ready : Bool) {begun h : Call} → given ≡ fits → begun ≡ entry_by given ready → begun ≡ h → h ≡ entry_by fits ready
+begun_is : {fits given : Bool} (ready : Bool) {begun h : Result ⊤ Refusal} → given ≡ fits → begun ≡ entry_by given ready → begun ≡ h → h ≡ entry_by fits ready
 begun_is ready p q e = sym e ∙ q ∙ ap (λ (b : Bool). entry_by b ready) p
 
 -- where the call goes on, the lists fit
-pub begun_fits : {fits given : Bool} (ready : Bool) {begun : Call} → given ≡ fits → begun ≡ entry_by given ready → begun ≡ Done → fits ≡ true
+pub begun_fits : {fits given : Bool} (ready : Bool) {begun : Result ⊤ Refusal} → given ≡ fits → begun ≡ entry_by given ready → begun ≡ Ok tt → fits ≡ true
 begun_fits {fits} ready p q e = entry_done fits ready (sym (begun_is ready p q e))
 
 pub pairs_lengths : (gx gy tx ty : List ℤ) → pairs_fit gx gy tx ty ≡ true → (length gy ≡ length gx) × (length ty ≡ length tx)
@@ -73,12 +73,12 @@ zones_lengths gx gy gflags tx ty tflags e =
     (pair_length gx gy (placed_pair gx gy gflags g), placed_length gx gy gflags g, pair_length tx ty (placed_pair tx ty tflags t), placed_length tx ty tflags t)
 
 -- ---- how each call goes on
-module _ (gx gy tx ty : List ℤ) (s : GraphicsState) (zone : ZonePointer) (at : ℕ) (distance : ℤ) {fits : Bool} {begun h : Call} where
+module _ (gx gy tx ty : List ℤ) (s : GraphicsState) (zone : ZonePointer) (at : ℕ) (distance : ℤ) {fits : Bool} {begun h : Result ⊤ Refusal} where
   pub original_begun : fits ≡ pairs_fit gx gy tx ty → begun ≡ entry_by fits (usable_state s) → begun ≡ h → shift_after gx gy tx ty zone (original_move_of s.vectors distance) at h ≡ try_move_original_of gx gy tx ty s zone at distance
   unfolding try_move_original_of
   original_begun p q e = ap (shift_after gx gy tx ty zone (original_move_of s.vectors distance) at) (begun_is (usable_state s) p q e)
 
-module _ (gx gy : List ℤ) (gflags : List ℕ) (tx ty : List ℤ) (tflags : List ℕ) (s : GraphicsState) (at : ℕ) {fits : Bool} {begun h : Call} (p : fits ≡ zones_fit gx gy gflags tx ty tflags) (q : begun ≡ entry_by fits (usable_state s)) (e : begun ≡ h) where
+module _ (gx gy : List ℤ) (gflags : List ℕ) (tx ty : List ℤ) (tflags : List ℕ) (s : GraphicsState) (at : ℕ) {fits : Bool} {begun h : Result ⊤ Refusal} (p : fits ≡ zones_fit gx gy gflags tx ty tflags) (q : begun ≡ entry_by fits (usable_state s)) (e : begun ≡ h) where
   pub point_begun : (zone : ZonePointer) (distance : ℤ) → move_after gx gy gflags tx ty tflags zone (move_of s.vectors s.facts distance) at h ≡ try_move_point_of gx gy gflags tx ty tflags s zone at distance
   unfolding try_move_point_of
   point_begun zone distance = ap (move_after gx gy gflags tx ty tflags zone (move_of s.vectors s.facts distance) at) (begun_is (usable_state s) p q e)
@@ -90,13 +90,13 @@ module _ (gx gy : List ℤ) (gflags : List ℕ) (tx ty : List ℤ) (tflags : Lis
       ∙ ap (zp2_after gx gy gflags tx ty tflags s.pointers.zp2 (zp2_move_of s.vectors s.facts dx dy touches) at) (begun_is (usable_state s) p q e)
 
 module _ (gx gy : List ℤ) (gflags : List ℕ) (tx ty : List ℤ) (tflags : List ℕ) (zone : ZonePointer) (m : Move) (at : ℕ) where
-  pub zp2_idle : is_idle m ≡ true → both_moved Done gx gy gflags tx ty tflags ≡ zp2_after gx gy gflags tx ty tflags zone m at Done
-  zp2_idle e = ap (λ (b : Bool). cond b (both_moved Done gx gy gflags tx ty tflags) (apply_in m at gx gy gflags tx ty tflags zone)) (sym e)
+  pub zp2_idle : is_idle m ≡ true → both_moved (Ok tt) gx gy gflags tx ty tflags ≡ zp2_after gx gy gflags tx ty tflags zone m at (Ok tt)
+  zp2_idle e = ap (λ (b : Bool). cond b (both_moved (Ok tt) gx gy gflags tx ty tflags) (apply_in m at gx gy gflags tx ty tflags zone)) (sym e)
 
-  pub zp2_busy : is_idle m ≡ false → apply_in m at gx gy gflags tx ty tflags zone ≡ zp2_after gx gy gflags tx ty tflags zone m at Done
-  zp2_busy e = ap (λ (b : Bool). cond b (both_moved Done gx gy gflags tx ty tflags) (apply_in m at gx gy gflags tx ty tflags zone)) (sym e)
+  pub zp2_busy : is_idle m ≡ false → apply_in m at gx gy gflags tx ty tflags zone ≡ zp2_after gx gy gflags tx ty tflags zone m at (Ok tt)
+  zp2_busy e = ap (λ (b : Bool). cond b (both_moved (Ok tt) gx gy gflags tx ty tflags) (apply_in m at gx gy gflags tx ty tflags zone)) (sym e)
 
-module _ (gox goy gx gy tox toy tx ty : List ℤ) (s : GraphicsState) (opcode : ℕ) {g t : Bool} {begun h : Call} where
+module _ (gox goy gx gy tox toy tx ty : List ℤ) (s : GraphicsState) (opcode : ℕ) {g t : Bool} {begun h : Result ⊤ Refusal} where
   pub displacement_begun : g ≡ outline_fits gox goy gx gy → t ≡ outline_fits tox toy tx ty → begun ≡ entry_by (g && t) (usable_state s) → begun ≡ h → {p : Reference} → p ≡ reference_of s opcode → displaced_after gox goy gx gy tox toy tx ty s p h ≡ try_displacement_of gox goy gx gy tox toy tx ty s opcode
   unfolding try_displacement_of
   displacement_begun fg ft q e r =

@@ -1,8 +1,8 @@
 -- The direct calls over a state and both zones: document 01, "Direct calls test in the order 2, 3, then 7 or 11". Nothing is changed where one
 -- is refused, and the zone that isn't chosen is never changed. Assumes nothing.
-use Rattle.std.specs.Prelude.{ℕ, Bool, true, false, ◌&&◌, cond, List, eqb, ℤ, length}
-use Rattle.answer.specs.declared.Call.{Call}
-use Rattle.answer.specs.declared.Call.TheVariants.{Done, Refused}
+use Rattle.answer.specs.declared.Refusal.{Refusal}
+use Rattle.moves.specs.declared.Displacement.{Displacement}
+use Rattle.std.specs.Prelude.{ℕ, Bool, true, false, ◌&&◌, cond, List, eqb, ℤ, length, ⊤, Result, Ok, Err}
 use Rattle.answer.specs.declared.Refusal.TheVariants.{Sizes, State}
 use Rattle.graphics.specs.State.{usable_state}
 use Rattle.graphics.specs.declared.ZonePointer.{ZonePointer}
@@ -13,15 +13,13 @@ use Rattle.moves.specs.Apply.{BothShifted, both_shifted, shift_in, BothMoved, bo
 use Rattle.moves.specs.Displacement.{reference_of, displaced_in}
 use Rattle.moves.specs.declared.Move.{Move}
 use Rattle.moves.specs.declared.Reference.{Reference}
-use Rattle.moves.specs.declared.Displaced.{Displaced}
-use Rattle.moves.specs.declared.Displaced.TheVariants.{Refused as RefusedDisplacement}
 
 -- ---- the tests at entry
 -- sizes first, then the state; Done where neither refuses
-abbrev pub entry_by : Bool → Bool → Call
-entry_by true true = Done
-entry_by true false = Refused State
-entry_by false usable = Refused Sizes
+abbrev pub entry_by : Bool → Bool → Result ⊤ Refusal
+entry_by true true = Ok tt
+entry_by true false = Err State
+entry_by false usable = Err Sizes
 
 -- each zone's lists share one length within the limit
 unfoldable pub pairs_fit : List ℤ → List ℤ → List ℤ → List ℤ → Bool
@@ -36,9 +34,9 @@ outline_fits ox oy cx cy = eqb (length ox) (length cx) && pair_fits ox oy && pai
 
 -- ---- move_original
 module _ (gox goy tox toy : List ℤ) where
-  abbrev pub shift_after : ZonePointer → Move → ℕ → Call → BothShifted
-  shift_after zone m at Done = shift_in m at gox goy tox toy zone
-  shift_after zone m at (Refused why) = both_shifted (Refused why) gox goy tox toy
+  abbrev pub shift_after : ZonePointer → Move → ℕ → Result ⊤ Refusal → BothShifted
+  shift_after zone m at (Ok tt) = shift_in m at gox goy tox toy zone
+  shift_after zone m at (Err why) = both_shifted (Err why) gox goy tox toy
 
   unfoldable pub try_move_original_of : GraphicsState → ZonePointer → ℕ → ℤ → BothShifted
   try_move_original_of s zone at distance =
@@ -46,18 +44,18 @@ module _ (gox goy tox toy : List ℤ) where
 
 -- ---- move_point and move_zp2_point
 module _ (gx gy : List ℤ) (gflags : List ℕ) (tx ty : List ℤ) (tflags : List ℕ) where
-  abbrev pub move_after : ZonePointer → Move → ℕ → Call → BothMoved
-  move_after zone m at Done = apply_in m at gx gy gflags tx ty tflags zone
-  move_after zone m at (Refused why) = both_moved (Refused why) gx gy gflags tx ty tflags
+  abbrev pub move_after : ZonePointer → Move → ℕ → Result ⊤ Refusal → BothMoved
+  move_after zone m at (Ok tt) = apply_in m at gx gy gflags tx ty tflags zone
+  move_after zone m at (Err why) = both_moved (Err why) gx gy gflags tx ty tflags
 
   unfoldable pub try_move_point_of : GraphicsState → ZonePointer → ℕ → ℤ → BothMoved
   try_move_point_of s zone at distance =
       move_after zone (move_of s.vectors s.facts distance) at (entry_by (zones_fit gx gy gflags tx ty tflags) (usable_state s))
 
   -- an idle move looks at nothing
-  abbrev pub zp2_after : ZonePointer → Move → ℕ → Call → BothMoved
-  zp2_after zone m at Done = cond (is_idle m) (both_moved Done gx gy gflags tx ty tflags) (apply_in m at gx gy gflags tx ty tflags zone)
-  zp2_after zone m at (Refused why) = both_moved (Refused why) gx gy gflags tx ty tflags
+  abbrev pub zp2_after : ZonePointer → Move → ℕ → Result ⊤ Refusal → BothMoved
+  zp2_after zone m at (Ok tt) = cond (is_idle m) (both_moved (Ok tt) gx gy gflags tx ty tflags) (apply_in m at gx gy gflags tx ty tflags zone)
+  zp2_after zone m at (Err why) = both_moved (Err why) gx gy gflags tx ty tflags
 
   unfoldable pub try_move_zp2_of : GraphicsState → ℕ → ℤ → ℤ → Bool → BothMoved
   try_move_zp2_of s at dx dy touches =
@@ -65,10 +63,10 @@ module _ (gx gy : List ℤ) (gflags : List ℕ) (tx ty : List ℤ) (tflags : Lis
 
 -- ---- point_displacement
 module _ (gox goy gx gy tox toy tx ty : List ℤ) where
-  abbrev pub displaced_after : GraphicsState → Reference → Call → Displaced
-  displaced_after s p Done = displaced_in s.vectors p gox goy gx gy tox toy tx ty p.zone
-  displaced_after s p (Refused why) = RefusedDisplacement why
+  abbrev pub displaced_after : GraphicsState → Reference → Result ⊤ Refusal → Result Displacement Refusal
+  displaced_after s p (Ok tt) = displaced_in s.vectors p gox goy gx gy tox toy tx ty p.zone
+  displaced_after s p (Err why) = Err why
 
-  unfoldable pub try_displacement_of : GraphicsState → ℕ → Displaced
+  unfoldable pub try_displacement_of : GraphicsState → ℕ → Result Displacement Refusal
   try_displacement_of s opcode =
       displaced_after s (reference_of s opcode) (entry_by (outline_fits gox goy gx gy && outline_fits tox toy tx ty) (usable_state s))

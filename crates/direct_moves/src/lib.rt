@@ -10,25 +10,25 @@ ghost use Rattle.graphics.specs.State.{usable_state};
 ghost use Rattle.moves.specs.Apply.{both_shifted, both_moved};
 ghost use Rattle.direct_moves.specs.Direct.{entry_by, pairs_fit, zones_fit, outline_fits, try_move_original_of, try_move_point_of, try_move_zp2_of, try_displacement_of};
 
-use answer::{Call, Refusal};
+use answer::Refusal;
 use graphics::{GraphicsState, ZonePointer};
 use moves::{
-    Displaced, apply_coords_in, apply_in, displaced_in, move_of, original_move_of, reference_of,
+    Displacement, apply_coords_in, apply_in, displaced_in, move_of, original_move_of, reference_of,
     zp2_move_of,
 };
 use zone::{pair_fits, placed_fits};
 
 // ---- the tests at entry
-fn entry(fits: bool, s: GraphicsState) -> Call
+fn entry(fits: bool, s: GraphicsState) -> Result<(), Refusal>
     ensures { result ≡ entry_by fits (usable_state s) }
 {
     if !fits {
-        return Call::Refused(Refusal::Sizes);
+        return Err(Refusal::Sizes);
     }
     if s.is_usable() {
-        Call::Done
+        Ok(())
     } else {
-        Call::Refused(Refusal::State)
+        Err(Refusal::State)
     }
 }
 
@@ -62,23 +62,20 @@ pub fn try_move_original(
     goy: &mut [i32],
     tox: &mut [i32],
     toy: &mut [i32],
-) -> Call
+) -> Result<(), Refusal>
     ensures { both_shifted result gox.new goy.new tox.new toy.new ≡ try_move_original_of gox.old goy.old tox.old toy.old s zone at distance }
 {
     let vectors = s.vectors;
-    let begun = entry(pairs_fit(gox, goy, tox, toy), s);
-    match begun {
-        Call::Refused(why) => Call::Refused(why),
-        Call::Done => apply_coords_in(
-            zone,
-            original_move_of(vectors, distance),
-            at,
-            gox,
-            goy,
-            tox,
-            toy,
-        ),
-    }
+    entry(pairs_fit(gox, goy, tox, toy), s)?;
+    apply_coords_in(
+        zone,
+        original_move_of(vectors, distance),
+        at,
+        gox,
+        goy,
+        tox,
+        toy,
+    )
 }
 
 // On the current coordinates and the flags.
@@ -93,26 +90,23 @@ pub fn try_move_point(
     tx: &mut [i32],
     ty: &mut [i32],
     tflags: &mut [u8],
-) -> Call
+) -> Result<(), Refusal>
     ensures { both_moved result gx.new gy.new gflags.new tx.new ty.new tflags.new ≡ try_move_point_of gx.old gy.old gflags.old tx.old ty.old tflags.old s zone at distance }
 {
     let vectors = s.vectors;
     let facts = s.facts;
-    let begun = entry(zones_fit(gx, gy, gflags, tx, ty, tflags), s);
-    match begun {
-        Call::Refused(why) => Call::Refused(why),
-        Call::Done => apply_in(
-            zone,
-            move_of(vectors, facts, distance),
-            at,
-            gx,
-            gy,
-            gflags,
-            tx,
-            ty,
-            tflags,
-        ),
-    }
+    entry(zones_fit(gx, gy, gflags, tx, ty, tflags), s)?;
+    apply_in(
+        zone,
+        move_of(vectors, facts, distance),
+        at,
+        gx,
+        gy,
+        gflags,
+        tx,
+        ty,
+        tflags,
+    )
 }
 
 // On the current coordinates and the flags of the zone that zp2 names. A move that does nothing looks at nothing.
@@ -128,24 +122,19 @@ pub fn try_move_zp2_point(
     tx: &mut [i32],
     ty: &mut [i32],
     tflags: &mut [u8],
-) -> Call
+) -> Result<(), Refusal>
     ensures { both_moved result gx.new gy.new gflags.new tx.new ty.new tflags.new ≡ try_move_zp2_of gx.old gy.old gflags.old tx.old ty.old tflags.old s at dx dy touches }
 {
     let vectors = s.vectors;
     let facts = s.facts;
     let pointers = s.pointers;
     let zone = pointers.zp2;
-    let begun = entry(zones_fit(gx, gy, gflags, tx, ty, tflags), s);
+    entry(zones_fit(gx, gy, gflags, tx, ty, tflags), s)?;
     let m = zp2_move_of(vectors, facts, dx, dy, touches);
-    match begun {
-        Call::Refused(why) => Call::Refused(why),
-        Call::Done => {
-            if m.is_idle() {
-                return Call::Done;
-            }
-            apply_in(zone, m, at, gx, gy, gflags, tx, ty, tflags)
-        }
+    if m.is_idle() {
+        return Ok(());
     }
+    apply_in(zone, m, at, gx, gy, gflags, tx, ty, tflags)
 }
 
 // How far the reference point of SHP and its kin was moved.
@@ -160,25 +149,22 @@ pub fn try_point_displacement(
     toy: &[i32],
     tx: &[i32],
     ty: &[i32],
-) -> Displaced
+) -> Result<Displacement, Refusal>
     ensures { result ≡ try_displacement_of gox.now goy.now gx.now gy.now tox.now toy.now tx.now ty.now s opcode }
 {
     let vectors = s.vectors;
     let fits = outline_fits(gox, goy, gx, gy) & outline_fits(tox, toy, tx, ty);
-    let begun = entry(fits, s);
-    match begun {
-        Call::Refused(why) => Displaced::Refused(why),
-        Call::Done => displaced_in(
-            vectors,
-            reference_of(s, opcode),
-            gox,
-            goy,
-            gx,
-            gy,
-            tox,
-            toy,
-            tx,
-            ty,
-        ),
-    }
+    entry(fits, s)?;
+    displaced_in(
+        vectors,
+        reference_of(s, opcode),
+        gox,
+        goy,
+        gx,
+        gy,
+        tox,
+        toy,
+        tx,
+        ty,
+    )
 }

@@ -8,80 +8,81 @@ ghost use Rattle.std.specs.Prelude.{◌≡◌};
 ghost use Rattle.zone.specs.Zone.{marked};
 ghost use Rattle.direct_zone.specs.Direct.{try_fetch_of, try_unscaled_of, try_touch_of, try_untouch_of, try_flip_of, try_touched_of, try_set_on_curve_of};
 
-use answer::{Call, Refusal};
+use answer::Refusal;
 use flags::CoordAxis;
+use graphics::Vector;
 use zone::{
-    Fetched, Touched, fetch, flags_fit, flip_on_curve, is_touched, pair_fits, set_on_curve, touch,
-    unscaled_at, untouch,
+    fetch, flags_fit, flip_on_curve, is_touched, pair_fits, set_on_curve, touch, unscaled_at,
+    untouch,
 };
 
 // `point` and `original` of zone.rs.
-pub fn try_fetch(xs: &[i32], ys: &[i32], at: u64) -> Fetched
+pub fn try_fetch(xs: &[i32], ys: &[i32], at: u64) -> Result<Vector, Refusal>
     ensures { result ≡ try_fetch_of xs.now ys.now at }
 {
     if pair_fits(xs, ys) {
         fetch(xs, ys, at)
     } else {
-        Fetched::Refused(Refusal::Sizes)
+        Err(Refusal::Sizes)
     }
 }
 
-pub fn try_unscaled(xs: &[i32], ys: &[i32], at: u64) -> Fetched
+pub fn try_unscaled(xs: &[i32], ys: &[i32], at: u64) -> Result<Vector, Refusal>
     ensures { result ≡ try_unscaled_of xs.now ys.now at }
 {
     if pair_fits(xs, ys) {
-        Fetched::At(unscaled_at(xs, ys, at))
+        Ok(unscaled_at(xs, ys, at))
     } else {
-        Fetched::Refused(Refusal::Sizes)
+        Err(Refusal::Sizes)
     }
 }
 
-pub fn try_touch(flags: &mut [u8], at: u64, axis: CoordAxis) -> Call
+pub fn try_touch(flags: &mut [u8], at: u64, axis: CoordAxis) -> Result<(), Refusal>
     ensures { marked result flags.new ≡ try_touch_of flags.old at axis }
 {
     if flags_fit(flags) {
         touch(flags, at, axis)
     } else {
-        Call::Refused(Refusal::Sizes)
+        Err(Refusal::Sizes)
     }
 }
 
-pub fn try_untouch(flags: &mut [u8], at: u64, axis: CoordAxis) -> Call
+pub fn try_untouch(flags: &mut [u8], at: u64, axis: CoordAxis) -> Result<(), Refusal>
     ensures { marked result flags.new ≡ try_untouch_of flags.old at axis }
 {
     if flags_fit(flags) {
         untouch(flags, at, axis)
     } else {
-        Call::Refused(Refusal::Sizes)
+        Err(Refusal::Sizes)
     }
 }
 
-pub fn try_flip_on_curve(flags: &mut [u8], at: u64) -> Call
+pub fn try_flip_on_curve(flags: &mut [u8], at: u64) -> Result<(), Refusal>
     ensures { marked result flags.new ≡ try_flip_of flags.old at }
 {
     if flags_fit(flags) {
         flip_on_curve(flags, at)
     } else {
-        Call::Refused(Refusal::Sizes)
+        Err(Refusal::Sizes)
     }
 }
 
-pub fn try_is_touched(flags: &[u8], at: u64, axis: CoordAxis) -> Touched
+pub fn try_is_touched(flags: &[u8], at: u64, axis: CoordAxis) -> Result<bool, Refusal>
     ensures { result ≡ try_touched_of flags.now at axis }
 {
     if flags_fit(flags) {
         is_touched(flags, at, axis)
     } else {
-        Touched::Refused(Refusal::Sizes)
+        Err(Refusal::Sizes)
     }
 }
 
-pub fn try_set_on_curve(flags: &mut [u8], start: u64, end: u64, on: bool) -> Call
+pub fn try_set_on_curve(flags: &mut [u8], start: u64, end: u64, on: bool) -> Result<(), Refusal>
     ensures { marked result flags.new ≡ try_set_on_curve_of flags.old start end on }
 {
     if flags_fit(flags) {
         set_on_curve(flags, start, end, on)
     } else {
-        Call::Refused(Refusal::Sizes)
+        Err(Refusal::Sizes)
     }
 }

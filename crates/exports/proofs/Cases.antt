@@ -1,4 +1,5 @@
 -- What a call leaves, by what its parts ensure: `write_answer`, a call that is taken, and one that is refused. Assumes nothing.
+use Rattle.std.specs.Prelude.{Option, Some, None}
 use mathlib.Core.Path.{◌≡◌, refl, ap, sym, ◌∙◌}
 use mathlib.Core.Bool.{true, false}
 use mathlib.Core.List.{List, [], ◌∷◌}
@@ -11,8 +12,6 @@ use lib.ListN.{length, set}
 use Rattle.graphics.proofs.Laws.{and_left, and_right}
 use Rattle.graphics.specs.declared.GraphicsState.{GraphicsState}
 use Rattle.line.specs.World.{Fixed, world}
-use Rattle.rules.specs.declared.Named.{Named}
-use Rattle.rules.specs.declared.Named.TheVariants.{Known, Unknown}
 use Rattle.rules.specs.declared.Rules.{Rules}
 use Rattle.run_lines.specs.declared.Outcome.{Outcome}
 use Rattle.run_lines.specs.Onward.{ran, number_of_answer, detail_of_answer}
@@ -56,16 +55,16 @@ module _ (words answer : List ℕ) (e : is_call words answer ≡ true) where
 -- ---- the whole call
 module _
     (f : Rules → Fixed) (sheet : List ℤ) (budget start : ℕ) (words answer : List ℕ)
-    (gx gy : List ℤ) (gflags : List ℕ) (tox toy tx ty : List ℤ) (tflags : List ℕ) (named : Named)
+    (gx gy : List ℤ) (gflags : List ℕ) (tox toy tx ty : List ℤ) (tflags : List ℕ) (named : Option Rules)
     (n : ℕ) (answer' : List ℕ)
   where
-    abbrev called : Named → Left
+    abbrev called : Option Rules → Left
     called = call_of f sheet budget start words answer gx gy gflags tox toy tx ty tflags
 
     pub taken :
         (o : Outcome) (rules : Rules) (s : GraphicsState) (words' : List ℕ)
         (gx' gy' : List ℤ) (gflags' : List ℕ) (tox' toy' tx' ty' : List ℤ) (tflags' : List ℕ)
-        → named ≡ Known rules
+        → named ≡ Some rules
         → is_call words answer ≡ true
         → s ≡ state_of words
         → ran o gx' gy' gflags' tox' toy' tx' ty' tflags' ≡ run_of (f rules) sheet budget start (world s gx gy gflags tox toy tx ty tflags)
@@ -87,13 +86,13 @@ module _
         ap (λ (m : ℕ). left m words answer' gx gy gflags tox toy tx ty tflags) number
         ∙ ap (λ (l : List ℕ). left bad_word words l gx gy gflags tox toy tx ty tflags) says
 
-    pub unnamed : named ≡ Unknown → n ≡ bad_word → answer' ≡ answered bad_word start 0 0 answer → left n words answer' gx gy gflags tox toy tx ty tflags ≡ called named
+    pub unnamed : named ≡ None → n ≡ bad_word → answer' ≡ answered bad_word start 0 0 answer → left n words answer' gx gy gflags tox toy tx ty tflags ≡ called named
     unfolding call_of
     unnamed ruled number says = refusal number says ∙ sym (ap called ruled)
 
     pub refused :
         (rules : Rules)
-        → named ≡ Known rules
+        → named ≡ Some rules
         → is_call words answer ≡ false
         → n ≡ bad_word
         → answer' ≡ answered bad_word start 0 0 answer

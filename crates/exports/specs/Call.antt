@@ -1,9 +1,7 @@
 -- What a call from C returns and leaves: a run of document 01 on the state that the words stand for (document 02, K4), or 16, "a word out of
 -- its range". Assumes nothing.
-use Rattle.std.specs.Prelude.{ℕ, Bool, cond, ◌&&◌, List, [], ◌∷◌, eqb, ℤ, length}
+use Rattle.std.specs.Prelude.{ℕ, Bool, cond, ◌&&◌, List, [], ◌∷◌, eqb, ℤ, length, Option, Some, None}
 use Rattle.line.specs.World.{Fixed, world}
-use Rattle.rules.specs.declared.Named.{Named}
-use Rattle.rules.specs.declared.Named.TheVariants.{Known, Unknown}
 use Rattle.rules.specs.declared.Rules.{Rules}
 use Rattle.run_lines.specs.Onward.{Ran, number_of_answer, detail_of_answer}
 use Rattle.replay.specs.Run.{run_of}
@@ -28,9 +26,9 @@ handed_back r =
     left number (state_words w.state) (number ∷ r.place ∷ r.lines ∷ detail_of_answer r.answer ∷ []) w.gx w.gy w.gflags w.tox w.toy w.tx w.ty w.tflags
 
 -- a number that names no rules, words that are no state, or an answer that is not four long, are refused
-unfoldable pub call_of : (Rules → Fixed) → List ℤ → ℕ → ℕ → List ℕ → List ℕ → List ℤ → List ℤ → List ℕ → List ℤ → List ℤ → List ℤ → List ℤ → List ℕ → Named → Left
-call_of f sheet budget start words answer gx gy gflags tox toy tx ty tflags Unknown = refused_call words (answered bad_word start 0 0 answer) gx gy gflags tox toy tx ty tflags
-call_of f sheet budget start words answer gx gy gflags tox toy tx ty tflags (Known rules) =
+unfoldable pub call_of : (Rules → Fixed) → List ℤ → ℕ → ℕ → List ℕ → List ℕ → List ℤ → List ℤ → List ℕ → List ℤ → List ℤ → List ℤ → List ℤ → List ℕ → Option Rules → Left
+call_of f sheet budget start words answer gx gy gflags tox toy tx ty tflags None = refused_call words (answered bad_word start 0 0 answer) gx gy gflags tox toy tx ty tflags
+call_of f sheet budget start words answer gx gy gflags tox toy tx ty tflags (Some rules) =
     cond (is_call words answer)
     (handed_back (run_of (f rules) sheet budget start (world (state_of words) gx gy gflags tox toy tx ty tflags)))
     (refused_call words (answered bad_word start 0 0 answer) gx gy gflags tox toy tx ty tflags)

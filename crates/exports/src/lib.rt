@@ -20,11 +20,12 @@ ghost use Rattle.feed_calls.specs.Feed.{carried, feed_call_of, feed_end_call_of,
 ghost use Rattle.feed_calls.specs.Left.{bad_word, left};
 ghost use Rattle.exports.specs.Call.{answered, call_of, is_call};
 
+use answer::Says;
 use feed_calls::feed_end_call;
 use feed_reader::feed_from;
 use outline_calls::{begin_call, next_call};
 use replay::run;
-use rules::{Named, by_number};
+use rules::by_number;
 use run_lines::Outcome;
 use state_words::{is_state, read_state, write_state};
 
@@ -110,8 +111,8 @@ pub fn taleviqa_run(
 {
     let named = by_number(rules);
     match named {
-        Named::Unknown => refuse(start, answer),
-        Named::Known(by) => {
+        None => refuse(start, answer),
+        Some(by) => {
             if !is_call(state, answer) {
                 return refuse(start, answer);
             }

@@ -1,5 +1,6 @@
 -- What the functions of a feed come to, over plain values: words that are put away, whole lines that are run, and a piece behind what waits. Assumes
 -- nothing.
+use Rattle.std.specs.Prelude.{⊤, Result, Ok, Err}
 use mathlib.Core.Bool.{Bool, false, true, true≢false}
 use mathlib.Core.List.{List, [], ◌++◌}
 use mathlib.Core.Logic.{◌⊎◌, inl, inr}
@@ -11,9 +12,6 @@ use lib.IntN.{ℤ, pos}
 use lib.ListN.{drop, get_or, length, length-append, take, take-append-drop}
 use lib.Seq.{drop-append-add, drop-length, get_or-take, length-take-le, take-length}
 use Rattle.int.specs.Word.{index_of}
-use Rattle.answer.specs.declared.Call.{Call}
-use Rattle.answer.specs.declared.Call.TheVariants.{Done}
-use Rattle.answer.specs.declared.Call.TheVariants.{Refused as RefusedCall}
 use Rattle.answer.specs.declared.Refusal.{Refusal}
 use Rattle.line.specs.World.{Fixed, World}
 use Rattle.run_step.specs.Step.{step_of}
@@ -89,11 +87,11 @@ module _ (f : Fixed) (sheet : List ℤ) (origin before b at : ℕ) (w : World) (
     unfolding ran_by on_by
     off_by (Stops why e) =
         ap (λ (x : Kept). left_of x.fed x.carry r.world) (k ∙ ap (ran_by origin r.place before r.lines r.world.state sheet carry) e)
-        ∙ sym (ap (λ (c : Call). handed carry (on_by f sheet origin before r c)) e)
+        ∙ sym (ap (λ (c : Result ⊤ Refusal). handed carry (on_by f sheet origin before r c)) e)
     off_by (Rests e z) =
         put_away f (origin + r.place) 0 (before + r.lines) r.world (drop r.place sheet) carry (omega arith) none_waits z
         (k ∙ ap (ran_by origin r.place before r.lines r.world.state sheet carry) e)
-        ∙ sym (ap (λ (c : Call). handed carry (on_by f sheet origin before r c)) e)
+        ∙ sym (ap (λ (c : Result ⊤ Refusal). handed carry (on_by f sheet origin before r c)) e)
 
   pub off_is : (r : Ran) {d : Fed} {carry' : List ℤ} → r ≡ replay_of f sheet b 0 at w
       → kept d carry' ≡ ran_by origin r.place before r.lines r.world.state sheet carry (refusal sheet r)
@@ -112,27 +110,27 @@ rest_lines base held lines s words carry Bad = refl
 rest_lines base held lines s words carry LongLine = refl
 rest_lines base held lines s words carry (Whole n) = refl
 
-ran_lines : (origin place before lines : ℕ) (s : GraphicsState) (sheet carry : List ℤ) (c : Call) → (ran_by origin place before lines s sheet carry c).fed.lines ≡ before + lines
+ran_lines : (origin place before lines : ℕ) (s : GraphicsState) (sheet carry : List ℤ) (c : Result ⊤ Refusal) → (ran_by origin place before lines s sheet carry c).fed.lines ≡ before + lines
 unfolding ran_by
-ran_lines origin place before lines s sheet carry (RefusedCall why) = refl
-ran_lines origin place before lines s sheet carry Done = rest_lines (origin + place) 0 (before + lines) s (drop place sheet) carry (look_of (drop place sheet))
+ran_lines origin place before lines s sheet carry (Err why) = refl
+ran_lines origin place before lines s sheet carry (Ok tt) = rest_lines (origin + place) 0 (before + lines) s (drop place sheet) carry (look_of (drop place sheet))
 
 pub off_lines : (origin before : ℕ) (r : Ran) (sheet carry : List ℤ) {d : Fed} {carry' : List ℤ}
     → kept d carry' ≡ ran_by origin r.place before r.lines r.world.state sheet carry (refusal sheet r) → d.lines ≡ before + r.lines
 off_lines origin before r sheet carry k = ap (λ (x : Kept). x.fed.lines) k ∙ ran_lines origin r.place before r.lines r.world.state sheet carry (refusal sheet r)
 
 -- ---- the words of a run, put away
-module _ (origin place before lines : ℕ) (s : GraphicsState) (sheet carry : List ℤ) (a : Answer) {call : Call} {seen : Seen} {whole : ℕ} {part : List ℤ}
+module _ (origin place before lines : ℕ) (s : GraphicsState) (sheet carry : List ℤ) (a : Answer) {call : Result ⊤ Refusal} {seen : Seen} {whole : ℕ} {part : List ℤ}
     (es : seen ≡ look_of part) (ep : part ≡ drop place sheet) (ew : whole ≡ whole_by seen) (ec : call ≡ refusal_by a whole) where
   said : call ≡ refusal_by a (whole_at sheet place)
   said = ec ∙ ap (refusal_by a) (ew ∙ ap whole_by (es ∙ ap look_of ep))
 
-  pub ran_refused : {why : Refusal} {d : Fed} → call ≡ RefusedCall why → d ≡ fed (Refused why) (origin + place) 0 (before + lines) s
+  pub ran_refused : {why : Refusal} {d : Fed} → call ≡ Err why → d ≡ fed (Refused why) (origin + place) 0 (before + lines) s
       → kept d carry ≡ ran_by origin place before lines s sheet carry (refusal_by a (whole_at sheet place))
   unfolding ran_by
   ran_refused t e = ap (λ (c : Fed). kept c carry) e ∙ sym (ap (ran_by origin place before lines s sheet carry) t) ∙ ap (ran_by origin place before lines s sheet carry) said
 
-  pub ran_on : {d : Fed} {carry' : List ℤ} → call ≡ Done → kept d carry' ≡ rest_by (origin + place) 0 (before + lines) s part carry seen
+  pub ran_on : {d : Fed} {carry' : List ℤ} → call ≡ Ok tt → kept d carry' ≡ rest_by (origin + place) 0 (before + lines) s part carry seen
       → kept d carry' ≡ ran_by origin place before lines s sheet carry (refusal_by a (whole_at sheet place))
   unfolding ran_by
   ran_on t k =

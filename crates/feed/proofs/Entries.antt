@@ -1,4 +1,5 @@
 -- A call by its tests, over plain values. Assumes nothing.
+use Rattle.std.specs.Prelude.{⊤, Result, Ok, Err}
 use mathlib.Core.Bool.{Bool, ◌&&◌, cond, false, true, true≢false}
 use mathlib.Core.List.{List, []}
 use mathlib.Core.Path.{◌∙◌, ◌≡◌, ap, ap₂, refl, sym}
@@ -8,9 +9,6 @@ use borrow.Author.Tests.{eq-eqb, leb-false, leb-true, ne_eqb}
 use lib.Dec.{eqb, leb}
 use lib.IntN.{ℤ}
 use lib.ListN.{drop, drop_of_length-le, length, take}
-use Rattle.answer.specs.declared.Call.{Call}
-use Rattle.answer.specs.declared.Call.TheVariants.{Done}
-use Rattle.answer.specs.declared.Call.TheVariants.{Refused as RefusedCall}
 use Rattle.answer.specs.declared.Refusal.{Refusal}
 use Rattle.answer.specs.declared.Refusal.TheVariants.{Line}
 use Rattle.contour_ends.specs.Ends.{ends_rise}
@@ -41,7 +39,7 @@ words_from piece at start h = all_of piece start ∙ by (leb at (length piece)) 
         drop_of_length-le piece s ∙ sym (drop_of_length-le piece l)
 
 -- ---- the tests as they were made
-pub entry_is : (f : Fixed) (c : Fed) (carry words : List ℤ) (w : World) {sized roomy rising usable : Bool} {begins : Call} → begins ≡ entry_of (sized && roomy) rising usable true
+pub entry_is : (f : Fixed) (c : Fed) (carry words : List ℤ) (w : World) {sized roomy rising usable : Bool} {begins : Result ⊤ Refusal} → begins ≡ entry_of (sized && roomy) rising usable true
     → sized ≡ world_fits f words w → roomy ≡ carry_has_room c.base c.held (length words) carry → rising ≡ ends_rise (length w.gx) f.contours → usable ≡ usable_state w.state
     → begins ≡ entered_feed f c carry words w
 entry_is f c carry words w {sized} {roomy} {rising} {usable} e p r q u =
@@ -63,39 +61,39 @@ module _ (f : Fixed) (c : Fed) (carry : List ℤ) (w : World) where
   at_entry s e = ap (λ (x : Fed). left_of x carry w) e
 
   module _ (o : said_is_open c.said ≡ true) where
-    module _ (words : List ℤ) {begins : Call} (e : begins ≡ entered_feed f c carry words w) where
-      pub feed_refused : {d : Fed} {why : Refusal} → begins ≡ RefusedCall why → d ≡ fed (Refused why) c.base 0 0 w.state → left_of d carry w ≡ feed_of f c carry words w
+    module _ (words : List ℤ) {begins : Result ⊤ Refusal} (e : begins ≡ entered_feed f c carry words w) where
+      pub feed_refused : {d : Fed} {why : Refusal} → begins ≡ Err why → d ≡ fed (Refused why) c.base 0 0 w.state → left_of d carry w ≡ feed_of f c carry words w
       unfolding feed_of fed_on_entry
-      feed_refused {d} {why} t k = rw o (at_entry (Refused why) k ∙ ap (λ (x : Call). handed carry (fed_on_entry f (begun c carry w) words x)) (sym t ∙ e))
+      feed_refused {d} {why} t k = rw o (at_entry (Refused why) k ∙ ap (λ (x : Result ⊤ Refusal). handed carry (fed_on_entry f (begun c carry w) words x)) (sym t ∙ e))
 
-      pub feed_entered : begins ≡ Done → handed carry (fed_all f (begun c carry w) words) ≡ feed_of f c carry words w
+      pub feed_entered : begins ≡ Ok tt → handed carry (fed_all f (begun c carry w) words) ≡ feed_of f c carry words w
       unfolding feed_of fed_on_entry
-      feed_entered t = rw o (ap (λ (x : Call). handed carry (fed_on_entry f (begun c carry w) words x)) (sym t ∙ e))
+      feed_entered t = rw o (ap (λ (x : Result ⊤ Refusal). handed carry (fed_on_entry f (begun c carry w) words x)) (sym t ∙ e))
 
-    module _ {begins : Call} (e : begins ≡ entered_feed f c carry [] w) where
-      pub end_refused : {d : Fed} {why : Refusal} → begins ≡ RefusedCall why → d ≡ fed (Refused why) c.base 0 0 w.state → left_of d carry w ≡ end_of f c carry w
+    module _ {begins : Result ⊤ Refusal} (e : begins ≡ entered_feed f c carry [] w) where
+      pub end_refused : {d : Fed} {why : Refusal} → begins ≡ Err why → d ≡ fed (Refused why) c.base 0 0 w.state → left_of d carry w ≡ end_of f c carry w
       unfolding end_of ended_on_entry
-      end_refused {d} {why} t k = rw o (at_entry (Refused why) k ∙ ap (λ (x : Call). handed carry (ended_on_entry (begun c carry w) c.held x)) (sym t ∙ e))
+      end_refused {d} {why} t k = rw o (at_entry (Refused why) k ∙ ap (λ (x : Result ⊤ Refusal). handed carry (ended_on_entry (begun c carry w) c.held x)) (sym t ∙ e))
 
-      pub end_whole : {d : Fed} → begins ≡ Done → c.held ≡ 0 → d ≡ fed Ended c.base 0 0 w.state → left_of d carry w ≡ end_of f c carry w
+      pub end_whole : {d : Fed} → begins ≡ Ok tt → c.held ≡ 0 → d ≡ fed Ended c.base 0 0 w.state → left_of d carry w ≡ end_of f c carry w
       unfolding end_of ended_on_entry
       end_whole t h k =
-          rw o (at_entry Ended k ∙ ap (λ (b : Bool). handed carry (stops (cond b Ended (Refused Line)) (begun c carry w))) (sym (eq-eqb c.held 0 h)) ∙ ap (λ (x : Call). handed carry (ended_on_entry (begun c carry w) c.held x)) (sym t ∙ e))
+          rw o (at_entry Ended k ∙ ap (λ (b : Bool). handed carry (stops (cond b Ended (Refused Line)) (begun c carry w))) (sym (eq-eqb c.held 0 h)) ∙ ap (λ (x : Result ⊤ Refusal). handed carry (ended_on_entry (begun c carry w) c.held x)) (sym t ∙ e))
 
-      pub end_unfinished : {d : Fed} → begins ≡ Done → (c.held ≡ 0 → ⊥) → d ≡ fed (Refused Line) c.base 0 0 w.state → left_of d carry w ≡ end_of f c carry w
+      pub end_unfinished : {d : Fed} → begins ≡ Ok tt → (c.held ≡ 0 → ⊥) → d ≡ fed (Refused Line) c.base 0 0 w.state → left_of d carry w ≡ end_of f c carry w
       unfolding end_of ended_on_entry
       end_unfinished t h k =
-          rw o (at_entry (Refused Line) k ∙ ap (λ (b : Bool). handed carry (stops (cond b Ended (Refused Line)) (begun c carry w))) (sym (ne_eqb c.held 0 h)) ∙ ap (λ (x : Call). handed carry (ended_on_entry (begun c carry w) c.held x)) (sym t ∙ e))
+          rw o (at_entry (Refused Line) k ∙ ap (λ (b : Bool). handed carry (stops (cond b Ended (Refused Line)) (begun c carry w))) (sym (ne_eqb c.held 0 h)) ∙ ap (λ (x : Result ⊤ Refusal). handed carry (ended_on_entry (begun c carry w) c.held x)) (sym t ∙ e))
 
 -- ---- what a call that is entered was asked
-abbrev is_done : Call → Bool
-is_done Done = true
-is_done (RefusedCall why) = false
+abbrev is_done : Result ⊤ Refusal → Bool
+is_done (Ok tt) = true
+is_done (Err why) = false
 
-not_done : {why : Refusal} → RefusedCall why ≡ Done → ⊥
+not_done : {why : Refusal} → ◌≡◌ {A = Result ⊤ Refusal} (Err why) (Ok tt) → ⊥
 not_done e = true≢false (sym (ap is_done e))
 
-all_passed : (a b d t : Bool) → entry_of (a && b) d t true ≡ Done → (a ≡ true) × (b ≡ true) × (d ≡ true)
+all_passed : (a b d t : Bool) → entry_of (a && b) d t true ≡ Ok tt → (a ≡ true) × (b ≡ true) × (d ≡ true)
 unfolding entry_of
 all_passed true true true true e = (refl, refl, refl)
 all_passed true true true false e = absurd (not_done e)
@@ -103,7 +101,7 @@ all_passed true true false t e = absurd (not_done e)
 all_passed true false d t e = absurd (not_done e)
 all_passed false b d t e = absurd (not_done e)
 
-pub entered_by : (f : Fixed) (c : Fed) (carry words : List ℤ) (w : World) {begins : Call} → begins ≡ entered_feed f c carry words w → begins ≡ Done
+pub entered_by : (f : Fixed) (c : Fed) (carry words : List ℤ) (w : World) {begins : Result ⊤ Refusal} → begins ≡ entered_feed f c carry words w → begins ≡ Ok tt
     → Sound f w × (carry_has_room c.base c.held (length words) carry ≡ true)
 entered_by f c carry words w e t =
     let p = all_passed (world_fits f words w) (carry_has_room c.base c.held (length words) carry) (ends_rise (length w.gx) f.contours) (usable_state w.state) (sym e ∙ t) in

@@ -1,5 +1,6 @@
 -- A run among no more words than the longest line has: none of its lines is too long, so that it stops by itself at the first that isn't whole. Assumes
 -- nothing.
+use Rattle.std.specs.Prelude.{Err}
 use mathlib.Core.Bool.{Bool, cond, false, true}
 use mathlib.Core.List.{List}
 use mathlib.Core.Path.{◌∙◌, ◌≡◌, ap, refl, subst, sym}
@@ -16,7 +17,6 @@ use Rattle.line.specs.World.{Fixed, World}
 use Rattle.opcodes.proofs.Lines.{no_count as decode-no-count, no_opcode as decode-no-opcode, not_known as decode-not-known, too_long as decode-too-long}
 use Rattle.opcodes.specs.Decode.{decode_of}
 use Rattle.opcodes.specs.Table.{need_of, unknown}
-use Rattle.opcodes.specs.declared.Decoded.TheVariants.{Refused as RefusedLine}
 use Rattle.feed_look.proofs.Looks.{Tests, all, no_count, no_opcode, no_word, not_all, not_known, tests, too_long}
 use Rattle.feed_look.proofs.Looks.Tests.{Beyond, Empty, Full, Longer, Short, Single, Strange}
 use Rattle.feed_look.specs.Look.{long_by, most_line, most_operands}
@@ -64,7 +64,7 @@ module _ (f : Fixed) (sheet : List ℤ) (origin before n at : ℕ) (w : World) (
 
   module _ (b : ℕ) (few : length words ≤ most_line) where
     -- a line that can't be read, and that isn't whole
-    unread : 1 ≤ length words → whole_at sheet at ≡ 0 → decode_of sheet w.state.loop_counter at ≡ RefusedLine Line → Goes f sheet origin before n at w (replay_of f sheet (suc b) n at w)
+    unread : 1 ≤ length words → whole_at sheet at ≡ 0 → decode_of sheet w.state.loop_counter at ≡ Err Line → Goes f sheet origin before n at w (replay_of f sheet (suc b) n at w)
     unfolding on_call
     unread g z e =
         let is : replay_of f sheet (suc b) n at w ≡ ends (RefusedRun Line) n at w =

@@ -1,4 +1,5 @@
 -- Whole lines of a sheet: a run of so many of them is the feed of their words. Assumes nothing.
+use Rattle.std.specs.Prelude.{⊤, Result, Ok, Err}
 use mathlib.Core.Bool.{Bool, cond, false, true}
 use mathlib.Core.List.{List, [], ◌++◌}
 use mathlib.Core.Path.{◌∙◌, ◌≡◌, ap, refl, subst, sym}
@@ -10,9 +11,6 @@ use lib.Dec.{ltb}
 use lib.IntN.{pos, ℤ}
 use lib.ListN.{drop, get_or, length, length-drop, take}
 use lib.Seq.{drop_at, drop-drop, get_or-drop, get_or-take, length-take-le, take-add, take_all}
-use Rattle.answer.specs.declared.Call.{Call}
-use Rattle.answer.specs.declared.Call.TheVariants.{Done}
-use Rattle.answer.specs.declared.Call.TheVariants.{Refused as RefusedCall}
 use Rattle.answer.specs.declared.Refusal.{Refusal}
 use Rattle.int.specs.Word.{index_of}
 use Rattle.line.specs.World.{Fixed, World}
@@ -155,19 +153,19 @@ module _ (f : Fixed) (sheet : List ℤ) (at : ℕ) (w : World) (k : ℕ) (e : lo
 
 -- ---- a run of lines
 -- a run's refusal, if the line that it stopped at is whole
-abbrev pub refusal : List ℤ → Ran → Call
+abbrev pub refusal : List ℤ → Ran → Result ⊤ Refusal
 refusal sheet r = refusal_by r.answer (whole_at sheet r.place)
 
 -- how a feed goes on after a run of its lines, whose sheet's first word is the feed's at `origin`, and before which so many lines were finished: with the
 -- words from where the run stopped, or not at all
-unfoldable pub on_by : Fixed → List ℤ → ℕ → ℕ → Ran → Call → Feeding
-on_by f sheet origin before r Done = fed_all f (going (origin + r.place) (before + r.lines) [] r.world) (drop r.place sheet)
-on_by f sheet origin before r (RefusedCall why) = record { said = Refused why; base = origin + r.place; lines = before + r.lines; pending = []; world = r.world }
+unfoldable pub on_by : Fixed → List ℤ → ℕ → ℕ → Ran → Result ⊤ Refusal → Feeding
+on_by f sheet origin before r (Ok tt) = fed_all f (going (origin + r.place) (before + r.lines) [] r.world) (drop r.place sheet)
+on_by f sheet origin before r (Err why) = record { said = Refused why; base = origin + r.place; lines = before + r.lines; pending = []; world = r.world }
 
 -- a whole line was refused, or no whole line follows
 pub data How (sheet : List ℤ) (r : Ran) : Type 0 where
-  Stops : (why : Refusal) → refusal sheet r ≡ RefusedCall why → How sheet r
-  Rests : refusal sheet r ≡ Done → whole_at sheet r.place ≡ 0 → How sheet r
+  Stops : (why : Refusal) → refusal sheet r ≡ Err why → How sheet r
+  Rests : refusal sheet r ≡ Ok tt → whole_at sheet r.place ≡ 0 → How sheet r
 
 pub record Goes (f : Fixed) (sheet : List ℤ) (origin before n at : ℕ) (w : World) (r : Ran) : Type 0 where
   pub same : fed_all f (going (origin + at) (before + n) [] w) (drop at sheet) ≡ on_by f sheet origin before r (refusal sheet r)
@@ -176,30 +174,30 @@ pub record Goes (f : Fixed) (sheet : List ℤ) (origin before n at : ℕ) (w : W
   pub how : How sheet r
 
 -- a run that stops where no whole line stands
-pub rests : (f : Fixed) (sheet : List ℤ) (origin before n at : ℕ) (w : World) (a : Answer) → at ≤ length sheet → whole_at sheet at ≡ 0 → refusal_by a 0 ≡ Done
+pub rests : (f : Fixed) (sheet : List ℤ) (origin before n at : ℕ) (w : World) (a : Answer) → at ≤ length sheet → whole_at sheet at ≡ 0 → refusal_by a 0 ≡ Ok tt
     → Goes f sheet origin before n at w (ends a n at w)
 unfolding on_by
 rests f sheet origin before n at w a h z d =
-    let done : refusal_by a (whole_at sheet at) ≡ Done = ap (refusal_by a) z ∙ d in
+    let done : refusal_by a (whole_at sheet at) ≡ (Ok tt) = ap (refusal_by a) z ∙ d in
     record { same = sym (ap (on_by f sheet origin before (ends a n at w)) done); place = h; lines = omega arith; how = Rests done z }
 
-pub finished_rests : refusal_by Finished 0 ≡ Done
+pub finished_rests : refusal_by Finished 0 ≡ Ok tt
 unfolding refusal_by
 finished_rests = refl
 
-used_rests : refusal_by OutOfBudget 0 ≡ Done
+used_rests : refusal_by OutOfBudget 0 ≡ Ok tt
 unfolding refusal_by
 used_rests = refl
 
-pub unread_rests : (why : Refusal) → refusal_by (RefusedRun why) 0 ≡ Done
+pub unread_rests : (why : Refusal) → refusal_by (RefusedRun why) 0 ≡ Ok tt
 unfolding refusal_by
 unread_rests why = refl
 
-pub own_refusal : (why : Refusal) (k : ℕ) → 0 < k → refusal_by (RefusedRun why) k ≡ RefusedCall why
+pub own_refusal : (why : Refusal) (k : ℕ) → 0 < k → refusal_by (RefusedRun why) k ≡ Err why
 unfolding refusal_by
 own_refusal why k h = rw (lt-ltb 0 k h)
 
-pub no_refusal : (why : Refusal) (k : ℕ) → k ≤ 0 → refusal_by (RefusedRun why) k ≡ Done
+pub no_refusal : (why : Refusal) (k : ℕ) → k ≤ 0 → refusal_by (RefusedRun why) k ≡ Ok tt
 unfolding refusal_by
 no_refusal why k h = rw (le-ltb 0 k h)
 
@@ -211,10 +209,10 @@ no_lines f sheet origin before n at w h z false = rests f sheet origin before n 
 -- a line's call, and what follows: `line` are its words, and `rest` the run from behind it
 module _ (f : Fixed) (sheet : List ℤ) (origin before n at k : ℕ) (line : List ℤ) (long : length line ≡ k) (some : 0 < k) (whole : whole_at sheet at ≡ k)
     (inside : at + k ≤ length sheet) (rest : ℕ → World → Ran) (ih : (v : World) → Goes f sheet origin before (suc n) (at + k) v (rest (at + k) v)) where
-  by_call : (w v : World) (call : Call) → fed_all f (going (origin + at) (before + n) [] w) (drop at sheet) ≡ fed_all f (after_call (going (origin + at) (before + n) line w) v call) (drop (at + k) sheet)
+  by_call : (w v : World) (call : Result ⊤ Refusal) → fed_all f (going (origin + at) (before + n) [] w) (drop at sheet) ≡ fed_all f (after_call (going (origin + at) (before + n) line w) v call) (drop (at + k) sheet)
       → Goes f sheet origin before n at w (on_call rest n (place_after at (at + k) call) v call)
   unfolding after_call on_call on_by said_is_open
-  by_call w v Done e =
+  by_call w v (Ok tt) e =
       let next = ih v in
       let base : origin + at + length line ≡ origin + (at + k) = omega (arith, long) in
       let done : suc (before + n) ≡ before + suc n = omega arith in
@@ -225,8 +223,8 @@ module _ (f : Fixed) (sheet : List ℤ) (origin before n at k : ℕ) (line : Lis
         lines = omega (arith, next.lines, some, inside, length-drop at sheet, length-drop (at + k) sheet);
         how = next.how;
       }
-  by_call w v (RefusedCall why) e =
-      let is : refusal sheet (ends (RefusedRun why) n at v) ≡ RefusedCall why = own_refusal why (whole_at sheet at) (omega (arith, whole, some)) in
+  by_call w v (Err why) e =
+      let is : refusal sheet (ends (RefusedRun why) n at v) ≡ Err why = own_refusal why (whole_at sheet at) (omega (arith, whole, some)) in
       record {
         same = e ∙ stays f (record { said = Refused why; base = origin + at; lines = before + n; pending = []; world = v }) (drop (at + k) sheet) refl
             ∙ sym (ap (on_by f sheet origin before (ends (RefusedRun why) n at v)) is);

@@ -1,4 +1,6 @@
 -- A piece behind what waits: first the words that end the unfinished line, then the others. Assumes nothing.
+use Rattle.std.specs.Prelude.{⊤, Result, Ok, Err}
+use Rattle.answer.specs.declared.Refusal.{Refusal}
 use mathlib.Core.Bool.{Bool, false, true, true≢false}
 use mathlib.Core.List.{List, [], ◌++◌}
 use mathlib.Core.Logic.{◌⊎◌, inl, inr}
@@ -10,9 +12,6 @@ use lib.IntN.{ℤ, pos}
 use lib.ListN.{drop, get_or, length, length-append, take, take-append-drop}
 use lib.Seq.{drop-append-add, drop-length, get_or-take, length-take-le, take-length}
 use Rattle.int.specs.Word.{index_of}
-use Rattle.answer.specs.declared.Call.{Call}
-use Rattle.answer.specs.declared.Call.TheVariants.{Done}
-use Rattle.answer.specs.declared.Call.TheVariants.{Refused as RefusedCall}
 use Rattle.line.specs.World.{Fixed, World}
 use Rattle.run_step.specs.Step.{Went, step_of}
 use Rattle.feed_look.specs.Look.{look_by, look_of, most_line}
@@ -55,11 +54,11 @@ module _ (f : Fixed) (base : ℕ) (w : World) (q : List ℤ) (k : ℕ) (fits : k
       ∙ ap (λ (x : List ℤ). fed_all f (after_line (going base 0 (take k l) w) (step_of f (take k l) 0 w)) x) none
       ∙ ap (λ (x : List ℤ). after_line (going base 0 x w) (step_of f x 0 w)) whole-l
 
-  done_by : (l : List ℤ) → length l ≡ k → (v : World) (call : Call) → said_is_open (after_call (going base 0 l w) v call).said ≡ true
+  done_by : (l : List ℤ) → length l ≡ k → (v : World) (call : Result ⊤ Refusal) → said_is_open (after_call (going base 0 l w) v call).said ≡ true
       → let g = after_call (going base 0 l w) v call in g ≡ going (base + k) g.lines [] g.world
   unfolding after_call said_is_open
-  done_by l n v Done o = ap (λ (m : ℕ). going (base + m) 1 [] v) n
-  done_by l n v (RefusedCall why) o = absurd (true≢false (sym o))
+  done_by l n v (Ok tt) o = ap (λ (m : ℕ). going (base + m) 1 [] v) n
+  done_by l n v (Err why) o = absurd (true≢false (sym o))
 
   -- where the feed goes on, it stands behind them, and nothing waits
   pub done : (k ≡ 0) ⊎ (look_of q ≡ Whole k) → said_is_open first.said ≡ true → first ≡ going (base + k) first.lines [] first.world

@@ -1,9 +1,7 @@
 -- A sheet that is fed in pieces: document 02, K11. Words are taken one by one; what isn't yet a line waits, and a line is done once it is whole, as a run
 -- does it (document 01, "A sheet and its lines"). Assumes nothing.
-use Rattle.std.specs.Prelude.{ℕ, suc, ◌+◌, cond, true, ◌&&◌, List, [], ◌++◌, ◌∷◌, eqb, ℤ, drop, length, take}
-use Rattle.answer.specs.declared.Call.{Call}
-use Rattle.answer.specs.declared.Call.TheVariants.{Done}
-use Rattle.answer.specs.declared.Call.TheVariants.{Refused as RefusedCall}
+use Rattle.answer.specs.declared.Refusal.{Refusal}
+use Rattle.std.specs.Prelude.{ℕ, suc, ◌+◌, cond, true, ◌&&◌, List, [], ◌++◌, ◌∷◌, eqb, ℤ, drop, length, take, ⊤, Result, Ok, Err}
 use Rattle.answer.specs.declared.Refusal.TheVariants.{Line}
 use Rattle.contour_ends.specs.Ends.{ends_rise}
 use Rattle.graphics.specs.State.{usable_state}
@@ -38,9 +36,9 @@ abbrev pub stops : Said → Feeding → Feeding
 stops said g = record { said = said; base = g.base; lines = g.lines; pending = []; world = g.world }
 
 -- after a line: the next begins behind it, or the feed ends at it
-unfoldable pub after_call : Feeding → World → Call → Feeding
-after_call g w Done = going (g.base + length g.pending) (suc g.lines) [] w
-after_call g w (RefusedCall why) = record { said = Refused why; base = g.base; lines = g.lines; pending = []; world = w }
+unfoldable pub after_call : Feeding → World → Result ⊤ Refusal → Feeding
+after_call g w (Ok tt) = going (g.base + length g.pending) (suc g.lines) [] w
+after_call g w (Err why) = record { said = Refused why; base = g.base; lines = g.lines; pending = []; world = w }
 
 abbrev pub after_line : Feeding → Went → Feeding
 after_line g r = after_call g r.world r.call
@@ -65,7 +63,7 @@ fed_all f g (x ∷ words) = fed_all f (push_by f g x g.said) words
 
 -- ---- a call
 -- what each call tests, in the order of a run's entry: sizes (2), contour ends (14), state (3)
-abbrev pub entered_feed : Fixed → Fed → List ℤ → List ℤ → World → Call
+abbrev pub entered_feed : Fixed → Fed → List ℤ → List ℤ → World → Result ⊤ Refusal
 entered_feed f c carry words w =
     entry_of (world_fits f words w && carry_has_room c.base c.held (length words) carry) (ends_rise (length w.gx) f.contours) (usable_state w.state) true
 
@@ -73,9 +71,9 @@ entered_feed f c carry words w =
 abbrev pub begun : Fed → List ℤ → World → Feeding
 begun c carry w = going c.base 0 (take c.held carry) w
 
-unfoldable pub fed_on_entry : Fixed → Feeding → List ℤ → Call → Feeding
-fed_on_entry f g words Done = fed_all f g words
-fed_on_entry f g words (RefusedCall why) = stops (Refused why) g
+unfoldable pub fed_on_entry : Fixed → Feeding → List ℤ → Result ⊤ Refusal → Feeding
+fed_on_entry f g words (Ok tt) = fed_all f g words
+fed_on_entry f g words (Err why) = stops (Refused why) g
 
 -- what a call leaves: what it says, what is kept for the next, and what every list holds
 pub record Left : Type 0 where
@@ -105,9 +103,9 @@ feed_of f c carry words w =
     cond (said_is_open c.said) (handed carry (fed_on_entry f (begun c carry w) words (entered_feed f c carry words w))) (unchanged c carry w)
 
 -- the last call, which has no words: an unfinished line is refused
-unfoldable pub ended_on_entry : Feeding → ℕ → Call → Feeding
-ended_on_entry g held Done = stops (cond (eqb held 0) Ended (Refused Line)) g
-ended_on_entry g held (RefusedCall why) = stops (Refused why) g
+unfoldable pub ended_on_entry : Feeding → ℕ → Result ⊤ Refusal → Feeding
+ended_on_entry g held (Ok tt) = stops (cond (eqb held 0) Ended (Refused Line)) g
+ended_on_entry g held (Err why) = stops (Refused why) g
 
 unfoldable pub end_of : Fixed → Fed → List ℤ → World → Left
 end_of f c carry w =

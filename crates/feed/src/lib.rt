@@ -19,64 +19,47 @@ ghost use Rattle.feed_carry.specs.Steps.{kept};
 ghost use Rattle.feed_look.specs.Look.{most_line};
 ghost use Rattle.limits.specs.Limits.{most_words};
 ghost use Rattle.line.specs.World.{Sound, fixed, world};
-ghost use Rattle.opcodes.specs.Table.{needs_table};
 ghost use Rattle.rules.specs.declared.Rules.{Rules};
 ghost use Rattle.feed.specs.Feed.{begun, end_of, fed_all, feed_of, going, handed, left};
 ghost use Rattle.feed_look.specs.Steps.{whole_at};
 ghost use Rattle.feed.specs.Steps.{Runs, ran_by, refusal_by};
 
-use answer::{Call, Refusal};
+use answer::Refusal;
 use contour_ends::ends_rise;
 use feed_carry::{Begins, Fed, Said, first, has_room, rest, stopped};
 use feed_look::{LINE, lines_ahead, look, words_of};
 use graphics::GraphicsState;
 use line::sizes_fit;
-use opcodes::needs_table;
 use replay::enter;
 use rules::Rules;
 use run_lines::{Answer, Outcome, onward};
 
 // How many lines a run may do: those that are whole. Among no more words than the longest line has none is too long to wait for, so that there is
 // nothing to count: the run itself stops at the first line that isn't whole.
-fn lines_to_run(sheet: &[i32], at: usize, needs: &[u8]) -> u64
-    requires needs_value { needs.now ≡ needs_table }
-    requires at_in_bounds { at ≤ length sheet.now }
+fn lines_to_run(sheet: &[i32], at: usize) -> u64
+    requires { at ≤ length sheet.now }
     ensures { Runs sheet.now at result }
 {
     if sheet.len() - at <= LINE {
         return LINE as u64;
     }
-    let ahead = lines_ahead(sheet, at, needs);
+    let ahead = lines_ahead(sheet, at);
     ahead.lines
 }
 
 // A refusal is one of a whole line. Where no whole line stands the words that are there say what they are.
-fn refusal_of(answer: Answer, whole: usize) -> Call
+fn refusal_of(answer: Answer, whole: usize) -> Result<(), Refusal>
     ensures { result ≡ refusal_by answer whole }
 {
     match answer {
-        Answer::Refused(why) => {
-            if 0 < whole {
-                Call::Refused(why)
-            } else {
-                Call::Done
-            }
-        }
-        Answer::Finished => Call::Done,
-        Answer::OutOfBudget => Call::Done,
+        Answer::Refused(why) => { if 0 < whole { Err(why) } else { Ok(()) } }
+        Answer::Finished => Ok(()),
+        Answer::OutOfBudget => Ok(()),
     }
 }
 
 // After a run of the whole lines of a sheet: its refusal, or the words behind them.
-fn after_run(
-    origin: usize,
-    lines: u64,
-    out: Outcome,
-    sheet: &[i32],
-    needs: &[u8],
-    carry: &mut [i32],
-) -> Fed
-    requires needs_value { needs.now ≡ needs_table }
+fn after_run(origin: usize, lines: u64, out: Outcome, sheet: &[i32], carry: &mut [i32]) -> Fed
     requires sheet_bound { origin + length sheet.now ≤ most_words }
     requires place_in_bounds { out.place ≤ length sheet.now }
     requires lines_bound { lines + out.lines ≤ most_words + most_words }
@@ -88,11 +71,11 @@ fn after_run(
     let finished = lines + out.lines;
     let state = out.state;
     let words = &sheet[place..];
-    let seen = look(words, needs);
+    let seen = look(words);
     let call = refusal_of(answer, words_of(seen));
     match call {
-        Call::Refused(why) => stopped(Said::Refused(why), origin + place, finished, state),
-        Call::Done => rest(origin + place, 0, finished, state, words, carry, seen),
+        Err(why) => stopped(Said::Refused(why), origin + place, finished, state),
+        Ok(()) => rest(origin + place, 0, finished, state, words, carry, seen),
     }
 }
 
@@ -105,7 +88,6 @@ fn off(
     s: GraphicsState,
     rules: Rules,
     sheet: &[i32],
-    needs: &[u8],
     carry: &mut [i32],
     controls: &[i32],
     gux: &[i32],
@@ -122,7 +104,6 @@ fn off(
     ty: &mut [i32],
     tflags: &mut [u8],
 ) -> Fed
-    requires needs_value { needs.now ≡ needs_table }
     requires sound { Sound (fixed rules controls.now gux.now guy.now gox.now goy.now contours.now) (world s gx.old gy.old gflags.old tox.old toy.old tx.old ty.old tflags.old) }
     requires at_in_bounds { at ≤ length sheet.now }
     requires sheet_bound { origin + length sheet.now ≤ most_words }
@@ -131,12 +112,12 @@ fn off(
     ensures tflags_after { left result carry.new gx.new gy.new gflags.new tox.new toy.new tx.new ty.new tflags.new ≡ handed carry.old (fed_all (fixed rules controls.now gux.now guy.now gox.now goy.now contours.now) (going (origin + at) lines [] (world s gx.old gy.old gflags.old tox.old toy.old tx.old ty.old tflags.old)) (drop at sheet.now)) }
     ensures lines_bound { result.lines ≤ lines + length sheet.now }
 {
-    let budget = lines_to_run(sheet, at, needs);
+    let budget = lines_to_run(sheet, at);
     let out = onward(
-        at, budget, s, rules, sheet, needs, controls, gux, guy, gox, goy, gx, gy, gflags, contours,
-        tox, toy, tx, ty, tflags,
+        at, budget, s, rules, sheet, controls, gux, guy, gox, goy, gx, gy, gflags, contours, tox,
+        toy, tx, ty, tflags,
     );
-    after_run(origin, lines, out, sheet, needs, carry)
+    after_run(origin, lines, out, sheet, carry)
 }
 
 // The words of a piece, after the tests: first what ends the unfinished line, then the piece itself.
@@ -144,7 +125,6 @@ fn take_in(
     c: Fed,
     rules: Rules,
     words: &[i32],
-    needs: &[u8],
     carry: &mut [i32],
     controls: &[i32],
     gux: &[i32],
@@ -161,13 +141,12 @@ fn take_in(
     ty: &mut [i32],
     tflags: &mut [u8],
 ) -> Fed
-    requires needs_value { needs.now ≡ needs_table }
     requires sound { Sound (fixed rules controls.now gux.now guy.now gox.now goy.now contours.now) (world c.state gx.old gy.old gflags.old tox.old toy.old tx.old ty.old tflags.old) }
     requires carry_value { carry_has_room c.base c.held (length words.now) carry.old ≡ true }
     ensures { left result carry.new gx.new gy.new gflags.new tox.new toy.new tx.new ty.new tflags.new ≡ handed carry.old (fed_all (fixed rules controls.now gux.now guy.now gox.now goy.now contours.now) (begun c carry.old (world c.state gx.old gy.old gflags.old tox.old toy.old tx.old ty.old tflags.old)) words.now) }
 {
     let mut line = [0i32; LINE];
-    let begins = first(c, words, needs, carry, &mut line);
+    let begins = first(c, words, carry, &mut line);
     match begins {
         Begins::Settled(r) => r,
         Begins::Run(k) => {
@@ -178,7 +157,6 @@ fn take_in(
                 c.state,
                 rules,
                 &line[..k],
-                needs,
                 carry,
                 controls,
                 gux,
@@ -206,7 +184,6 @@ fn take_in(
                 d.state,
                 rules,
                 words,
-                needs,
                 carry,
                 controls,
                 gux,
@@ -263,20 +240,19 @@ pub fn feed(
     if !said.is_open() {
         return c;
     }
-    let needs = needs_table();
     let start = place_in(at, piece.len());
     let words = &piece[start..];
     let sized = sizes_fit(
         words, controls, gux, guy, gox, goy, gx, gy, gflags, contours, tox, toy, tx, ty, tflags,
     );
-    let room = has_room(c.base, c.held, words.len(), carry, &needs);
+    let room = has_room(c.base, c.held, words.len(), carry);
     let rising = ends_rise(contours, gx.len());
     let begun = enter(sized & room, rising, c.state.is_usable(), true);
     match begun {
-        Call::Refused(why) => stopped(Said::Refused(why), c.base, 0, c.state),
-        Call::Done => take_in(
-            c, rules, words, &needs, carry, controls, gux, guy, gox, goy, gx, gy, gflags, contours,
-            tox, toy, tx, ty, tflags,
+        Err(why) => stopped(Said::Refused(why), c.base, 0, c.state),
+        Ok(()) => take_in(
+            c, rules, words, carry, controls, gux, guy, gox, goy, gx, gy, gflags, contours, tox,
+            toy, tx, ty, tflags,
         ),
     }
 }
@@ -306,17 +282,16 @@ pub fn end(
     if !said.is_open() {
         return c;
     }
-    let needs = needs_table();
     let none: [i32; 0] = [];
     let sized = sizes_fit(
         &none, controls, gux, guy, gox, goy, gx, gy, gflags, contours, tox, toy, tx, ty, tflags,
     );
-    let room = has_room(c.base, c.held, 0, carry, &needs);
+    let room = has_room(c.base, c.held, 0, carry);
     let rising = ends_rise(contours, gx.len());
     let begun = enter(sized & room, rising, c.state.is_usable(), true);
     match begun {
-        Call::Refused(why) => stopped(Said::Refused(why), c.base, 0, c.state),
-        Call::Done => {
+        Err(why) => stopped(Said::Refused(why), c.base, 0, c.state),
+        Ok(()) => {
             if c.held == 0 {
                 stopped(Said::Ended, c.base, 0, c.state)
             } else {

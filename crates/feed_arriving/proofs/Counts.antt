@@ -1,4 +1,6 @@
 -- A feed finishes no more lines than it takes words: the place of the next line counts them. Assumes nothing.
+use Rattle.std.specs.Prelude.{⊤, Result, Ok, Err}
+use Rattle.answer.specs.declared.Refusal.{Refusal}
 use mathlib.Core.Bool.{Bool, cond, true}
 use mathlib.Core.List.{List, [], ◌++◌, ◌∷◌}
 use mathlib.Core.Path.{◌≡◌, ap, refl, subst, sym}
@@ -6,9 +8,6 @@ use Prim.Native.Nat.{◌+◌, ◌≤◌, ℕ}
 use native.Mathlib.Omega.{arith}
 use lib.IntN.{ℤ}
 use lib.ListN.{length, length-append}
-use Rattle.answer.specs.declared.Call.{Call}
-use Rattle.answer.specs.declared.Call.TheVariants.{Done}
-use Rattle.answer.specs.declared.Call.TheVariants.{Refused as RefusedCall}
 use Rattle.line.specs.World.{Fixed, World}
 use Rattle.run_step.specs.Step.{step_of}
 use Rattle.feed_look.specs.Look.{look_of}
@@ -25,10 +24,10 @@ use Rattle.feed.specs.Feed.{Feeding, Left, after_call, begun, entered_feed, fed_
 abbrev Few : Feeding → Feeding → Type 0
 Few g g' = g'.lines + g.base ≤ g.lines + g'.base
 
-call_few : (g : Feeding) (w : World) (call : Call) → 1 ≤ length g.pending → Few g (after_call g w call)
+call_few : (g : Feeding) (w : World) (call : Result ⊤ Refusal) → 1 ≤ length g.pending → Few g (after_call g w call)
 unfolding after_call
-call_few g w Done h = omega (arith, h)
-call_few g w (RefusedCall why) h = omega arith
+call_few g w (Ok tt) h = omega (arith, h)
+call_few g w (Err why) h = omega arith
 
 seen_few : (f : Fixed) (g : Feeding) (seen : Seen) → 1 ≤ length g.pending → Few g (on_seen f g seen)
 unfolding on_seen
@@ -52,10 +51,10 @@ all_few f g (x ∷ words) =
     let g' = push_by f g x g.said in
     omega (arith, push_few f g x g.said, all_few f g' words)
 
-entry_few : (f : Fixed) (g : Feeding) (words : List ℤ) (call : Call) → Few g (fed_on_entry f g words call)
+entry_few : (f : Fixed) (g : Feeding) (words : List ℤ) (call : Result ⊤ Refusal) → Few g (fed_on_entry f g words call)
 unfolding fed_on_entry
-entry_few f g words Done = all_few f g words
-entry_few f g words (RefusedCall why) = omega arith
+entry_few f g words (Ok tt) = all_few f g words
+entry_few f g words (Err why) = omega arith
 
 -- of a call
 pub lines_few : (f : Fixed) (c : Fed) (carry words : List ℤ) (w : World) → said_is_open c.said ≡ true → (feed_of f c carry words w).lines + c.base ≤ (feed_of f c carry words w).base

@@ -2,7 +2,7 @@
 use mathlib.Core.Bool.{Bool, cond, false, true, true≢false}
 use mathlib.Core.List.{List, [], ◌++◌, ◌∷◌}
 use mathlib.Core.Path.{◌∙◌, ◌≡◌, ap, ap₂, refl, subst, sym}
-use Prim.Native.Nat.{◌+◌, ◌<◌, ◌≤◌, ℕ}
+use Prim.Native.Nat.{◌+◌, ◌≤◌, ℕ}
 use native.Mathlib.Omega.{arith}
 use lib.IntN.{ℤ}
 use lib.ListN.{length, take}
@@ -34,7 +34,7 @@ one_more f a [] block = refl
 one_more f a (b ∷ blocks) block = one_more f (arrive f a b) blocks block
 
 -- ---- the loop's head
-pub record Arriving (f : Fixed) (first : Arrived) (next : Next) (block : List ℕ) (words : List ℤ) (lines turns : ℕ) (l : Left) : Type 0 where
+pub record Arriving (f : Fixed) (first : Arrived) (next : Next) (block : List ℕ) (words : List ℤ) (lines : ℕ) (l : Left) : Type 0 where
   pub blocks : List (List ℕ)
   pub begun : List ℕ
   pub is : pending_by f begun lines l (take next.count words) next.more ≡ arrive_all f first blocks
@@ -43,17 +43,16 @@ pub record Arriving (f : Fixed) (first : Arrived) (next : Next) (block : List �
   pub still_open : next.more ≡ true → said_is_open l.said ≡ true
   pub few : lines ≤ l.base
   pub kept : Kept next
-  pub over : next.more ≡ false → turns ≡ 0
 
 abbrev pub at_first_lem : ℕ → Next
 at_first_lem first = record { begun = 0; count = first; more = true; failed = false }
 
-pub starts : (f g : Fixed) (s : GraphicsState) (first turns : ℕ) (block : List ℕ) (words carry gx gy : List ℤ) (gflags : List ℕ) (tox toy tx ty : List ℤ) (tflags : List ℕ) {c : Fed}
+pub starts : (f g : Fixed) (s : GraphicsState) (first : ℕ) (block : List ℕ) (words carry gx gy : List ℤ) (gflags : List ℕ) (tox toy tx ty : List ℤ) (tflags : List ℕ) {c : Fed}
     → first ≤ 16384 → c ≡ fresh s
-    → Arriving f (at_first f carry (held g (take first words) (world s gx gy gflags tox toy tx ty tflags))) (at_first_lem first) block words 0 turns (left c carry gx gy gflags tox toy tx ty tflags)
+    → Arriving f (at_first f carry (held g (take first words) (world s gx gy gflags tox toy tx ty tflags))) (at_first_lem first) block words 0 (left c carry gx gy gflags tox toy tx ty tflags)
 unfolding pending_by said_is_open
-starts f g s first turns block words carry gx gy gflags tox toy tx ty tflags {c} h e =
-    let goal : Fed → Type 0 = λ (c : Fed). Arriving f (at_first f carry (held g (take first words) (world s gx gy gflags tox toy tx ty tflags))) (at_first_lem first) block words 0 turns (left c carry gx gy gflags tox toy tx ty tflags) in
+starts f g s first block words carry gx gy gflags tox toy tx ty tflags {c} h e =
+    let goal : Fed → Type 0 = λ (c : Fed). Arriving f (at_first f carry (held g (take first words) (world s gx gy gflags tox toy tx ty tflags))) (at_first_lem first) block words 0 (left c carry gx gy gflags tox toy tx ty tflags) in
     let fresh-goal : goal (fresh s) =
     record {
       blocks = [];
@@ -64,59 +63,51 @@ starts f g s first turns block words carry gx gy gflags tox toy tx ty tflags {c}
       still_open = λ t. refl;
       few = omega arith;
       kept = (omega arith, h);
-      over = λ t. absurd (true≢false t);
     } in
     subst goal (sym e) fresh-goal
 
 -- ---- a turn
-module _ {f : Fixed} {first : Arrived} {next : Next} {block : List ℕ} {words : List ℤ} {lines turns : ℕ} {l : Left} (v : Arriving f first next block words lines turns l) where
-  -- a piece is still to be fed
-  pub pending : 0 < turns → next.more ≡ true
-  pending h = by_more next.more refl
-    where
-      by_more : (b : Bool) → next.more ≡ b → next.more ≡ true
-      by_more true e = e
-      by_more false e = absurd (omega (arith, h, v.over e))
-
-  pub fed_few : (l' : Left) → 0 < turns → l' ≡ feed_of f (given l) l.carry (take next.count words) l.world → lines + l'.lines ≤ l'.base
-  fed_few l' h e =
+module _ {f : Fixed} {first : Arrived} {next : Next} {block : List ℕ} {words : List ℤ} {lines : ℕ} {l : Left} (v : Arriving f first next block words lines l)
+    -- a piece is still to be fed
+    (pending : next.more ≡ true) where
+  pub fed_few : (l' : Left) → l' ≡ feed_of f (given l) l.carry (take next.count words) l.world → lines + l'.lines ≤ l'.base
+  fed_few l' e =
       let r = feed_of f (given l) l.carry (take next.count words) l.world in
-      let few : r.lines + l.base ≤ r.base = lines_few f (given l) l.carry (take next.count words) l.world (v.still_open (pending h)) in
+      let few : r.lines + l.base ≤ r.base = lines_few f (given l) l.carry (take next.count words) l.world (v.still_open pending) in
       subst (λ (x : Left). lines + x.lines ≤ x.base) (sym e) (omega (arith, few, v.few))
 
-  fed_is : (l' : Left) → 0 < turns → l' ≡ feed_of f (given l) l.carry (take next.count words) l.world
+  fed_is : (l' : Left) → l' ≡ feed_of f (given l) l.carry (take next.count words) l.world
       → arrived_by v.begun (lines + l'.lines) l' ≡ arrive_all f first v.blocks
   unfolding pending_by
-  fed_is l' h e =
+  fed_is l' e =
       ap (λ (x : Left). arrived_by v.begun (lines + x.lines) x) e
-      ∙ sym (ap (pending_by f v.begun lines l (take next.count words)) (pending h))
+      ∙ sym (ap (pending_by f v.begun lines l (take next.count words)) pending)
       ∙ v.is
 
-  pub turn : (l' : Left) (wanted : Bool) (next' : Next) (block' : List ℕ) (words' : List ℤ) (turns' : ℕ)
-      → 0 < turns → 3 ≤ length block' → l' ≡ feed_of f (given l) l.carry (take next.count words) l.world → wanted ≡ said_is_open l'.said → Kept next'
+  pub turn : (l' : Left) (wanted : Bool) (next' : Next) (block' : List ℕ) (words' : List ℤ)
+      → 3 ≤ length block' → l' ≡ feed_of f (given l) l.carry (take next.count words) l.world → wanted ≡ said_is_open l'.said → Kept next'
       → (next'.more ≡ true → Came (take next.begun block) (take next'.count words') (take next'.begun block')) → (next'.more ≡ false → next'.begun ≡ next.begun)
-      → (next'.more ≡ true → wanted ≡ true) → (next'.more ≡ false → turns' ≡ 0)
-      → Arriving f first next' block' words' (lines + l'.lines) turns' l'
+      → (next'.more ≡ true → wanted ≡ true)
+      → Arriving f first next' block' words' (lines + l'.lines) l'
   unfolding pending_by
-  turn l' wanted next' block' words' turns' h long e o k p q w z = by_more next'.more refl
+  turn l' wanted next' block' words' long e o k p q w = by_more next'.more refl
     where
-      by_more : (b : Bool) → next'.more ≡ b → Arriving f first next' block' words' (lines + l'.lines) turns' l'
+      by_more : (b : Bool) → next'.more ≡ b → Arriving f first next' block' words' (lines + l'.lines) l'
       by_more false m =
           record {
             blocks = v.blocks;
             begun = v.begun;
-            is = ap (pending_by f v.begun (lines + l'.lines) l' (take next'.count words')) m ∙ fed_is l' h e;
+            is = ap (pending_by f v.begun (lines + l'.lines) l' (take next'.count words')) m ∙ fed_is l' e;
             begun_long = q m ∙ v.begun_long;
             begun_are = λ t. absurd (true≢false (sym t ∙ m));
             still_open = λ t. absurd (true≢false (sym t ∙ m));
-            few = fed_few l' h e;
+            few = fed_few l' e;
             kept = k;
-            over = z;
           }
       by_more true m =
           let came = p m in
           let begun' = take next'.begun block' in
-          let all : take next.begun block ++ came.block ≡ v.begun ++ came.block = ap (λ (x : List ℕ). x ++ came.block) (sym (v.begun_are (pending h))) in
+          let all : take next.begun block ++ came.block ≡ v.begun ++ came.block = ap (λ (x : List ℕ). x ++ came.block) (sym (v.begun_are pending)) in
           let open' : said_is_open l'.said ≡ true = sym o ∙ w m in
           record {
             blocks = v.blocks ++ (came.block ∷ []);
@@ -125,24 +116,33 @@ module _ {f : Fixed} {first : Arrived} {next : Next} {block : List ℕ} {words :
                 ap (pending_by f begun' (lines + l'.lines) l' (take next'.count words')) m
                 ∙ ap₂ (λ (x : List ℕ) (y : List ℤ). fed_with f x (lines + l'.lines) l' y) (came.begun_are ∙ ap begun_in all) (came.words_are ∙ ap words_in all)
                 ∙ sym (arrive_open f (arrived_by v.begun (lines + l'.lines) l') came.block open')
-                ∙ ap (λ (x : Arrived). arrive f x came.block) (fed_is l' h e)
+                ∙ ap (λ (x : Arrived). arrive f x came.block) (fed_is l' e)
                 ∙ sym (one_more f first v.blocks came.block);
             begun_long = sym (length-take-le next'.begun block' (omega (arith, k.0, long)));
             begun_are = λ t. refl;
             still_open = λ t. open';
-            few = fed_few l' h e;
+            few = fed_few l' e;
             kept = k;
-            over = z;
           }
 
 -- ---- the end
-pub arrived : {rules : Rules} {most : ℕ} {m : Layout} {g : Fixed} {sheet carry : List ℤ} {next : Next} {block : List ℕ} {words : List ℤ} {lines turns : ℕ} {l : Left}
+-- where the loop was left, its variables are those of its last turn
+pub left_at : {f : Fixed} {first : Arrived} {next next' : Next} {block block' : List ℕ} {words words' : List ℤ} {lines lines' : ℕ} {l l' : Left}
+    → next ≡ next' → block ≡ block' → words ≡ words' → lines ≡ lines' → l ≡ l' → Arriving f first next' block' words' lines' l' → Arriving f first next block words lines l
+left_at {f} {first} {next} {next'} {block} {block'} {words} {words'} {lines} {lines'} {l} {l'} p q r s t v =
+    subst (λ (n : Next). Arriving f first n block words lines l) (sym p)
+    (subst (λ (b : List ℕ). Arriving f first next' b words lines l) (sym q)
+    (subst (λ (w : List ℤ). Arriving f first next' block' w lines l) (sym r)
+    (subst (λ (n : ℕ). Arriving f first next' block' words' n l) (sym s)
+    (subst (λ (x : Left). Arriving f first next' block' words' lines' x) (sym t) v))))
+
+pub arrived : {rules : Rules} {most : ℕ} {m : Layout} {g : Fixed} {sheet carry : List ℤ} {next : Next} {block : List ℕ} {words : List ℤ} {lines : ℕ} {l : Left}
     (s : GraphicsState) (gx gy : List ℤ) (gflags : List ℕ) (tox toy tx ty : List ℤ) (tflags out : List ℕ) {x : Shelved}
-    (v : Arriving (under rules g) (at_first (under rules g) carry (held g sheet (world s gx gy gflags tox toy tx ty tflags))) next block words lines turns l)
+    (v : Arriving (under rules g) (at_first (under rules g) carry (held g sheet (world s gx gy gflags tox toy tx ty tflags))) next block words lines l)
     → next.more ≡ false → x ≡ end_arrived rules most m g out (arrived_by v.begun lines l)
     → FedShelf rules most m (held g sheet (world s gx gy gflags tox toy tx ty tflags)) carry out x
 unfolding fed_shelf pending_by
-arrived {rules} {most} {m} {g} {sheet} {carry} {next} {block} {words} {lines} {turns} {l} s gx gy gflags tox toy tx ty tflags out {x} v e p =
+arrived {rules} {most} {m} {g} {sheet} {carry} {next} {block} {words} {lines} {l} s gx gy gflags tox toy tx ty tflags out {x} v e p =
     record {
       blocks = v.blocks;
       is =

@@ -6,7 +6,7 @@
 // This serves the crate feed_record and is no call for users.
 #![tactic(auto)]
 
-ghost use Rattle.std.specs.Prelude.{false, ◌&&◌, ◌≡◌, ℕ, ◌<◌, ◌≤◌, List, ltb, length, take};
+ghost use Rattle.std.specs.Prelude.{false, ◌&&◌, ◌≡◌, ℕ, ◌≤◌, List, ltb, length, take};
 ghost use Rattle.rules.specs.declared.Rules.{Rules};
 ghost use Rattle.rules.specs.declared.Rules.TheVariants.{FreeType};
 ghost use Rattle.line.specs.World.{fixed, under, world};
@@ -17,6 +17,7 @@ ghost use Rattle.record_run.specs.After.{shelved};
 ghost use Rattle.feed_arriving.specs.Arriving.{FedShelf, end_arrived, ended_as};
 ghost use Rattle.feed_arriving.specs.Steps.{arrived_by, said_by};
 
+use answer::Says;
 use feed::{end, feed};
 use feed_blocks::{Next, next_words};
 use feed_carry::{Fed, Said, begin};
@@ -128,15 +129,6 @@ fn finish(
     )
 }
 
-// How many turns are left after one: none where no more input comes.
-fn turns_left(turns: u64, more: bool) -> u64
-    requires { 0 < turns }
-    ensures upper_bound { result < turns }
-    ensures value { more ≡ false → result ≡ 0 }
-{
-    if more { turns - 1 } else { 0 }
-}
-
 // Whether the input was left before its end.
 fn is_unread(next: Next) -> bool
     ensures { result ≡ false → next.more ≡ false }
@@ -182,14 +174,13 @@ pub fn feed_arriving(
 {
     let mut c = begin(s);
     let mut lines = 0u64;
-    let mut turns = u64::MAX;
     let mut next = Next {
         begun: 0,
         count: first,
         more: true,
         failed: false,
     };
-    while 0 < turns {
+    for _ in 0..u64::MAX {
         c = feed(
             0,
             c,
@@ -214,7 +205,9 @@ pub fn feed_arriving(
         lines += c.lines;
         let said = c.said;
         next = next_words(stdin, said.is_open(), next.begun, block, words);
-        turns = turns_left(turns, next.more);
+        if !next.more {
+            break;
+        }
     }
     let said = finish(
         most, l, lines, next.begun, c, carry, controls, gux, guy, gox, goy, gx, gy, gflags,

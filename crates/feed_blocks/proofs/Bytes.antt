@@ -1,58 +1,15 @@
--- Bytes brought forward in a block, and a block behind bytes that were there. Assumes nothing.
-use mathlib.Core.List.{List, [], ◌++◌, ◌∷◌}
-use mathlib.Core.Path.{◌∙◌, ◌≡◌, ap, ap₂, refl, sym}
-use Prim.Native.Nat.{◌*◌, ◌+◌, ◌-◌, ◌/◌, ◌%◌, ◌<◌, ◌≤◌, suc, ℕ}
+-- The words of a block's first bytes, and a block behind bytes that were there. Assumes nothing.
+use mathlib.Core.List.{List, ◌++◌}
+use mathlib.Core.Path.{◌∙◌, ◌≡◌, ap, sym}
+use Prim.Native.Nat.{◌*◌, ◌+◌, ◌-◌, ◌/◌, ◌%◌, ◌≤◌, ℕ}
 use native.Mathlib.Omega.{arith}
 use lib.IntN.{ℤ}
-use lib.ListN.{drop, get_or, length, length-drop, length-set, set, take, take-append-drop}
-use lib.Seq.{drop_at, drop-drop, drop-set-lt, get_or-drop, length-take-le, take-add, take_at, take-suc, take-suc-set}
+use lib.ListN.{drop, length, take, take-append-drop}
+use lib.Seq.{drop_at, length-take-le, take-add, take_at}
 use Rattle.int.specs.Word.{of_bits}
 use Rattle.words.specs.Lists.{numbers_of, part}
 use Rattle.words.proofs.Parts.{mapped_length}
 use Rattle.feed_blocks.specs.Blocks.{Came, begun_in, words_in}
-
--- ---- a loop that brings bytes forward: the first i are there, and those behind them are as they were
-pub record Forward (before : List ℕ) (from count : ℕ) (after : List ℕ) (i : ℕ) : Type 0 where
-  pub within : i ≤ count
-  pub size : length after ≡ length before
-  pub done : take i after ≡ take i (drop from before)
-  pub rest : drop i after ≡ drop i before
-
-pub forward_start : (before : List ℕ) (from count : ℕ) → Forward before from count before 0
-forward_start before from count = record { within = omega arith; size = refl; done = refl; rest = refl }
-
-pub forward_turn : {before after : List ℕ} {from count i : ℕ} → from + count ≤ length before → Forward before from count after i → i < count
-    → Forward before from count (set after i (get_or after (from + i) 0)) (i + 1)
-forward_turn {before} {after} {from} {count} {i} room v h =
-    let x = get_or after (from + i) 0 in
-    let n : suc i ≡ i + 1 = omega arith in
-    let here : get_or after (i + from) 0 ≡ get_or before (i + from) 0 =
-    sym (get_or-drop i after from 0) ∙ ap (λ (l : List ℕ). get_or l from 0) v.rest ∙ get_or-drop i before from 0 in
-    let there : x ≡ get_or (drop from before) i 0 =
-    ap (λ (k : ℕ). get_or after k 0) (omega arith) ∙ here ∙ ap (λ (k : ℕ). get_or before k 0) (omega arith) ∙ sym (get_or-drop from before i 0) in
-    record {
-      within = omega (arith, h);
-      size = length-set after i x ∙ v.size;
-      done =
-          ap (λ (k : ℕ). take k (set after i x)) (sym n)
-          ∙ take-suc-set after i x (omega (arith, h, v.size, room))
-          ∙ ap₂ (λ (l : List ℕ) (y : ℕ). l ++ (y ∷ [])) v.done there
-          ∙ sym (take-suc (drop from before) i 0 (long room h))
-          ∙ ap (λ (k : ℕ). take k (drop from before)) n;
-      rest =
-          drop-set-lt (i + 1) after i x (omega arith)
-          ∙ sym (drop-drop 1 i after)
-          ∙ ap (drop 1) v.rest
-          ∙ drop-drop 1 i before;
-    }
-  where
-    long : from + count ≤ length before → i < count → i < length (drop from before)
-    long room h = omega (arith, room, h, length-drop from before)
-
-pub forward_end : {before after : List ℕ} {from count i : ℕ} → Forward before from count after i → count ≤ i → take count after ≡ take count (drop from before)
-forward_end {before} {after} {from} {count} {i} v h =
-    let e : count ≡ i = omega (arith, v.within, h) in
-    ap (λ (k : ℕ). take k after) e ∙ v.done ∙ ap (λ (k : ℕ). take k (drop from before)) (sym e)
 
 -- ---- the words of a block's first bytes
 drop_front : {A : Type 0} (k n : ℕ) (l : List A) → k ≤ n → n ≤ length l → drop k (take n l) ≡ take (n - k) (drop k l)

@@ -10,7 +10,7 @@ ghost use Rattle.feed_blocks.specs.Blocks.{Came, begun_in, words_in};
 ghost use Rattle.feed_blocks.specs.Steps.{Kept};
 
 use std::io::{Read, Stdin};
-use words::load_numbers;
+use words::load;
 
 // So many bytes are read at once at most, and so many words they are.
 pub const BLOCK_ROOM: usize = 65536;
@@ -53,16 +53,11 @@ fn read_behind(mut stdin: Stdin, block: &mut [u8], begun: usize) -> Filled
 }
 
 // Bytes of a block from a place on to its front.
-#[tactic(auto, using(crate::proofs::Bytes::forward_end, crate::proofs::Bytes::forward_start))]
 fn bring_forward(block: &mut [u8], from: usize, count: usize)
     requires { from + count ≤ length block.old }
     ensures { take count block.new ≡ take count (drop from block.old) }
 {
-    let mut i = 0;
-    while i < count {
-        block[i] = block[from + i];
-        i += 1;
-    }
+    block.copy_within(from..from + count, 0);
 }
 
 // The words of a block's first bytes to the front of `words`, and the bytes behind them to its own front; how many words there are.
@@ -75,7 +70,7 @@ fn take_words(block: &mut [u8], size: usize, words: &mut [i32]) -> usize
     ensures block_after { take (size % 4) block.new ≡ begun_in (take size block.old) }
 {
     let count = size / 4;
-    load_numbers(&block[..size], 0, &mut words[..count]);
+    load(&block[..size], 0, &mut words[..count]);
     bring_forward(block, count * 4, size % 4);
     count
 }

@@ -1,5 +1,6 @@
 -- What a call leaves that feeds a piece or ends a feed, by what its parts ensure: a feed that has ended, a call that is refused, and one that is taken. Assumes
 -- nothing.
+use Rattle.std.specs.Prelude.{Option, Some, None}
 use mathlib.Core.Path.{◌≡◌, ◌∙◌, ap, sym}
 use mathlib.Core.Bool.{false, true}
 use mathlib.Core.List.{List, [], ◌∷◌}
@@ -11,8 +12,6 @@ use lib.ListN.{length}
 use Rattle.graphics.proofs.Laws.{and_left}
 use Rattle.graphics.specs.declared.GraphicsState.{GraphicsState}
 use Rattle.line.specs.World.{Fixed, World, world}
-use Rattle.rules.specs.declared.Named.{Named}
-use Rattle.rules.specs.declared.Named.TheVariants.{Known, Unknown}
 use Rattle.rules.specs.declared.Rules.{Rules}
 use Rattle.state_words.specs.Words.{is_state, state_of, state_size, state_words, written}
 use Rattle.state_words.proofs.Back.{size_is}
@@ -36,12 +35,12 @@ feed_left feed n p k d h e = rw (and_left (eqb (length feed) feed_size) (eqb (ke
 -- ---- a piece
 module _
     (f : Rules → Fixed) (piece : List ℤ) (words feed : List ℕ) (carry : List ℤ)
-    (gx gy : List ℤ) (gflags : List ℕ) (tox toy tx ty : List ℤ) (tflags : List ℕ) (named : Named) (n : ℕ)
+    (gx gy : List ℤ) (gflags : List ℕ) (tox toy tx ty : List ℤ) (tflags : List ℕ) (named : Option Rules) (n : ℕ)
   where
-    abbrev called : Named → Carried
+    abbrev called : Option Rules → Carried
     called = feed_call_of f piece words feed carry gx gy gflags tox toy tx ty tflags
 
-    abbrev openly : Named → Carried
+    abbrev openly : Option Rules → Carried
     openly = open_call_of f piece words feed carry gx gy gflags tox toy tx ty tflags
 
     pub closed : is_open_feed feed ≡ false → n ≡ said_before feed → carried carry (left n words feed gx gy gflags tox toy tx ty tflags) ≡ called named
@@ -59,19 +58,19 @@ module _
           ap (λ (m : ℕ). carried carry (left m words feed' gx gy gflags tox toy tx ty tflags)) number
           ∙ ap (λ (l : List ℕ). carried carry (left bad_word words l gx gy gflags tox toy tx ty tflags)) says
 
-      pub unnamed : named ≡ Unknown → n ≡ bad_word → feed' ≡ refused_feed feed → carried carry (left n words feed' gx gy gflags tox toy tx ty tflags) ≡ called named
+      pub unnamed : named ≡ None → n ≡ bad_word → feed' ≡ refused_feed feed → carried carry (left n words feed' gx gy gflags tox toy tx ty tflags) ≡ called named
       unfolding open_call_of
       unnamed ruled number says = refusal number says ∙ sym (ap openly ruled) ∙ opened
 
-      not_stated : (rules : Rules) → named ≡ Known rules → is_state words ≡ false → carried carry (refused_call words (refused_feed feed) gx gy gflags tox toy tx ty tflags) ≡ openly named
+      not_stated : (rules : Rules) → named ≡ Some rules → is_state words ≡ false → carried carry (refused_call words (refused_feed feed) gx gy gflags tox toy tx ty tflags) ≡ openly named
       unfolding open_call_of
       not_stated rules ruled state = rw (ruled, state)
 
-      pub unstated : (rules : Rules) → named ≡ Known rules → is_state words ≡ false → n ≡ bad_word → feed' ≡ refused_feed feed
+      pub unstated : (rules : Rules) → named ≡ Some rules → is_state words ≡ false → n ≡ bad_word → feed' ≡ refused_feed feed
           → carried carry (left n words feed' gx gy gflags tox toy tx ty tflags) ≡ called named
       unstated rules ruled state number says = refusal number says ∙ not_stated rules ruled state ∙ opened
 
-      as_fed : (rules : Rules) → named ≡ Known rules → is_state words ≡ true
+      as_fed : (rules : Rules) → named ≡ Some rules → is_state words ≡ true
           → handed_on (feed_of (f rules) (fed_of (state_of words) feed) carry piece (world (state_of words) gx gy gflags tox toy tx ty tflags)) ≡ openly named
       unfolding open_call_of
       as_fed rules ruled state = rw (ruled, state)
@@ -79,7 +78,7 @@ module _
       pub taken :
           (rules : Rules) (s : GraphicsState) (c fed : Fed) (words' : List ℕ) (carry' : List ℤ)
           (gx' gy' : List ℤ) (gflags' : List ℕ) (tox' toy' tx' ty' : List ℤ) (tflags' : List ℕ)
-          → named ≡ Known rules
+          → named ≡ Some rules
           → is_state words ≡ true
           → s ≡ state_of words
           → c ≡ fed_of s feed

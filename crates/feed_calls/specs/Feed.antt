@@ -1,10 +1,8 @@
 -- What a call returns and leaves that feeds a piece, or ends a feed: document 02, K11, on what the words stand for that are kept between the calls.
 -- Assumes nothing.
-use Rattle.std.specs.Prelude.{ℕ, Bool, cond, ◌&&◌, List, [], ◌∷◌, eqb, leb, ℤ, get_or, length}
+use Rattle.std.specs.Prelude.{ℕ, Bool, cond, ◌&&◌, List, [], ◌∷◌, eqb, leb, ℤ, get_or, length, Option, Some, None}
 use Rattle.graphics.specs.declared.GraphicsState.{GraphicsState}
 use Rattle.line.specs.World.{Fixed, World, world}
-use Rattle.rules.specs.declared.Named.{Named}
-use Rattle.rules.specs.declared.Named.TheVariants.{Known, Unknown}
 use Rattle.rules.specs.declared.Rules.{Rules}
 use Rattle.state_words.specs.Words.{is_state, state_of, state_words}
 use Rattle.feed_carry.specs.Carry.{detail_of_said, number_of_said}
@@ -57,15 +55,15 @@ handed_on d =
     carried d.carry (left (number_of_said d.said) (state_words w.state) (numbers_of d) w.gx w.gy w.gflags w.tox w.toy w.tx w.ty w.tflags)
 
 -- a feed that can go on: a number that names no rules, or words that are no state, are refused
-unfoldable pub open_call_of : (Rules → Fixed) → List ℤ → List ℕ → List ℕ → List ℤ → List ℤ → List ℤ → List ℕ → List ℤ → List ℤ → List ℤ → List ℤ → List ℕ → Named → Carried
-open_call_of f piece words feed carry gx gy gflags tox toy tx ty tflags Unknown = carried carry (refused_call words (refused_feed feed) gx gy gflags tox toy tx ty tflags)
-open_call_of f piece words feed carry gx gy gflags tox toy tx ty tflags (Known rules) =
+unfoldable pub open_call_of : (Rules → Fixed) → List ℤ → List ℕ → List ℕ → List ℤ → List ℤ → List ℤ → List ℕ → List ℤ → List ℤ → List ℤ → List ℤ → List ℕ → Option Rules → Carried
+open_call_of f piece words feed carry gx gy gflags tox toy tx ty tflags None = carried carry (refused_call words (refused_feed feed) gx gy gflags tox toy tx ty tflags)
+open_call_of f piece words feed carry gx gy gflags tox toy tx ty tflags (Some rules) =
     cond (is_state words)
     (handed_on (feed_of (f rules) (fed_of (state_of words) feed) carry piece (world (state_of words) gx gy gflags tox toy tx ty tflags)))
     (carried carry (refused_call words (refused_feed feed) gx gy gflags tox toy tx ty tflags))
 
 -- on any other nothing changes
-unfoldable pub feed_call_of : (Rules → Fixed) → List ℤ → List ℕ → List ℕ → List ℤ → List ℤ → List ℤ → List ℕ → List ℤ → List ℤ → List ℤ → List ℤ → List ℕ → Named → Carried
+unfoldable pub feed_call_of : (Rules → Fixed) → List ℤ → List ℕ → List ℕ → List ℤ → List ℤ → List ℤ → List ℕ → List ℤ → List ℤ → List ℤ → List ℤ → List ℕ → Option Rules → Carried
 feed_call_of f piece words feed carry gx gy gflags tox toy tx ty tflags named =
     cond (is_open_feed feed)
     (open_call_of f piece words feed carry gx gy gflags tox toy tx ty tflags named)

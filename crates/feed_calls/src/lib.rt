@@ -14,9 +14,10 @@ ghost use Rattle.rules.specs.declared.Rules.{Rules};
 ghost use Rattle.feed_calls.specs.Left.{bad_word, left};
 ghost use Rattle.feed_calls.specs.Feed.{carried, fed_of, fed_words, feed_call_of, feed_end_call_of, is_open_feed, kept, refused_feed, said_before, told};
 
+use answer::Says;
 use feed_carry::{Fed, Said};
 use graphics::GraphicsState;
-use rules::{Named, by_number};
+use rules::by_number;
 use state_words::{is_state, read_state, write_state};
 
 // A word out of its range.
@@ -140,8 +141,8 @@ pub fn feed_call(
     }
     let named = by_number(rules);
     match named {
-        Named::Unknown => refuse_feed(numbers),
-        Named::Known(by) => {
+        None => refuse_feed(numbers),
+        Some(by) => {
             if !is_state(state) {
                 return refuse_feed(numbers);
             }

@@ -7,12 +7,11 @@
 ghost use Rattle.std.specs.Prelude.{true, ◌++◌, ◌≡◌, ◌+◌, ◌≤◌, length, take};
 ghost use Rattle.feed_look.specs.Look.{look_of, most_line};
 ghost use Rattle.feed_look.specs.declared.Seen.TheVariants.{Waits};
-ghost use Rattle.opcodes.specs.Table.{needs_table};
 ghost use Rattle.feed_carry.specs.Carry.{detail_of_said, fresh, carry_has_room, said_is_open, number_of_said, waits};
 ghost use Rattle.feed_carry.specs.Steps.{FirstIs, fed, kept, rest_by};
 ghost use Rattle.feed_carry.specs.declared.Said.TheVariants.{Open};
 
-use answer::Refusal;
+use answer::{Refusal, Says};
 use feed_look::{LINE, Seen, append, look, words_of};
 use graphics::GraphicsState;
 use limits::WORDS;
@@ -29,10 +28,12 @@ pub enum Said {
     Refused(Refusal),
 }
 
-impl Said {
-    pub fn number(self) -> u32
-        ensures { result ≡ number_of_said self }
-    {
+impl Says for Said {
+    ghost number_said = { number_of_said };
+
+    ghost detail_said = { detail_of_said };
+
+    fn number(self) -> u32 {
         match self {
             Said::Open => 1,
             Said::Ended => 0,
@@ -41,26 +42,20 @@ impl Said {
         }
     }
 
-    pub fn detail(self) -> u64
-        ensures { result ≡ detail_of_said self }
-    {
+    fn detail(self) -> u64 {
         match self {
-            Said::Open => 0,
-            Said::Ended => 0,
-            Said::Long => 0,
             Said::Refused(why) => why.detail(),
+            _ => 0,
         }
     }
+}
 
+impl Said {
+    #[tactic(auto, unfolding(crate::specs::Carry::said_is_open))]
     pub fn is_open(self) -> bool
         ensures { result ≡ said_is_open self }
     {
-        match self {
-            Said::Open => true,
-            Said::Ended => false,
-            Said::Long => false,
-            Said::Refused(_) => false,
-        }
+        matches!(self, Said::Open)
     }
 }
 
@@ -125,8 +120,7 @@ fn is_waiting(seen: Seen) -> bool
 }
 
 // What a call asks of the carry and of the number of its words.
-pub fn has_room(base: usize, held: usize, words: usize, carry: &[i32], needs: &[u8]) -> bool
-    requires { needs.now ≡ needs_table }
+pub fn has_room(base: usize, held: usize, words: usize, carry: &[i32]) -> bool
     ensures { result ≡ carry_has_room base held words carry.now }
 {
     if carry.len() < LINE {
@@ -135,7 +129,7 @@ pub fn has_room(base: usize, held: usize, words: usize, carry: &[i32], needs: &[
     if carry.len() < held {
         return false;
     }
-    if !is_waiting(look(&carry[..held], needs)) {
+    if !is_waiting(look(&carry[..held])) {
         return false;
     }
     if WORDS < base {
@@ -191,8 +185,7 @@ fn join(held: usize, words: &[i32], carry: &[i32], line: &mut [i32]) -> usize
     }
 }
 
-pub fn first(c: Fed, words: &[i32], needs: &[u8], carry: &mut [i32], line: &mut [i32]) -> Begins
-    requires needs_value { needs.now ≡ needs_table }
+pub fn first(c: Fed, words: &[i32], carry: &mut [i32], line: &mut [i32]) -> Begins
     requires held_in_bounds { c.held ≤ length carry.old }
     requires carry_value { waits (look_of (take c.held carry.old)) ≡ true }
     requires most_line_in_bounds { most_line ≤ length carry.old }
@@ -203,7 +196,7 @@ pub fn first(c: Fed, words: &[i32], needs: &[u8], carry: &mut [i32], line: &mut 
         return Begins::Run(0);
     }
     let joined = join(c.held, words, carry, line);
-    let seen = look(&line[..joined], needs);
+    let seen = look(&line[..joined]);
     let whole = words_of(seen);
     if 0 < whole {
         return Begins::Run(whole);

@@ -29,9 +29,12 @@ is_whole Bad h = absurd (not-suc-le-zero h)
 is_whole Long h = absurd (not-suc-le-zero h)
 is_whole (Whole n) h = refl
 
-pub whole_inside : (sheet : List ℤ) (at : ℕ) → at ≤ length sheet → 0 < whole_at sheet at → at + whole_at sheet at ≤ length sheet
-whole_inside sheet at h some =
-    let i = whole_is (length (drop at sheet)) _ _ (is_whole (look_of (drop at sheet)) some) in omega (arith, h, i.there, length-drop at sheet)
+no_words : (s : Seen) → ((words : ℕ) → s ≡ Whole words → ⊥) → whole_by s ≡ 0
+unfolding whole_by
+no_words Waits none = refl
+no_words Bad none = refl
+no_words Long none = refl
+no_words (Whole n) none = absurd (none n refl)
 
 -- ---- one line more
 further : (sheet : List ℤ) (n at mid : ℕ) → Lines sheet n at mid → 0 < whole_at sheet mid → Lines sheet (suc n) at (mid + whole_at sheet mid)
@@ -39,32 +42,36 @@ unfolding Lines
 further sheet zero at mid e h = subst (λ (m : ℕ). (0 < whole_at sheet m) × (m + whole_at sheet m ≡ mid + whole_at sheet mid)) (sym e) (h, refl)
 further sheet (suc n) at mid l h = (l.0, further sheet n (at + whole_at sheet at) mid l.1 h)
 
-pub record Counting (sheet : List ℤ) (at n end words : ℕ) : Type 0 where
+pub record Counting (sheet : List ℤ) (at n end : ℕ) : Type 0 where
   pub lines : Lines sheet n at end
   pub inside : end ≤ length sheet
   pub few : n ≤ end
-  pub next : words ≡ whole_at sheet end
 
-pub count_start : (sheet : List ℤ) (at : ℕ) {words : ℕ} → at ≤ length sheet → words ≡ whole_at sheet at → Counting sheet at 0 at words
+pub count_start : (sheet : List ℤ) (at : ℕ) → at ≤ length sheet → Counting sheet at 0 at
 unfolding Lines
-count_start sheet at h e = record { lines = refl; inside = h; few = omega arith; next = e }
+count_start sheet at h = record { lines = refl; inside = h; few = omega arith }
 
-module _ {sheet : List ℤ} {at n end words : ℕ} (v : Counting sheet at n end words) where
-  pub turn_inside : 0 < words → end + words ≤ length sheet
-  turn_inside h =
-      let some : 0 < whole_at sheet end = omega (arith, h, v.next) in
-      let i = whole_inside sheet end v.inside some in
-      omega (arith, i, v.next)
+module _ {sheet : List ℤ} {at n end : ℕ} (v : Counting sheet at n end) where
+  -- what is seen at the place that was come to
+  abbrev here : Seen
+  here = look_of (take (length sheet - end) (drop end sheet))
 
-  pub count_turn : 0 < words → {next : ℕ} → next ≡ whole_at sheet (end + words) → Counting sheet at (n + 1) (end + words) next
-  count_turn h {next} e =
-      let some : 0 < whole_at sheet end = omega (arith, h, v.next) in
+  -- a whole line has words, and they are there
+  pub turn_inside : {words : ℕ} → Whole words ≡ here → (0 < words) × (end + words ≤ length sheet)
+  turn_inside {words} e =
+      let i = whole_is (length (drop end sheet)) _ _ (sym (e ∙ ap look_of (all_of sheet end))) in
+      (omega (arith, i.is), omega (arith, v.inside, i.there, length-drop end sheet))
+
+  pub count_turn : {words : ℕ} → Whole words ≡ here → Counting sheet at (n + 1) (end + words)
+  unfolding whole_by
+  count_turn {words} e =
+      let next : words ≡ whole_at sheet end = seen_at sheet end e refl in
+      let some : 0 < whole_at sheet end = omega (arith, (turn_inside e).0, next) in
       record {
-        lines = subst (λ (k : ℕ). Lines sheet (n + 1) at (end + k)) (sym v.next) (subst (λ (m : ℕ). Lines sheet m at (end + whole_at sheet end)) (sym (add-one n)) (further sheet n at end v.lines some));
-        inside = turn_inside h;
-        few = omega (arith, v.few, h);
-        next = e;
+        lines = subst (λ (k : ℕ). Lines sheet (n + 1) at (end + k)) (sym next) (subst (λ (m : ℕ). Lines sheet m at (end + whole_at sheet end)) (sym (add-one n)) (further sheet n at end v.lines some));
+        inside = (turn_inside e).1;
+        few = omega (arith, v.few, (turn_inside e).0);
       }
 
-  pub count_end : words ≤ 0 → Counted sheet at n end
-  count_end h = record { lines = v.lines; inside = v.inside; few = omega (arith, v.few, v.inside); last = omega (arith, h, v.next) }
+  pub count_end : {seen : Seen} → seen ≡ here → ((words : ℕ) → seen ≡ Whole words → ⊥) → Counted sheet at n end
+  count_end {seen} e none = record { lines = v.lines; inside = v.inside; few = omega (arith, v.few, v.inside); last = sym (seen_at sheet end e refl) ∙ no_words seen none }

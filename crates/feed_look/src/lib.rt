@@ -4,20 +4,18 @@
 // Nothing here reads the glyph or the state.
 #![tactic(auto)]
 
-ghost use Rattle.std.specs.Prelude.{◌≡◌, ◌+◌, ◌≤◌, length, drop};
-ghost use Rattle.opcodes.specs.Table.{needs_table};
+ghost use Rattle.std.specs.Prelude.{◌≡◌, ◌+◌, ◌≤◌, length};
 ghost use Rattle.feed_look.specs.Look.{long_by, look_of};
-ghost use Rattle.feed_look.specs.Steps.{Counted, Put, whole_at, whole_by};
+ghost use Rattle.feed_look.specs.Steps.{Counted, Put, whole_by};
 
 use int::as_index;
+use opcodes::{UNKNOWN, need_of};
 
 // Operands of a line that may wait for its rest.
 pub const OPERANDS: u64 = 4096;
 
 // Words of such a line, with its opcode and its count.
 pub const LINE: usize = 4098;
-
-const UNKNOWN: u8 = 255;
 
 #[derive(Clone, Copy)]
 pub enum Seen {
@@ -42,8 +40,7 @@ fn long(count: u64) -> Seen
 }
 
 // The words from the first of a line on.
-pub fn look(words: &[i32], needs: &[u8]) -> Seen
-    requires { needs.now ≡ needs_table }
+pub fn look(words: &[i32]) -> Seen
     ensures { result ≡ look_of words.now }
 {
     if words.len() < 1 {
@@ -53,7 +50,7 @@ pub fn look(words: &[i32], needs: &[u8]) -> Seen
     if 255 < opcode {
         return Seen::Bad;
     }
-    let wants = needs[opcode];
+    let wants = need_of(opcode);
     if wants == UNKNOWN {
         return Seen::Bad;
     }
@@ -83,14 +80,6 @@ pub fn words_of(seen: Seen) -> usize
     }
 }
 
-fn whole_at(sheet: &[i32], at: usize, needs: &[u8]) -> usize
-    requires needs_value { needs.now ≡ needs_table }
-    requires at_in_bounds { at ≤ length sheet.now }
-    ensures { result ≡ whole_at sheet.now at }
-{
-    words_of(look(&sheet[at..], needs))
-}
-
 // Whole lines from a place on, and the place after them.
 #[derive(Clone, Copy)]
 pub struct Ahead {
@@ -99,18 +88,15 @@ pub struct Ahead {
 }
 
 // As many lines as are whole.
-pub fn lines_ahead(sheet: &[i32], at: usize, needs: &[u8]) -> Ahead
-    requires needs_value { needs.now ≡ needs_table }
-    requires at_in_bounds { at ≤ length sheet.now }
+pub fn lines_ahead(sheet: &[i32], at: usize) -> Ahead
+    requires { at ≤ length sheet.now }
     ensures { Counted sheet.now at result.lines result.end }
 {
     let mut end = at;
     let mut lines = 0u64;
-    let mut words = whole_at(sheet, end, needs);
-    while 0 < words {
+    while let Seen::Whole(words) = look(&sheet[end..]) {
         end += words;
         lines += 1;
-        words = whole_at(sheet, end, needs);
     }
     Ahead { lines, end }
 }
@@ -120,10 +106,7 @@ pub fn append(words: &[i32], kept: &mut [i32], at: usize) -> usize
     requires { at + length words.now ≤ length kept.old }
     ensures { Put words.now at result kept.old kept.new }
 {
-    let mut i = 0;
-    while i < words.len() {
-        kept[at + i] = words[i];
-        i += 1;
-    }
-    at + i
+    let end = at + words.len();
+    kept[at..end].copy_from_slice(words);
+    end
 }

@@ -1,4 +1,6 @@
 -- The text of a feed has room, as a replay's has. Assumes nothing.
+use Rattle.std.specs.Prelude.{Result, Ok, Err}
+use Rattle.record_read.specs.declared.Damage.{Damage}
 use mathlib.Core.Bool.{Bool, cond, false, true, ◌&&◌}
 use mathlib.Core.List.{List, ◌++◌}
 use mathlib.Core.Path.{◌∙◌, ◌≡◌, ap, refl, subst, sym}
@@ -9,8 +11,6 @@ use lib.ListN.{drop, length}
 use Rattle.record_layout.specs.declared.Layout.{Layout}
 use Rattle.record_read.proofs.Whole.{layout_kept}
 use Rattle.record_read.specs.Read.{held_in, open_of, read_as}
-use Rattle.record_read.specs.declared.Opened.{Opened}
-use Rattle.record_read.specs.declared.Opened.TheVariants.{Damaged, Whole}
 use Rattle.record_run.specs.After.{Shelved, shelved}
 use Rattle.record_run.specs.declared.Replayed.{Replayed}
 use Rattle.rules.specs.declared.Rules.{Rules}
@@ -41,13 +41,13 @@ fed_points : (rules : Rules) (most : ℕ) (bytes : List ℕ) (blocks : List (Lis
 unfolding fed_record fed_on_read fed_shelf
 fed_points rules most bytes blocks out = by_verdict (open_of bytes) refl
   where
-    by_verdict : (o : Opened) → open_of bytes ≡ o → (fed_on_read rules most blocks out (read_as bytes o)).said.layout.points ≤ 872
-    by_verdict (Whole l) e =
+    by_verdict : (o : Result Layout Damage) → open_of bytes ≡ o → (fed_on_read rules most blocks out (read_as bytes o)).said.layout.points ≤ 872
+    by_verdict (Ok l) e =
         let h = held_in bytes l in
         let f = under rules h.fixed in
         let few : (bare_for h).points ≤ 872 = subst (λ (n : ℕ). n ≤ 872) (sym (ap (λ (m : Layout). m.points) (layout_kept bytes l))) (within bytes l e).0 in
         end_points rules most (bare_for h) h.fixed out (arrive_all f (at_first f no_words h) blocks) few
-    by_verdict (Damaged why) e = omega arith
+    by_verdict (Err why) e = omega arith
 
 module _ {rules : Rules} {bytes : List ℕ} {r : Replayed} {out : List ℕ} (v : FedRecord rules room bytes blank (shelved r out)) where
   pub points_few : r.layout.points ≤ 872

@@ -1,4 +1,5 @@
 -- A feed to a record by its parts: the lists that were loaded, and the verdict on the bytes. Assumes nothing.
+use Rattle.std.specs.Prelude.{Ok, Err}
 use mathlib.Core.List.{List, []}
 use mathlib.Core.Path.{◌∙◌, ◌≡◌, ap, ap₂, sym}
 use Prim.Native.Nat.{ℕ}
@@ -11,7 +12,6 @@ use Rattle.record_read.proofs.Whole.{layout_kept}
 use Rattle.record_read.specs.Format.{Held, held, layout}
 use Rattle.record_read.specs.Read.{damage_number, held_in, open_of, read_as}
 use Rattle.record_read.specs.declared.Damage.{Damage}
-use Rattle.record_read.specs.declared.Opened.TheVariants.{Damaged, Whole}
 use Rattle.record_run.specs.After.{Shelved, shelved}
 use Rattle.record_run.specs.declared.Replayed.{Replayed}
 use Rattle.record_replay.specs.Shelf.{refused_as}
@@ -30,7 +30,7 @@ same_held a b c = cc
 
 -- ---- the verdict
 module _ (rules : Rules) (most : ℕ) (bytes out : List ℕ) where
-  pub damaged : (why : Damage) {r : Replayed} → open_of bytes ≡ Damaged why → r ≡ refused_as (damage_number why) → FedRecord rules most bytes out (shelved r out)
+  pub damaged : (why : Damage) {r : Replayed} → open_of bytes ≡ Err why → r ≡ refused_as (damage_number why) → FedRecord rules most bytes out (shelved r out)
   unfolding fed_record fed_on_read
   damaged why e p =
       record {
@@ -38,7 +38,7 @@ module _ (rules : Rules) (most : ℕ) (bytes out : List ℕ) where
         is = ap (λ (r : Replayed). shelved r out) p ∙ sym (ap (λ o. fed_on_read rules most [] out (read_as bytes o)) e);
       }
 
-  pub opened : (l : Layout) {x : Shelved} → open_of bytes ≡ Whole l → FedShelf rules most (bare l) (held_in bytes l) no_words out x → FedRecord rules most bytes out x
+  pub opened : (l : Layout) {x : Shelved} → open_of bytes ≡ Ok l → FedShelf rules most (bare l) (held_in bytes l) no_words out x → FedRecord rules most bytes out x
   unfolding fed_record fed_on_read
   opened l e v =
       record {

@@ -25,7 +25,7 @@ use record_layout::{
     UNSCALED_Y, wide,
 };
 use record_load::{ends_in, flags_in, numbers_in};
-use record_read::{Opened, lay_out, load_state, open};
+use record_read::{lay_out, load_state, open};
 use record_replay::{LIST_ROOM, POINT_ROOM, TWILIGHT_ROOM, refuse};
 use record_run::Replayed;
 use rules::Rules;
@@ -173,7 +173,7 @@ pub fn feed_within(stdin: Stdin, rules: Rules, most: usize, bytes: &[u8], out: &
 {
     let opened = open(bytes);
     match opened {
-        Opened::Damaged(why) => told(refuse(why.number())),
-        Opened::Whole(l) => feed_whole(stdin, rules, most, bytes, l, out),
+        Err(why) => told(refuse(why.number())),
+        Ok(l) => feed_whole(stdin, rules, most, bytes, l, out),
     }
 }

@@ -14,7 +14,7 @@ use feed_print::print_fed;
 use record_frames::{LENGTH_SIZE, RECORD_ROOM, kept_of, length_in};
 use record_io::{chosen_rules, read_input, say_no_such_rules, say_unread, write_output};
 use record_print::TEXT_ROOM;
-use rules::{Named, Rules};
+use rules::Rules;
 use std::io::Stdin;
 
 fn print_sheet(rt: &(impl Print + Eprint), stdin: Stdin, rules: Rules, record: &[u8]) {
@@ -67,7 +67,7 @@ fn feed_sheet(rt: &(impl Print + Eprint), stdin: Stdin, rules: Rules) {
 fn main(rt: HostRuntime) {
     let named = chosen_rules(&rt);
     match named {
-        Named::Known(rules) => feed_sheet(&rt, rt.stdin(), rules),
-        Named::Unknown => say_no_such_rules(&rt),
+        Some(rules) => feed_sheet(&rt, rt.stdin(), rules),
+        None => say_no_such_rules(&rt),
     }
 }

@@ -37,9 +37,7 @@ impl Vector {
     pub fn is_in_range(self) -> bool
         ensures { result ≡ vector_in_range self }
     {
-        let x = self.x;
-        let y = self.y;
-        within(x, -ONE, ONE) & within(y, -ONE, ONE)
+        within(self.x, -ONE, ONE) & within(self.y, -ONE, ONE)
     }
 }
 
@@ -96,10 +94,7 @@ impl ZonePointer {
     pub fn is_twilight(self) -> bool
         ensures { result ≡ is_twilight self }
     {
-        match self {
-            ZonePointer::Twilight => true,
-            ZonePointer::Glyph => false,
-        }
+        matches!(self, ZonePointer::Twilight)
     }
 }
 
@@ -129,40 +124,23 @@ impl ZonePointers {
         }
     }
 
+    // Made anew, and not written in place: so the three go from line to line in registers, as in `by_words`.
     pub fn with_zp0(self, zone: ZonePointer) -> ZonePointers
         ensures { result ≡ zp0_in self zone }
     {
-        let zp1 = self.zp1;
-        let zp2 = self.zp2;
-        ZonePointers {
-            zp0: zone,
-            zp1,
-            zp2,
-        }
+        ZonePointers { zp0: zone, ..self }
     }
 
     pub fn with_zp1(self, zone: ZonePointer) -> ZonePointers
         ensures { result ≡ zp1_in self zone }
     {
-        let zp0 = self.zp0;
-        let zp2 = self.zp2;
-        ZonePointers {
-            zp0,
-            zp1: zone,
-            zp2,
-        }
+        ZonePointers { zp1: zone, ..self }
     }
 
     pub fn with_zp2(self, zone: ZonePointer) -> ZonePointers
         ensures { result ≡ zp2_in self zone }
     {
-        let zp0 = self.zp0;
-        let zp1 = self.zp1;
-        ZonePointers {
-            zp0,
-            zp1,
-            zp2: zone,
-        }
+        ZonePointers { zp2: zone, ..self }
     }
 }
 
@@ -240,7 +218,7 @@ pub struct Tallies {
 fn one_more(n: u32) -> u32
     ensures { result ≡ one_more n }
 {
-    if n < 4294967295 { n + 1 } else { n }
+    n.saturating_add(1)
 }
 
 impl Tallies {
@@ -251,8 +229,7 @@ impl Tallies {
         if wrapped {
             Tallies {
                 wrapped_roundings: one_more(self.wrapped_roundings),
-                last_pushed: self.last_pushed,
-                pushes: self.pushes,
+                ..self
             }
         } else {
             self
@@ -264,9 +241,9 @@ impl Tallies {
         ensures { result ≡ pushed_on value self }
     {
         Tallies {
-            wrapped_roundings: self.wrapped_roundings,
             last_pushed: value,
             pushes: one_more(self.pushes),
+            ..self
         }
     }
 }
@@ -289,24 +266,18 @@ impl GraphicsState {
     pub fn fresh() -> GraphicsState
         ensures { result ≡ fresh_state }
     {
-        let vectors = Vectors::all_along(Vector::x_axis());
-        let round = RoundState::fresh();
-        let references = References {
-            rp0: 0,
-            rp1: 0,
-            rp2: 0,
-        };
-        let pointers = ZonePointers::all_in(ZonePointer::Glyph);
-        let measures = Measures::fresh();
-        let facts = Facts::all_no();
         GraphicsState {
-            vectors,
-            round,
-            references,
+            vectors: Vectors::all_along(Vector::x_axis()),
+            round: RoundState::fresh(),
+            references: References {
+                rp0: 0,
+                rp1: 0,
+                rp2: 0,
+            },
             loop_counter: 1,
-            pointers,
-            measures,
-            facts,
+            pointers: ZonePointers::all_in(ZonePointer::Glyph),
+            measures: Measures::fresh(),
+            facts: Facts::all_no(),
             tallies: Tallies {
                 wrapped_roundings: 0,
                 last_pushed: 0,
@@ -375,25 +346,19 @@ impl GraphicsState {
     pub fn zp0(self) -> ZonePointer
         ensures { result ≡ self.pointers.zp0 }
     {
-        let pointers = self.pointers;
-        let zone = pointers.zp0;
-        zone
+        self.pointers.zp0
     }
 
     pub fn zp1(self) -> ZonePointer
         ensures { result ≡ self.pointers.zp1 }
     {
-        let pointers = self.pointers;
-        let zone = pointers.zp1;
-        zone
+        self.pointers.zp1
     }
 
     pub fn zp2(self) -> ZonePointer
         ensures { result ≡ self.pointers.zp2 }
     {
-        let pointers = self.pointers;
-        let zone = pointers.zp2;
-        zone
+        self.pointers.zp2
     }
 
     // The test behind answer 3.

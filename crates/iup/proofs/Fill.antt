@@ -21,14 +21,6 @@ filled_length (suc i) [] (y ∷ l) e = absurd (omega arith)
 filled_length (suc i) (x ∷ r) [] e = absurd (omega arith)
 filled_length (suc i) (x ∷ r) (y ∷ l) e = ap suc (filled_length i r l (omega arith))
 
--- the next element is as it was
-filled_read : {A : Type 0} (i : ℕ) (r l : List A) (d : A) → length r ≡ length l → get_or (filled i r l) i d ≡ get_or l i d
-filled_read zero r l d e = refl
-filled_read (suc i) [] [] d e = refl
-filled_read (suc i) [] (y ∷ l) d e = absurd (omega arith)
-filled_read (suc i) (x ∷ r) [] d e = absurd (omega arith)
-filled_read (suc i) (x ∷ r) (y ∷ l) d e = filled_read i r l d (omega arith)
-
 filled_turn : {A : Type 0} (i : ℕ) (r l : List A) (d : A) → length r ≡ length l → i < length l → set (filled i r l) i (get_or r i d) ≡ filled (suc i) r l
 filled_turn zero [] [] d e h = absurd (omega arith)
 filled_turn zero [] (y ∷ l) d e h = absurd (omega arith)
@@ -58,10 +50,6 @@ turn {r} {l₀} {l} {i} {y} v h e =
       whole = v.whole;
       size = length-set l i y ∙ v.size;
     }
-
--- what is read at the next place
-pub reads : {r l₀ l : List ℤ} {i : ℕ} → Filling r l₀ l i → get_or l i (pos 0) ≡ get_or l₀ i (pos 0)
-reads {r} {l₀} {l} {i} v = ap (λ (k : List ℤ). get_or k i (pos 0)) v.so_far ∙ filled_read i r l₀ (pos 0) v.whole
 
 pub full : {r l₀ l : List ℤ} {i : ℕ} → Filling r l₀ l i → length l ≤ i → l ≡ r
 full {r} {l₀} {l} {i} v h =

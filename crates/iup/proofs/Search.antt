@@ -1,25 +1,13 @@
--- The two searches for a touched point, step by step: forward one more untouched point is passed, backward one less is left.
+-- The search backward for a touched point, step by step: one untouched point less is left; and how far the searches go.
 -- Assumes nothing.
-use mathlib.Core.Path.{◌≡◌, refl, sym, ap}
+use mathlib.Core.Path.{◌≡◌, sym, ap}
 use mathlib.Core.Bool.{Bool, true, false}
 use mathlib.Core.List.{List, [], ◌∷◌}
 use Prim.Native.Nat.{ℕ, zero, suc, ◌+◌, ◌-◌, ◌≤◌, ◌<◌}
 use native.Mathlib.Omega.{arith}
-use native.Mathlib.Numerals.{add-one}
-use lib.ListN.{length, take, drop, get_or, length-take, length-drop, length-map, drop_of_length-le}
-use lib.Seq.{drop-cons}
+use lib.ListN.{length, take, drop, get_or, length-take, length-drop, length-map}
 use Rattle.iup.specs.Parts.{marks, ahead, one_more, up_to_last}
 use Rattle.flags.specs.Flag.{has_any}
-
-module _ (mask : ℕ) (fs : List ℕ) (i : ℕ) where
-  pub ahead_hit : i < length fs → has_any (get_or fs i 0) mask ≡ true → i ≡ i + ahead (marks mask (drop i fs))
-  ahead_hit h t = rw (drop-cons fs i 0 h, t) (omega arith)
-
-  pub ahead_miss : i < length fs → has_any (get_or fs i 0) mask ≡ false → i + ahead (marks mask (drop i fs)) ≡ i + 1 + ahead (marks mask (drop (i + 1) fs))
-  ahead_miss h t = rw (drop-cons fs i 0 h, t, add-one i) (omega arith)
-
-  pub ahead_none : length fs ≤ i → i ≡ i + ahead (marks mask (drop i fs))
-  ahead_none h = rw (drop_of_length-le fs h) (omega arith)
 
 last_hit' : (mask : ℕ) (fs : List ℕ) (m : ℕ) → m < length fs → has_any (get_or fs m 0) mask ≡ true → up_to_last (marks mask (take (suc m) fs)) ≡ suc m
 last_hit' mask [] m h t = absurd (omega arith)
@@ -39,10 +27,6 @@ last_hit mask fs (suc m) p h t = let e : suc m - 1 ≡ m = omega arith in sym (l
 pub last_miss : (mask : ℕ) (fs : List ℕ) (n : ℕ) → 0 < n → n ≤ length fs → has_any (get_or fs (n - 1) 0) mask ≡ false → up_to_last (marks mask (take (n - 1) fs)) ≡ up_to_last (marks mask (take n fs))
 last_miss mask fs zero p h t = absurd (omega arith)
 last_miss mask fs (suc m) p h t = let e : suc m - 1 ≡ m = omega arith in rw e (sym (last_miss' mask fs m (omega arith) (rw e at t)))
-
-pub last_none : (mask : ℕ) (fs : List ℕ) (n : ℕ) → n ≤ 0 → 0 ≡ up_to_last (marks mask (take n fs))
-last_none mask fs zero h = refl
-last_none mask fs (suc n) h = absurd (omega arith)
 
 ahead_most : (bs : List Bool) → ahead bs ≤ length bs
 ahead_most [] = omega arith

@@ -1,4 +1,5 @@
 -- A turn of the walk over the contours: a contour's part comes back as the definition says; and the direct call by its tests. Assumes nothing.
+use Rattle.std.specs.Prelude.{Ok, Err}
 use mathlib.Core.Path.{◌≡◌, refl, sym, ap, ap₂, ◌∙◌}
 use mathlib.Core.Bool.{Bool, true, false, ◌&&◌}
 use mathlib.Core.List.{List, ◌++◌, append_assoc}
@@ -11,7 +12,6 @@ use lib.IntN.{ℤ}
 use lib.ListN.{length, take, drop, get_or, length-append, drop_of_length-le, take-append-drop}
 use lib.Seq.{drop-cons, take_at, length-take-le}
 use borrow.Rule.Slice.PartMut.{put_mid, Post-is, same_len_mid, drop_put, mid_len}
-use Rattle.answer.specs.declared.Call.TheVariants.{Done, Refused}
 use Rattle.answer.specs.declared.Refusal.TheVariants.{Ends, Sizes}
 use Rattle.contour_ends.proofs.Rising.{in_order}
 use Rattle.contour_ends.specs.Ends.{ends_rise, rising_from}
@@ -111,14 +111,14 @@ module _ (axis : Axis) (fs es : List ℕ) (us os cs : List ℤ) where
   abbrev fits : Bool
   fits = sizes_fit (length fs) (length es) (length us) (length os) (length cs)
 
-  pub tried : {l : List ℤ} → fits ≡ true → ends_rise (length cs) es ≡ true → l ≡ iup_of axis fs es us os cs → swept Done l ≡ tried_of axis fs es us os cs
+  pub tried : {l : List ℤ} → fits ≡ true → ends_rise (length cs) es ≡ true → l ≡ iup_of axis fs es us os cs → swept (Ok tt) l ≡ tried_of axis fs es us os cs
   unfolding tried_of
-  tried h g e = rw (h, g) (ap (swept Done) e)
+  tried h g e = rw (h, g) (ap (swept (Ok tt)) e)
 
-  pub tried_ends : fits ≡ true → ends_rise (length cs) es ≡ false → swept (Refused Ends) cs ≡ tried_of axis fs es us os cs
+  pub tried_ends : fits ≡ true → ends_rise (length cs) es ≡ false → swept (Err Ends) cs ≡ tried_of axis fs es us os cs
   unfolding tried_of
   tried_ends h g = rw (h, g)
 
-  pub tried_sizes : fits ≡ false → swept (Refused Sizes) cs ≡ tried_of axis fs es us os cs
+  pub tried_sizes : fits ≡ false → swept (Err Sizes) cs ≡ tried_of axis fs es us os cs
   unfolding tried_of
   tried_sizes h = rw h

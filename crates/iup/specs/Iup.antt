@@ -1,8 +1,7 @@
 -- IUP over a glyph, on one axis: FreeType 2.13.3, ttinterp.c (Ins_IUP's walk over the contours). The contours' ends rise and lie below the number of points: every entry asks it (document 02,
 -- K8). Assumes nothing.
-use Rattle.std.specs.Prelude.{ℕ, suc, ◌-◌, Bool, cond, ◌&&◌, List, [], ◌∷◌, ◌++◌, leb, eqb, ℤ, length, take, drop}
-use Rattle.answer.specs.declared.Call.{Call}
-use Rattle.answer.specs.declared.Call.TheVariants.{Done, Refused}
+use Rattle.answer.specs.declared.Refusal.{Refusal}
+use Rattle.std.specs.Prelude.{ℕ, suc, ◌-◌, Bool, cond, ◌&&◌, List, [], ◌∷◌, ◌++◌, leb, eqb, ℤ, length, take, drop, ⊤, Result, Ok, Err}
 use Rattle.answer.specs.declared.Refusal.TheVariants.{Ends, Sizes}
 use Rattle.contour_ends.specs.Ends.{ends_rise}
 use Rattle.limits.specs.Limits.{most_points, most_contours}
@@ -28,10 +27,10 @@ iup_of axis flags contours unscaled original current = walk_of 0 contours (point
 -- ---- the direct call
 -- what it says, and the current coordinates that it leaves
 pub record Swept : Type 0 where
-  pub answer : Call
+  pub answer : Result ⊤ Refusal
   pub current : List ℤ
 
-abbrev pub swept : Call → List ℤ → Swept
+abbrev pub swept : Result ⊤ Refusal → List ℤ → Swept
 swept r l = record { answer = r; current = l }
 
 -- four lists of one length within the limit, and contours within theirs
@@ -43,5 +42,5 @@ sizes_fit flags contours unscaled original current =
 unfoldable pub tried_of : Axis → List ℕ → List ℕ → List ℤ → List ℤ → List ℤ → Swept
 tried_of axis flags contours unscaled original current =
     cond (sizes_fit (length flags) (length contours) (length unscaled) (length original) (length current))
-    (cond (ends_rise (length current) contours) (swept Done (iup_of axis flags contours unscaled original current)) (swept (Refused Ends) current))
-    (swept (Refused Sizes) current)
+    (cond (ends_rise (length current) contours) (swept (Ok tt) (iup_of axis flags contours unscaled original current)) (swept (Err Ends) current))
+    (swept (Err Sizes) current)

@@ -17,7 +17,7 @@ ghost use Rattle.iup.specs.Contour.{offset as Contour·displacement, spread, con
 ghost use Rattle.iup.specs.Iup.{swept, iup_of, sizes_fit, tried_of};
 ghost use Rattle.iup.specs.Parts.{marks, ahead, up_to_last, place_at, level as Parts·level, slope as Parts·slope, inside_by, moved_by, by_references, both};
 
-use answer::{Call, Refusal};
+use answer::Refusal;
 use contour_ends::ends_rise;
 use flags::{Axis, has_any};
 use int::{at_most, equal, wrapping_add, wrapping_sub};
@@ -36,26 +36,22 @@ pub struct Place {
 fn next_touched(flags: &[u8], mask: u8, from: usize) -> usize
     ensures { result ≡ from + ahead (marks mask (drop from flags.now)) }
 {
-    let mut i = from;
-    while i < flags.len() {
+    for i in from..flags.len() {
         if has_any(flags[i], mask) {
             return i;
         }
-        i += 1;
     }
-    i
+    from.max(flags.len())
 }
 
 // How many points there are up to the last touched one, with it; 0 where none is touched.
 fn last_touched(flags: &[u8], mask: u8) -> usize
     ensures { result ≡ up_to_last (marks mask flags.now) }
 {
-    let mut n = flags.len();
-    while n > 0 {
-        if has_any(flags[n - 1], mask) {
-            return n;
+    for i in (0..flags.len()).rev() {
+        if has_any(flags[i], mask) {
+            return i + 1;
         }
-        n -= 1;
     }
     0
 }
@@ -176,10 +172,8 @@ fn interpolate(
     requires { (length unscaled.now ≡ length current.old) × (length original.now ≡ length current.old) }
     ensures { current.new ≡ both (moved_by low high flat scale) unscaled.now original.now }
 {
-    let mut i = 0;
-    while i < current.len() {
-        current[i] = moved(low, high, flat, scale, unscaled[i], original[i]);
-        i += 1;
+    for (i, place) in current.iter_mut().enumerate() {
+        *place = moved(low, high, flat, scale, unscaled[i], original[i]);
     }
 }
 
@@ -207,10 +201,8 @@ fn stretch(unscaled: &[i32], original: &[i32], current: &mut [i32], before: Plac
 fn shift(part: &mut [i32], delta: i32)
     ensures { part.new ≡ map (λ x. add32 x delta) part.old }
 {
-    let mut i = 0;
-    while i < part.len() {
-        part[i] = wrapping_add(part[i], delta);
-        i += 1;
+    for place in part.iter_mut() {
+        *place = wrapping_add(*place, delta);
     }
 }
 
@@ -230,6 +222,7 @@ fn spread_out(
 {
     let mut before = last;
     let mut at = 0;
+    // Counted by hand: a turn steps over a stretch of any length.
     while at < flags.len() {
         let next = next_touched(flags, mask, at);
         let after = place_at(unscaled, original, current, next, first);
@@ -291,9 +284,8 @@ pub fn iup(
 {
     let mask = axis.touch_bit();
     let mut at = 0;
-    let mut k = 0;
-    while k < contours.len() {
-        let end = past(contours[k]);
+    for &last in contours {
+        let end = past(last);
         contour(
             &unscaled[at..end],
             &original[at..end],
@@ -302,7 +294,6 @@ pub fn iup(
             mask,
         );
         at = end;
-        k += 1;
     }
 }
 
@@ -340,7 +331,7 @@ pub fn try_iup(
     flags: &[u8],
     contours: &[u16],
     axis: Axis,
-) -> Call
+) -> Result<(), Refusal>
     ensures { swept result current.new ≡ tried_of axis flags.now contours.now unscaled.now original.now current.old }
 {
     if sizes_fit(
@@ -352,11 +343,11 @@ pub fn try_iup(
     ) {
         if ends_rise(contours, current.len()) {
             iup(unscaled, original, current, flags, contours, axis);
-            Call::Done
+            Ok(())
         } else {
-            Call::Refused(Refusal::Ends)
+            Err(Refusal::Ends)
         }
     } else {
-        Call::Refused(Refusal::Sizes)
+        Err(Refusal::Sizes)
     }
 }

@@ -1,6 +1,8 @@
 -- Demand 3, the first half: two runs of one sheet over worlds that are seen alike along an axis, the vectors along it, no line reached mixing the axes, end
 -- alike along it. Line by line the same line is read, does the same along the axis and leaves the vectors along it; the entry tests look at lengths,
 -- the state and the start alone. `axes_apart` is said of the definition that `run` equals, for either axis; Plain.antt has it in plain words. Assumes nothing.
+use Rattle.std.specs.Prelude.{⊤, Result, Ok, Err}
+use Rattle.answer.specs.declared.Refusal.{Refusal}
 use mathlib.Core.Bool.{Bool, ◌&&◌, cond, false, not, true}
 use mathlib.Core.List.{List, [], ◌∷◌}
 use mathlib.Core.Path.{◌∙◌, ◌≡◌, ap, ap₂, refl, subst, sym}
@@ -11,8 +13,6 @@ use Prim.Native.Nat.{suc, zero, ℕ}
 use lib.IntN.{ℤ}
 use Rattle.run_lines.specs.declared.Answer.{Answer}
 use Rattle.flags.specs.declared.Axis.{Axis}
-use Rattle.answer.specs.declared.Call.{Call}
-use Rattle.answer.specs.declared.Call.TheVariants.{Done, Refused as RefusedCall}
 use Rattle.run_lines.specs.declared.Answer.TheVariants.{Finished, OutOfBudget, Refused}
 use Rattle.line.specs.World.{Fixed, World}
 use Rattle.run_lines.specs.Onward.{Ran, ends, on_call, on_went, replay_of}
@@ -41,13 +41,13 @@ module _ (a : Axis) (f g : Fixed) (sheet : List ℤ) (ef : fixed_seen a f ≡ fi
   -- the rest of two runs, after a line that said the same
   after : (b n : ℕ) → ((at : ℕ) (w v : World) → world_seen a w ≡ world_seen a v → Straight a w.state → none (mixes a) (reached_from f sheet b at w) ≡ true
       → SameAlong a (replay_of f sheet b (suc n) at w) (replay_of g sheet b (suc n) at v))
-      → (call : Call) (place place' : ℕ) (w v : World) → place ≡ place' → world_seen a w ≡ world_seen a v → Straight a w.state
+      → (call : Result ⊤ Refusal) (place place' : ℕ) (w v : World) → place ≡ place' → world_seen a w ≡ world_seen a v → Straight a w.state
       → none (mixes a) (after_call (reached_from f sheet b) place w call) ≡ true
       → SameAlong a (on_call (replay_of f sheet b (suc n)) n place w call) (on_call (replay_of g sheet b (suc n)) n place' v call)
   unfolding on_call after_call
-  after b n ih Done place place' w v ep ew e free =
+  after b n ih (Ok tt) place place' w v ep ew e free =
       subst (λ (p : ℕ). SameAlong a (replay_of f sheet b (suc n) place w) (replay_of g sheet b (suc n) p v)) ep (ih place w v ew e free)
-  after b n ih (RefusedCall why) place place' w v ep ew e free = same_ends (Refused why) n place place' w v ep ew
+  after b n ih (Err why) place place' w v ep ew e free = same_ends (Refused why) n place place' w v ep ew
 
   -- one turn of two runs, where the rest of them is apart
   turn : (b n at : ℕ) (w v : World) → ((p : ℕ) (x y : World) → world_seen a x ≡ world_seen a y → Straight a x.state → none (mixes a) (reached_from f sheet b p x) ≡ true
@@ -61,7 +61,7 @@ module _ (a : Axis) (f g : Fixed) (sheet : List ℤ) (ef : fixed_seen a f ≡ fi
       let m = not-true (mixes a (opcode_at sheet at)) (and_left (not (mixes a (opcode_at sheet at))) _ free) in
       let alike = steps_alike a f g sheet at w v ef ew e m in
       subst
-      (λ (c : Call). SameAlong a (on_went (replay_of f sheet b (suc n)) n first) (on_call (replay_of g sheet b (suc n)) n second.place second.world c))
+      (λ (c : Result ⊤ Refusal). SameAlong a (on_went (replay_of f sheet b (suc n)) n first) (on_call (replay_of g sheet b (suc n)) n second.place second.world c))
       (ap (λ (x : Went). x.call) alike)
       (after b n ih first.call first.place second.place first.world second.world (ap (λ (x : Went). x.place) alike) (ap (λ (x : Went). x.world) alike)
       (step_straight a f sheet at w e m)
@@ -93,11 +93,11 @@ entry_alike a f g sheet start w v ef ew =
     ∙ ap (λ (y : World). entry_of (world_fits g sheet v) (ends_rise (length v.gx) g.contours) (usable_state y.state) (leb start (length sheet))) ew
 
 entry_apart : (a : Axis) (f g : Fixed) (sheet : List ℤ) (budget start : ℕ) (w v : World) → fixed_seen a f ≡ fixed_seen a g → world_seen a w ≡ world_seen a v
-    → Straight a w.state → (call : Call) → none (mixes a) (reached_on_entry (reached_from f sheet budget start w) call) ≡ true
+    → Straight a w.state → (call : Result ⊤ Refusal) → none (mixes a) (reached_on_entry (reached_from f sheet budget start w) call) ≡ true
     → SameAlong a (runOnEntry f sheet budget start w call) (runOnEntry g sheet budget start v call)
 unfolding runOnEntry reached_on_entry
-entry_apart a f g sheet budget start w v ef ew e Done free = replays_apart a f g sheet ef budget 0 start w v ew e free
-entry_apart a f g sheet budget start w v ef ew e (RefusedCall why) free = record { answer = refl; place = refl; lines = refl; worlds = ew }
+entry_apart a f g sheet budget start w v ef ew e (Ok tt) free = replays_apart a f g sheet ef budget 0 start w v ew e free
+entry_apart a f g sheet budget start w v ef ew e (Err why) free = record { answer = refl; place = refl; lines = refl; worlds = ew }
 
 -- two runs of one sheet whose starts are seen alike along an axis
 pub axes_apart : (a : Axis) (f g : Fixed) (sheet : List ℤ) (budget start : ℕ) (w v : World) → fixed_seen a f ≡ fixed_seen a g → world_seen a w ≡ world_seen a v
@@ -105,7 +105,7 @@ pub axes_apart : (a : Axis) (f g : Fixed) (sheet : List ℤ) (budget start : ℕ
     → SameAlong a (run_of f sheet budget start w) (run_of g sheet budget start v)
 unfolding run_of lines_reached
 axes_apart a f g sheet budget start w v ef ew e free =
-    subst (λ (c : Call). SameAlong a (runOnEntry f sheet budget start w (entered f sheet start w)) (runOnEntry g sheet budget start v c))
+    subst (λ (c : Result ⊤ Refusal). SameAlong a (runOnEntry f sheet budget start w (entered f sheet start w)) (runOnEntry g sheet budget start v c))
     (entry_alike a f g sheet start w v ef ew)
     (entry_apart a f g sheet budget start w v ef ew e (entered f sheet start w) free)
 

@@ -1,5 +1,6 @@
 -- GC, MD, MDRP and MIRP seen along an axis: with the vectors along it, what they measure in the original outline reads no coordinate across, and what they push and move is seen as if every
 -- coordinate across were 0. Assumes nothing.
+use Rattle.std.specs.Prelude.{Result, Ok, Err}
 use Prim.Native.Nat.{ℕ, ◌-◌}
 use mathlib.Core.Bool.{Bool, ◌&&◌, ◌||◌, cond}
 use mathlib.Core.List.{List}
@@ -32,9 +33,6 @@ use Rattle.math.specs.Fixed.{mul_fix}
 use Rattle.projection.specs.Projection.{dual_project_of, project_of}
 use Rattle.round.specs.declared.Tracked.{Tracked}
 use Rattle.zone.specs.Zone.{fetch_of, place_of}
-use Rattle.zone.specs.declared.Fetched.TheVariants.{At}
-use Rattle.zone.specs.declared.Fetched.TheVariants.{Refused as RefusedPlace}
-use Rattle.zone.specs.declared.Fetched.{Fetched}
 use Rattle.laws_axes.specs.Axes.{Straight, fixed_seen, lined_seen, unit_of, world_seen, x_seen, y_seen}
 use Rattle.laws_axes.proofs.Lines.{LineSeen, both_there_seen, made_alike, project_alike, related_seen}
 use Rattle.laws_axes.proofs.Seen.{fetch_seen, fetched_seen, place_seen_lem, place_seen, seen_by_test, x_length}
@@ -46,12 +44,12 @@ dual_alike a v e p q r s h k =
     ap (λ (u : Vectors). dual_project_of u p r) e ∙ project_alike a (all_along (unit_of a)) refl p q r s h k ∙ sym (ap (λ (u : Vectors). dual_project_of u q s) e)
 
 -- ---- original points
-fetched_again : (a : Axis) (g : Fetched) → fetched_seen a (fetched_seen a g) ≡ fetched_seen a g
-fetched_again X (At p) = refl
-fetched_again Y (At p) = refl
-fetched_again a (RefusedPlace why) = refl
+fetched_again : (a : Axis) (g : Result Vector Refusal) → fetched_seen a (fetched_seen a g) ≡ fetched_seen a g
+fetched_again X (Ok p) = refl
+fetched_again Y (Ok p) = refl
+fetched_again a (Err why) = refl
 
-abbrev fetched_at : Fixed → World → ZonePointer → ℕ → Fetched
+abbrev fetched_at : Fixed → World → ZonePointer → ℕ → Result Vector Refusal
 fetched_at f w zone at = fetch_in at f.gox f.goy w.tox w.toy zone
 
 module _ (a : Axis) (f : Fixed) {v w : World} (e : Alike a v w) where

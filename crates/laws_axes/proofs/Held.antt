@@ -1,5 +1,6 @@
 -- Only the lines that set vectors change them, and with the vectors along an axis no line but an intersection and IUP across leaves a glyph point's coordinate or mark across it
 -- another: so with each thing that a line does. Assumes nothing.
+use Rattle.std.specs.Prelude.{Ok, Err}
 use Prim.Native.Nat.{◌+◌, ◌-◌, ◌≤◌, ℕ}
 use native.Mathlib.Omega.{arith}
 use mathlib.Core.Bool.{Bool, ◌&&◌, cond, false, true}
@@ -11,7 +12,6 @@ use lib.IntN.{ℤ}
 use lib.ListN.{drop, get_or, length, take, take-append-drop}
 use lib.Seq.{map-set_same, take-add}
 use borrow.Author.Tests.{leb-true}
-use Rattle.answer.specs.declared.Call.TheVariants.{Done, Refused}
 use Rattle.answer.specs.declared.Refusal.TheVariants.{Point, Range}
 use Rattle.laws_axes.proofs.Inert.{Inert, apply_still, inert_move, inert_zp2, on_curve_apart, stays, then}
 use Rattle.laws_axes.specs.Axes.{Still, Straight, across, mark_across, marks_across, unit_of}
@@ -133,7 +133,7 @@ over_still a on start end l h =
     ∙ ap (map mark) (parts start end l h)
 
 set_by : (a : Axis) (flags : List ℕ) (start end : ℕ) (on : Bool) (t : Bool) → leb start end && leb end (length flags) ≡ t
-    → marks_across a (cond t (marked Done (over_part (map (on_curve on)) start end flags)) (marked (Refused (Range start)) flags)).flags ≡ marks_across a flags
+    → marks_across a (cond t (marked (Ok tt) (over_part (map (on_curve on)) start end flags)) (marked (Err (Range start)) flags)).flags ≡ marks_across a flags
 set_by a flags start end on true e = over_still a on start end flags (leb-true start end (and_left (leb start end) (leb end (length flags)) e))
 set_by a flags start end on false e = refl
 
@@ -143,7 +143,7 @@ set_still a flags start end on = set_by a flags start end on (leb start end && l
 
 -- one flag changed, but for its mark across
 changed_by : (a : Axis) (change : ℕ → ℕ) → ((flag : ℕ) → bit (mark_across a) (change flag) ≡ bit (mark_across a) flag) → (flags : List ℕ) (at : ℕ) (t : Bool)
-    → marks_across a (cond t (marked Done (change_at change flags at)) (marked (Refused (Point at)) flags)).flags ≡ marks_across a flags
+    → marks_across a (cond t (marked (Ok tt) (change_at change flags at)) (marked (Err (Point at)) flags)).flags ≡ marks_across a flags
 changed_by a change keeps flags at true = map-set_same (bit (mark_across a)) flags at (change (get_or flags at 0)) 0 (keeps (get_or flags at 0))
 changed_by a change keeps flags at false = refl
 

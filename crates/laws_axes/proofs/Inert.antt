@@ -1,5 +1,6 @@
 -- A move along an axis leaves every point's coordinate and mark across it: with the vectors along the axis, a move's
 -- part across is 0 and its touch mark across is not set. Assumes nothing.
+use Rattle.std.specs.Prelude.{Ok, Err}
 use mathlib.Core.Bool.{Bool, cond, false, true}
 use mathlib.Core.List.{List}
 use mathlib.Core.Path.{◌∙◌, ◌≡◌, refl, subst, sym}
@@ -10,7 +11,6 @@ use lib.Seq.{map-set_same}
 use lib.IntN.{ℤ}
 use Prim.Native.Nat.{ℕ}
 use Rattle.flags.specs.declared.Axis.{Axis}
-use Rattle.answer.specs.declared.Call.TheVariants.{Done, Refused as RefusedCall}
 use Rattle.graphics.specs.declared.Facts.{Facts}
 use Rattle.moves.specs.declared.Move.{Move}
 use Rattle.answer.specs.declared.Refusal.TheVariants.{Point}
@@ -74,7 +74,7 @@ marks_or a flags at touch e =
     map-set_same (bit (mark_across a)) flags at (bit_or (get_or flags at 0) touch) 0 (or_keeps (mark_across a) (get_or flags at 0) touch e)
 
 apply_by : (a : Axis) (m : Move) → Inert a m → (at : ℕ) (xs ys : List ℤ) (flags : List ℕ) (t : Bool)
-    → let r = cond t (moved Done (moved_at xs at m.dx m.moves_x) (moved_at ys at m.dy m.moves_y) (or_at flags at m.touch)) (moved (RefusedCall (Point at)) xs ys flags) in
+    → let r = cond t (moved (Ok tt) (moved_at xs at m.dx m.moves_x) (moved_at ys at m.dy m.moves_y) (or_at flags at m.touch)) (moved (Err (Point at)) xs ys flags) in
     Still a xs ys flags r.xs r.ys r.flags
 apply_by a m i at xs ys flags true = record { coordinates = across_unmoved a m i at xs ys; marks = marks_or a flags at m.touch i.touches }
 apply_by a m i at xs ys flags false = stays a xs ys flags

@@ -1,5 +1,6 @@
 -- Each line seen along an axis: with the vectors along it, what is seen after the line is what would be seen if every coordinate across the axis were 0. A line's law is
 -- the chain of its steps' laws, in the order of its definition. Assumes nothing.
+use Rattle.std.specs.Prelude.{Result, Ok, Err}
 use Prim.Native.Nat.{ℕ, ◌-◌, suc}
 use mathlib.Core.Bool.{Bool, ◌&&◌, cond, false, true}
 use mathlib.Core.List.{List, [], ◌∷◌}
@@ -43,9 +44,6 @@ use Rattle.line_steps.specs.Numbers.{from_origin}
 use Rattle.line_steps.specs.Steps.{by_displaced, reference_in, reference_moved, done_in, in_state, laid_in, looped, made_in, move_in, on_both, one, passed_over, point_or, refused_in, rounded_move_in, shift_point, two}
 use Rattle.moves.specs.Displacement.{reference_of}
 use Rattle.moves.specs.Move.{is_idle, move_of, original_move_of, zp2_move_of}
-use Rattle.moves.specs.declared.Displaced.TheVariants.{By}
-use Rattle.moves.specs.declared.Displaced.TheVariants.{Refused as RefusedDisplacement}
-use Rattle.moves.specs.declared.Displaced.{Displaced}
 use Rattle.moves.specs.declared.Displacement.{Displacement}
 use Rattle.moves.specs.declared.Move.{Move}
 use Rattle.line.specs.Operands.{is_odd}
@@ -229,10 +227,10 @@ fliprg_seen a f op operands w straight =
     seen_by_test (lined_seen a) (held_fast w.state.facts (index_of high)) (done_seen a (world_seen a w) w same) (flags_seen a same (λ flags. set_through flags (index_of low) (index_of high) (is_odd op)))
 
 -- ---- the shifts
-by_displaced_seen : (a : Axis) (w : World) (rest rest' : Displacement → Lined) → ((d : Displacement) → Same a (rest d) (rest' d)) → (d : Displaced)
+by_displaced_seen : (a : Axis) (w : World) (rest rest' : Displacement → Lined) → ((d : Displacement) → Same a (rest d) (rest' d)) → (d : Result Displacement Refusal)
     → Same a (by_displaced (world_seen a w) rest d) (by_displaced w rest' d)
-by_displaced_seen a w rest rest' h (By d) = h d
-by_displaced_seen a w rest rest' h (RefusedDisplacement why) = refused_seen a (world_again a w) why
+by_displaced_seen a w rest rest' h (Ok d) = h d
+by_displaced_seen a w rest rest' h (Err why) = refused_seen a (world_again a w) why
 
 -- how far the reference point was moved is read along the axis
 reference_seen : (a : Axis) (f : Fixed) (op : ℕ) (w : World) → Straight a w.state → (rest rest' : Displacement → Lined) → ((d : Displacement) → Same a (rest d) (rest' d))
@@ -240,7 +238,7 @@ reference_seen : (a : Axis) (f : Fixed) (op : ℕ) (w : World) → Straight a w.
 unfolding reference_in
 reference_seen a f op w straight rest rest' h =
     let p = reference_of w.state op in
-    ap (λ (d : Displaced). lined_seen a (by_displaced (world_seen a w) rest d))
+    ap (λ (d : Result Displacement Refusal). lined_seen a (by_displaced (world_seen a w) rest d))
     (displaced_seen a w.state.vectors straight p f.gox f.goy w.gx w.gy w.tox w.toy w.tx w.ty p.zone)
     ∙ by_displaced_seen a w rest rest' h (reference_moved f op w)
 

@@ -1,5 +1,7 @@
 -- The runs of demand 3 reach the same lines, so that its premise on the lines reached is asked of one of them and holds of both. By induction on the budget,
 -- as the promise itself. Assumes nothing.
+use Rattle.std.specs.Prelude.{⊤, Result, Ok, Err}
+use Rattle.answer.specs.declared.Refusal.{Refusal}
 use mathlib.Core.Bool.{Bool, ◌&&◌, cond, false, not, true}
 use mathlib.Core.List.{List, [], ◌∷◌}
 use mathlib.Core.Path.{◌∙◌, ◌≡◌, ap, refl}
@@ -8,8 +10,6 @@ use lib.ListN.{length}
 use borrow.Author.Tests.{not-true}
 use Prim.Native.Nat.{suc, zero, ℕ}
 use lib.IntN.{ℤ}
-use Rattle.answer.specs.declared.Call.{Call}
-use Rattle.answer.specs.declared.Call.TheVariants.{Done, Refused as RefusedCall}
 use Rattle.laws_axes.specs.Axes.{Straight, fixed_seen, mixes, world_seen}
 use Rattle.flags.specs.declared.Axis.{Axis}
 use Rattle.graphics.proofs.Laws.{and_left, and_right}
@@ -27,12 +27,12 @@ module _ (a : Axis) (f g : Fixed) (sheet : List ℤ) (ef : fixed_seen a f ≡ fi
       (at : ℕ) (w v : World) → world_seen a w ≡ world_seen a v → Straight a w.state → none (mixes a) (reached_from f sheet b at w) ≡ true
       → reached_from f sheet b at w ≡ reached_from g sheet b at v
 
-  after : (b : ℕ) → Same b → (call : Call) (place : ℕ) (w v : World) → world_seen a w ≡ world_seen a v → Straight a w.state
+  after : (b : ℕ) → Same b → (call : Result ⊤ Refusal) (place : ℕ) (w v : World) → world_seen a w ≡ world_seen a v → Straight a w.state
       → none (mixes a) (after_call (reached_from f sheet b) place w call) ≡ true
       → after_call (reached_from f sheet b) place w call ≡ after_call (reached_from g sheet b) place v call
   unfolding after_call
-  after b ih Done place w v ew e free = ih place w v ew e free
-  after b ih (RefusedCall why) place w v ew e free = refl
+  after b ih (Ok tt) place w v ew e free = ih place w v ew e free
+  after b ih (Err why) place w v ew e free = refl
 
   turn : (b at : ℕ) (w v : World) → Same b → world_seen a w ≡ world_seen a v → Straight a w.state
       → not (mixes a (opcode_at sheet at)) && none (mixes a) (after_line (reached_from f sheet b) (step_of f sheet at w)) ≡ true
@@ -44,7 +44,7 @@ module _ (a : Axis) (f g : Fixed) (sheet : List ℤ) (ef : fixed_seen a f ≡ fi
       let alike = steps_alike a f g sheet at w v ef ew e m in
       after b ih first.call first.place first.world second.world (ap (λ (x : Went). x.world) alike) (step_straight a f sheet at w e m)
       (and_right (not (mixes a (opcode_at sheet at))) _ free)
-      ∙ ap (λ (c : Call). after_call (reached_from g sheet b) first.place second.world c) (ap (λ (x : Went). x.call) alike)
+      ∙ ap (λ (c : Result ⊤ Refusal). after_call (reached_from g sheet b) first.place second.world c) (ap (λ (x : Went). x.call) alike)
       ∙ ap (λ (p : ℕ). after_call (reached_from g sheet b) p second.world second.call) (ap (λ (x : Went). x.place) alike)
 
   by_test : (t : Bool) (op : ℕ) (ops ops' : List ℕ) → (t ≡ true → ops ≡ ops') → cond t (op ∷ ops) [] ≡ cond t (op ∷ ops') []
@@ -58,12 +58,12 @@ module _ (a : Axis) (f g : Fixed) (sheet : List ℤ) (ef : fixed_seen a f ≡ fi
       by_test (ltb at (length sheet)) (opcode_at sheet at) _ _
       (λ here. turn b at w v (same_from b) ew e (free_here (mixes a) (ltb at (length sheet)) _ _ here free))
 
-  on_entry_lem : (b start : ℕ) (w v : World) → world_seen a w ≡ world_seen a v → Straight a w.state → (call : Call)
+  on_entry_lem : (b start : ℕ) (w v : World) → world_seen a w ≡ world_seen a v → Straight a w.state → (call : Result ⊤ Refusal)
       → none (mixes a) (reached_on_entry (reached_from f sheet b start w) call) ≡ true
       → reached_on_entry (reached_from f sheet b start w) call ≡ reached_on_entry (reached_from g sheet b start v) call
   unfolding reached_on_entry
-  on_entry_lem b start w v ew e Done free = same_from b start w v ew e free
-  on_entry_lem b start w v ew e (RefusedCall why) free = refl
+  on_entry_lem b start w v ew e (Ok tt) free = same_from b start w v ew e free
+  on_entry_lem b start w v ew e (Err why) free = refl
 
 -- the runs of `axes_apart`
 pub same_lines : (a : Axis) (f g : Fixed) (sheet : List ℤ) (budget start : ℕ) (w v : World) → fixed_seen a f ≡ fixed_seen a g → world_seen a w ≡ world_seen a v

@@ -1,5 +1,8 @@
 -- One line of a sheet seen along an axis: what is read off the sheet hangs on the sheet and the loop counter, and the line that is read is the one whose
 -- opcode stands there. Assumes nothing.
+use Rattle.opcodes.specs.declared.Operands.{Operands}
+use Rattle.opcodes.specs.Decode.{decode_by, decode_of, operands}
+use Rattle.std.specs.Prelude.{Err, Result, Ok}
 use mathlib.Core.Bool.{Bool, ◌&&◌, cond, false, not, true}
 use mathlib.Core.List.{List, [], ◌∷◌}
 use Prim.Native.Nat.{◌+◌, ◌-◌, ℕ}
@@ -8,15 +11,11 @@ use lib.ListN.{drop, get_or, length, take}
 use lib.Dec.{eqb, ltb}
 use lib.IntN.{pos, ℤ}
 use Rattle.flags.specs.declared.Axis.{Axis}
-use Rattle.opcodes.specs.declared.Decoded.{Decoded}
 use Rattle.line.specs.World.{Fixed, World}
-use Rattle.opcodes.specs.declared.Decoded.TheVariants.{Operands, Refused as RefusedLine}
 use Rattle.answer.specs.declared.Refusal.{Refusal}
 use Rattle.answer.specs.declared.Refusal.TheVariants.{Line, Surplus}
-use Rattle.answer.specs.declared.Call.TheVariants.{Refused as RefusedCall}
 use Rattle.laws_axes.specs.Axes.{Straight, fixed_seen, mixes, world_seen}
 use Rattle.run_step.specs.Step.{Went, landed_in, on_decoded, step_of}
-use Rattle.opcodes.specs.Decode.{decode_by, decode_of}
 use Rattle.opcodes.specs.Table.{need_of, operands_of, row_of, unknown}
 use Rattle.int.specs.Word.{index_of}
 use Rattle.laws_axes.proofs.Table.{line_seen, line_straight}
@@ -25,15 +24,15 @@ use Rattle.laws_axes.proofs.Steps.{world_again}
 use Rattle.int.proofs.Tests.{either}
 
 -- ---- the opcode that is read
-unfoldable pub Named : ℕ → Decoded → Type 0
-Named op (Operands read first end) = read ≡ op
-Named op (RefusedLine why) = Unit {0}
+unfoldable pub Named : ℕ → Result Operands Refusal → Type 0
+Named op (Ok line) = line.opcode ≡ op
+Named op (Err why) = Unit {0}
 
-nothing_read : (op : ℕ) (why : Refusal) → Named op (RefusedLine why)
+nothing_read : (op : ℕ) (why : Refusal) → Named op (Err why)
 unfolding Named
 nothing_read op why = tt
 
-its_own : (op first end : ℕ) → Named op (Operands op first end)
+its_own : (op first end : ℕ) → Named op (Ok (operands op first end))
 unfolding Named
 its_own op first end = refl
 
@@ -57,12 +56,12 @@ all_named sheet counter at =
 abbrev pub went_seen : Axis → Went → Went
 went_seen a g = record { call = g.call; place = g.place; world = world_seen a g.world }
 
-on_seen : (a : Axis) (f : Fixed) (sheet : List ℤ) (at : ℕ) (w : World) → Straight a w.state → (op : ℕ) → mixes a op ≡ false → (d : Decoded) → Named op d
+on_seen : (a : Axis) (f : Fixed) (sheet : List ℤ) (at : ℕ) (w : World) → Straight a w.state → (op : ℕ) → mixes a op ≡ false → (d : Result Operands Refusal) → Named op d
     → went_seen a (on_decoded (fixed_seen a f) sheet at (world_seen a w) d) ≡ went_seen a (on_decoded f sheet at w d)
 unfolding on_decoded Named
-on_seen a f sheet at w e op m (Operands read first end) n =
-    ap (landed_in at end) (line_seen a f read (take (end - first) (drop first sheet)) w e (ap (mixes a) n ∙ m))
-on_seen a f sheet at w e op m (RefusedLine why) n = ap (λ (v : World). record { call = RefusedCall why; place = at; world = v }) (world_again a w).seen
+on_seen a f sheet at w e op m (Ok line) n =
+    ap (landed_in at line.end) (line_seen a f line.opcode (take (line.end - line.first) (drop line.first sheet)) w e (ap (mixes a) n ∙ m))
+on_seen a f sheet at w e op m (Err why) n = ap (λ (v : World). record { call = Err why; place = at; world = v }) (world_again a w).seen
 
 pub step_seen : (a : Axis) (f : Fixed) (sheet : List ℤ) (at : ℕ) (w : World) → Straight a w.state → mixes a (opcode_at sheet at) ≡ false
     → went_seen a (step_of (fixed_seen a f) sheet at (world_seen a w)) ≡ went_seen a (step_of f sheet at w)
@@ -70,11 +69,11 @@ unfolding step_of
 step_seen a f sheet at w e m =
     on_seen a f sheet at w e (opcode_at sheet at) m (decode_of sheet w.state.loop_counter at) (all_named sheet w.state.loop_counter at)
 
-on_straight : (a : Axis) (f : Fixed) (sheet : List ℤ) (at : ℕ) (w : World) → Straight a w.state → (op : ℕ) → mixes a op ≡ false → (d : Decoded) → Named op d
+on_straight : (a : Axis) (f : Fixed) (sheet : List ℤ) (at : ℕ) (w : World) → Straight a w.state → (op : ℕ) → mixes a op ≡ false → (d : Result Operands Refusal) → Named op d
     → Straight a (on_decoded f sheet at w d).world.state
 unfolding on_decoded Named
-on_straight a f sheet at w e op m (Operands read first end) n = line_straight a f read (take (end - first) (drop first sheet)) w e (ap (mixes a) n ∙ m)
-on_straight a f sheet at w e op m (RefusedLine why) n = e
+on_straight a f sheet at w e op m (Ok line) n = line_straight a f line.opcode (take (line.end - line.first) (drop line.first sheet)) w e (ap (mixes a) n ∙ m)
+on_straight a f sheet at w e op m (Err why) n = e
 
 pub step_straight : (a : Axis) (f : Fixed) (sheet : List ℤ) (at : ℕ) (w : World) → Straight a w.state → mixes a (opcode_at sheet at) ≡ false
     → Straight a (step_of f sheet at w).world.state

@@ -1,5 +1,6 @@
 -- What is seen along an axis, law by law: a list keeps its length, a place along it is read as it is, a distance along it reads no other
 -- coordinate, and a move changes what is seen by what is seen. Assumes nothing.
+use Rattle.std.specs.Prelude.{Result, Ok, Err}
 use mathlib.Core.Bool.{Bool, cond, false, true}
 use mathlib.Core.List.{List}
 use mathlib.Core.Path.{◌∙◌, ◌≡◌, ap, ap₂, refl, sym}
@@ -7,10 +8,7 @@ use lib.ListN.{get_or, length, length-replicate, length-set, replicate, set}
 use lib.Dec.{ltb}
 use lib.IntN.{pos, ℤ}
 use Prim.Native.Nat.{suc, zero, ℕ}
-use Rattle.zone.specs.declared.Fetched.TheVariants.{At, Refused as RefusedPlace}
 use Rattle.flags.specs.declared.Axis.{Axis}
-use Rattle.answer.specs.declared.Call.TheVariants.{Done, Refused}
-use Rattle.zone.specs.declared.Fetched.{Fetched}
 use Rattle.moves.specs.declared.Move.{Move}
 use Rattle.moves.specs.Apply.{Moved, apply_of, moved}
 use Rattle.answer.specs.declared.Refusal.TheVariants.{Point}
@@ -25,8 +23,6 @@ use Rattle.zone.specs.Zone.{fetch_of, or_at, place_of}
 use Rattle.laws_axes.specs.Axes.{leveled, unit_of, x_seen, y_seen}
 use Rattle.moves.specs.Move.{moved_at}
 use Rattle.moves.specs.Displacement.{displaced_at, displaced_from, displaced_in, displacement, displacement_of, scaled_to}
-use Rattle.moves.specs.declared.Displaced.TheVariants.{By}
-use Rattle.moves.specs.declared.Displaced.TheVariants.{Refused as RefusedDisplacement}
 use Rattle.moves.specs.declared.Reference.{Reference}
 use Rattle.graphics.specs.declared.ZonePointer.TheVariants.{Glyph, Twilight}
 use Rattle.graphics.specs.declared.ZonePointer.{ZonePointer}
@@ -60,9 +56,9 @@ abbrev pub place_seen : Axis → Vector → Vector
 place_seen X p = record { x = p.x; y = pos 0 }
 place_seen Y p = record { x = pos 0; y = p.y }
 
-abbrev pub fetched_seen : Axis → Fetched → Fetched
-fetched_seen a (At p) = At (place_seen a p)
-fetched_seen a (RefusedPlace why) = RefusedPlace why
+abbrev pub fetched_seen : Axis → Result Vector Refusal → Result Vector Refusal
+fetched_seen a (Ok p) = Ok (place_seen a p)
+fetched_seen a (Err why) = Err why
 
 level_read : (n at : ℕ) → get_or (replicate n (pos 0)) at (pos 0) ≡ pos 0
 level_read zero at = refl
@@ -74,14 +70,14 @@ place_seen_lem X xs ys at = ap (λ (z : ℤ). record { x = get_or xs at (pos 0);
 place_seen_lem Y xs ys at = ap (λ (z : ℤ). record { x = z; y = get_or ys at (pos 0) }) (level_read (length xs) at)
 
 fetched_by : (a : Axis) (t : Bool) (p : Vector) (why : Refusal)
-    → cond t (At (place_seen a p)) (RefusedPlace why) ≡ fetched_seen a (cond t (At p) (RefusedPlace why))
+    → cond t (Ok (place_seen a p)) (Err why) ≡ fetched_seen a (cond t (Ok p) (Err why))
 fetched_by a true p why = refl
 fetched_by a false p why = refl
 
 pub fetch_seen : (a : Axis) (xs ys : List ℤ) (at : ℕ) → fetch_of (x_seen a xs) (y_seen a ys) at ≡ fetched_seen a (fetch_of xs ys at)
 unfolding fetch_of
 fetch_seen a xs ys at =
-    ap₂ (λ (n : ℕ) (p : Vector). cond (ltb at n) (At p) (RefusedPlace (Point at))) (x_length a xs) (place_seen_lem a xs ys at)
+    ap₂ (λ (n : ℕ) (p : Vector). cond (ltb at n) (Ok p) (Err (Point at))) (x_length a xs) (place_seen_lem a xs ys at)
     ∙ fetched_by a (ltb at (length xs)) (place_of xs ys at) (Point at)
 
 -- ---- distances
@@ -114,15 +110,15 @@ moved_seen a m = moved m.call (x_seen a m.xs) (y_seen a m.ys) m.flags
 apply_by : (a : Axis) (m : Move) (at : ℕ) (xs ys : List ℤ) (flags : List ℕ) (t : Bool)
     → moved_seen a
     (cond t
-    (moved Done (moved_at (x_seen a xs) at m.dx m.moves_x) (moved_at (y_seen a ys) at m.dy m.moves_y) (or_at flags at m.touch))
-    (moved (Refused (Point at)) (x_seen a xs) (y_seen a ys) flags))
+    (moved (Ok tt) (moved_at (x_seen a xs) at m.dx m.moves_x) (moved_at (y_seen a ys) at m.dy m.moves_y) (or_at flags at m.touch))
+    (moved (Err (Point at)) (x_seen a xs) (y_seen a ys) flags))
     ≡ moved_seen a
     (cond t
-    (moved Done (moved_at xs at m.dx m.moves_x) (moved_at ys at m.dy m.moves_y) (or_at flags at m.touch))
-    (moved (Refused (Point at)) xs ys flags))
+    (moved (Ok tt) (moved_at xs at m.dx m.moves_x) (moved_at ys at m.dy m.moves_y) (or_at flags at m.touch))
+    (moved (Err (Point at)) xs ys flags))
 apply_by a m at xs ys flags true =
-    ap₂ (λ (u v : List ℤ). moved Done u v (or_at flags at m.touch)) (x_moved a xs at m.dx m.moves_x) (y_moved a ys at m.dy m.moves_y)
-apply_by a m at xs ys flags false = ap₂ (λ (u v : List ℤ). moved (Refused (Point at)) u v flags) (x_again a xs) (y_again a ys)
+    ap₂ (λ (u v : List ℤ). moved (Ok tt) u v (or_at flags at m.touch)) (x_moved a xs at m.dx m.moves_x) (y_moved a ys at m.dy m.moves_y)
+apply_by a m at xs ys flags false = ap₂ (λ (u v : List ℤ). moved (Err (Point at)) u v flags) (x_again a xs) (y_again a ys)
 
 pub apply_seen : (a : Axis) (m : Move) (at : ℕ) (xs ys : List ℤ) (flags : List ℕ)
     → moved_seen a (apply_of m at (x_seen a xs) (y_seen a ys) flags) ≡ moved_seen a (apply_of m at xs ys flags)
@@ -131,8 +127,8 @@ apply_seen a m at xs ys flags =
     ap
     (λ (n : ℕ). moved_seen a
     (cond (ltb at n)
-    (moved Done (moved_at (x_seen a xs) at m.dx m.moves_x) (moved_at (y_seen a ys) at m.dy m.moves_y) (or_at flags at m.touch))
-    (moved (Refused (Point at)) (x_seen a xs) (y_seen a ys) flags)))
+    (moved (Ok tt) (moved_at (x_seen a xs) at m.dx m.moves_x) (moved_at (y_seen a ys) at m.dy m.moves_y) (or_at flags at m.touch))
+    (moved (Err (Point at)) (x_seen a xs) (y_seen a ys) flags)))
     (x_length a xs)
     ∙ apply_by a m at xs ys flags (ltb at (length xs))
 
@@ -154,12 +150,12 @@ displacement_seen : (a : Axis) (v : Vectors) → v ≡ all_along (unit_of a) →
 unfolding displacement_of
 displacement_seen a v e p q = ap (scaled_to v) (project_seen a v e p q)
 
-from_seen : (a : Axis) (v : Vectors) → v ≡ all_along (unit_of a) → (p : Reference) (original current : Fetched)
+from_seen : (a : Axis) (v : Vectors) → v ≡ all_along (unit_of a) → (p : Reference) (original current : Result Vector Refusal)
     → displaced_from v p (fetched_seen a original) (fetched_seen a current) ≡ displaced_from v p original current
-from_seen a v e p (At o) (At c) = ap (λ (d : Vector). By (displacement p d)) (displacement_seen a v e c o)
-from_seen a v e p (RefusedPlace why) (At c) = refl
-from_seen a v e p (At o) (RefusedPlace why) = refl
-from_seen a v e p (RefusedPlace other) (RefusedPlace why) = refl
+from_seen a v e p (Ok o) (Ok c) = ap (λ (d : Vector). Ok (displacement p d)) (displacement_seen a v e c o)
+from_seen a v e p (Err why) (Ok c) = refl
+from_seen a v e p (Ok o) (Err why) = refl
+from_seen a v e p (Err other) (Err why) = refl
 
 at_seen : (a : Axis) (v : Vectors) → v ≡ all_along (unit_of a) → (p : Reference) (ox oy cx cy : List ℤ)
     → displaced_at v p (x_seen a ox) (y_seen a oy) (x_seen a cx) (y_seen a cy) ≡ displaced_at v p ox oy cx cy

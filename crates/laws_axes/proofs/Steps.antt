@@ -1,5 +1,6 @@
 -- The steps of a line, seen along an axis: from worlds that look alike they come to outcomes that look alike, where the rest of the line does. Assumes
 -- nothing.
+use Rattle.std.specs.Prelude.{⊤, Result, Ok, Err}
 use Prim.Native.Nat.{ℕ, suc, zero}
 use mathlib.Core.Bool.{Bool}
 use mathlib.Core.List.{List, [], ◌∷◌}
@@ -9,8 +10,6 @@ use lib.Dec.{ltb}
 use lib.IntN.{ℤ, pos}
 use lib.ListN.{get_or, length, set}
 use Rattle.round.specs.declared.Tracked.{Tracked}
-use Rattle.answer.specs.declared.Call.TheVariants.{Done, Refused}
-use Rattle.answer.specs.declared.Call.{Call}
 use Rattle.answer.specs.declared.Refusal.TheVariants.{ControlValue, Missing}
 use Rattle.answer.specs.declared.Refusal.{Refusal}
 use Rattle.laws_axes.proofs.Seen.{apply_seen, fetch_seen, fetched_seen, moved_seen, place_seen_lem, place_seen, project_seen, seen_by_test, x_again, x_set, y_again, y_set}
@@ -32,9 +31,6 @@ use Rattle.line.specs.Places.{fetch_in, place_in}
 use Rattle.projection.specs.Projection.{project_of}
 use Rattle.line.specs.World.{Fixed, Lined, World, lined, world}
 use Rattle.zone.specs.Zone.{Marked, place_of}
-use Rattle.zone.specs.declared.Fetched.TheVariants.{At}
-use Rattle.zone.specs.declared.Fetched.TheVariants.{Refused as RefusedPlace}
-use Rattle.zone.specs.declared.Fetched.{Fetched}
 
 -- ---- alike
 pub record Alike (a : Axis) (v w : World) : Type 0 where
@@ -73,7 +69,7 @@ module _ (a : Axis) {v w : World} (e : Alike a v w) where
   control_seen f entry rest rest' h = seen_by_test (lined_seen a) (ltb entry (length f.controls)) (h (get_or f.controls entry (pos 0))) (refused_seen (ControlValue entry))
 
 -- ---- points
-abbrev fetched_in : ZonePointer → ℕ → World → Fetched
+abbrev fetched_in : ZonePointer → ℕ → World → Result Vector Refusal
 fetched_in zone at w = fetch_in at w.gx w.gy w.tx w.ty zone
 
 fetch_in_seen : (a : Axis) (zone : ZonePointer) (at : ℕ) (w : World) → fetched_in zone at (world_seen a w) ≡ fetched_seen a (fetched_in zone at w)
@@ -82,11 +78,11 @@ fetch_in_seen a Glyph at w = fetch_seen a w.gx w.gy at
 fetch_in_seen a Twilight at w = fetch_seen a w.tx w.ty at
 
 module _ (a : Axis) (out out' : Refusal → Lined) (rest rest' : Vector → Lined) (outside : (why : Refusal) → Same a (out why) (out' why)) (there : (p q : Vector) → place_seen a p ≡ place_seen a q → Same a (rest p) (rest' q)) where
-  pub by_fetched_seen : (g h : Fetched) → fetched_seen a g ≡ fetched_seen a h → Same a (by_fetched out rest g) (by_fetched out' rest' h)
-  by_fetched_seen (At p) (At q) e = there p q (cc)
-  by_fetched_seen (RefusedPlace why) (RefusedPlace why') e = outside why ∙ ap (λ (y : Refusal). lined_seen a (out' y)) (cc)
-  by_fetched_seen (At p) (RefusedPlace why) e = let z : ◌≡◌ {A = ℕ} 0 1 = cc in absurd (omega arith)
-  by_fetched_seen (RefusedPlace why) (At q) e = let z : ◌≡◌ {A = ℕ} 0 1 = cc in absurd (omega arith)
+  pub by_fetched_seen : (g h : Result Vector Refusal) → fetched_seen a g ≡ fetched_seen a h → Same a (by_fetched out rest g) (by_fetched out' rest' h)
+  by_fetched_seen (Ok p) (Ok q) e = there p q (cc)
+  by_fetched_seen (Err why) (Err why') e = outside why ∙ ap (λ (y : Refusal). lined_seen a (out' y)) (cc)
+  by_fetched_seen (Ok p) (Err why) e = let z : ◌≡◌ {A = ℕ} 0 1 = cc in absurd (omega arith)
+  by_fetched_seen (Err why) (Ok q) e = let z : ◌≡◌ {A = ℕ} 0 1 = cc in absurd (omega arith)
 
   pub point_seen : (zone : ZonePointer) (at : ℕ) {v w : World} → Alike a v w → Same a (point_or zone at v out rest) (point_or zone at w out' rest')
   unfolding point_or
@@ -141,15 +137,15 @@ applied_level a Twilight m at w =
     ∙ ap (on_twilight (world_seen a w)) (apply_seen a m at w.tx w.ty w.tflags)
 
 module _ (a : Axis) (rest rest' : World → Lined) (there : (v w : World) → Alike a v w → Same a (rest v) (rest' w)) where
-  by_call_seen : (call : Call) (v w : World) → Alike a v w → Same a (by_call v rest call) (by_call w rest' call)
-  by_call_seen Done v w e = there v w e
-  by_call_seen (Refused why) v w e = refused_seen a e why
+  by_call_seen : (call : Result ⊤ Refusal) (v w : World) → Alike a v w → Same a (by_call v rest call) (by_call w rest' call)
+  by_call_seen (Ok tt) v w e = there v w e
+  by_call_seen (Err why) v w e = refused_seen a e why
 
   -- after what was said alike of worlds that look alike
   pub after_seen : (l k : Lined) → Same a l k → Same a (by_call l.world rest l.call) (by_call k.world rest' k.call)
   after_seen l k e =
       by_call_seen l.call l.world k.world (record { seen = ap (λ (x : Lined). x.world) e })
-      ∙ ap (λ (call : Call). lined_seen a (by_call k.world rest' call)) (ap (λ (x : Lined). x.call) e)
+      ∙ ap (λ (call : Result ⊤ Refusal). lined_seen a (by_call k.world rest' call)) (ap (λ (x : Lined). x.call) e)
 
   pub laid_seen : (zone : ZonePointer) (m : Move) (at : ℕ) {v w : World} → Alike a v w → Same a (laid_in zone m at v rest) (laid_in zone m at w rest')
   unfolding laid_in
@@ -209,15 +205,15 @@ module _ (a : Axis) (step step' : ℤ → World → Lined) (alike : (z : ℤ) (v
     (still : (z : ℤ) (w : World) → (step' z w).world.state ≡ w.state) where
   -- the rest of two loops, after a step that said the same
   rest_seen : (rest rest' : World → Lined) → ((v w : World) → Alike a v w → Straight a w.state → Same a (rest v) (rest' w))
-      → (call : Call) (v w : World) → Alike a v w → Straight a w.state → Same a (by_call v rest call) (by_call w rest' call)
-  rest_seen rest rest' h Done v w e straight = h v w e straight
-  rest_seen rest rest' h (Refused why) v w e straight = refused_seen a e why
+      → (call : Result ⊤ Refusal) (v w : World) → Alike a v w → Straight a w.state → Same a (by_call v rest call) (by_call w rest' call)
+  rest_seen rest rest' h (Ok tt) v w e straight = h v w e straight
+  rest_seen rest rest' h (Err why) v w e straight = refused_seen a e why
 
   next_seen : (rest rest' : World → Lined) → ((v w : World) → Alike a v w → Straight a w.state → Same a (rest v) (rest' w))
       → (l k : Lined) → Same a l k → Straight a k.world.state → Same a (by_call l.world rest l.call) (by_call k.world rest' k.call)
   next_seen rest rest' h l k same straight =
       rest_seen rest rest' h l.call l.world k.world (record { seen = ap (λ (x : Lined). x.world) same }) straight
-      ∙ ap (λ (call : Call). lined_seen a (by_call k.world rest' call)) (ap (λ (x : Lined). x.call) same)
+      ∙ ap (λ (call : Result ⊤ Refusal). lined_seen a (by_call k.world rest' call)) (ap (λ (x : Lined). x.call) same)
 
   pub each_alike : (n : ℕ) (operands : List ℤ) (v w : World) → Alike a v w → Straight a w.state → Same a (each_in step n operands v) (each_in step' n operands w)
   unfolding each_in

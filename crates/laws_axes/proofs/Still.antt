@@ -1,5 +1,8 @@
 -- Demand 3, the second half: a run whose vectors lie along an axis, where no line reached mixes the axes or interpolates across, leaves every glyph point's
 -- coordinate and touch mark across the axis, refused or not. Line by line: each leaves them, and leaves the vectors along the axis. Assumes nothing.
+use Rattle.opcodes.specs.declared.Operands.{Operands}
+use Rattle.std.specs.Prelude.{⊤, Result, Ok, Err}
+use Rattle.answer.specs.declared.Refusal.{Refusal}
 use mathlib.Core.Bool.{Bool, ◌&&◌, ◌||◌, cond, false, not, true}
 use mathlib.Core.List.{List, [], ◌∷◌, map}
 use Prim.Native.Nat.{◌-◌, suc, zero, ℕ}
@@ -9,11 +12,7 @@ use lib.Dec.{ltb}
 use borrow.Author.Tests.{not-true}
 use lib.IntN.{ℤ}
 use Rattle.flags.specs.declared.Axis.{Axis}
-use Rattle.answer.specs.declared.Call.{Call}
-use Rattle.opcodes.specs.declared.Decoded.{Decoded}
-use Rattle.answer.specs.declared.Call.TheVariants.{Done, Refused as RefusedCall}
 use Rattle.line.specs.World.{Fixed, World}
-use Rattle.opcodes.specs.declared.Decoded.TheVariants.{Operands, Refused as RefusedLine}
 use Rattle.run_lines.specs.Onward.{Ran, on_call, on_went, replay_of}
 use Rattle.replay.specs.Run.{entered, on_entry as runOnEntry, run_of}
 use Rattle.run_step.specs.Step.{on_decoded, step_of}
@@ -30,13 +29,13 @@ use Rattle.laws_axes.proofs.Table.{line_still, or_left, or_right}
 use Rattle.laws_axes.proofs.RunSteps.{Named, all_named, free_here, step_straight}
 use Rattle.laws_axes.proofs.Across.{works_across}
 
-on_still : (a : Axis) (f : Fixed) (sheet : List ℤ) (at : ℕ) (w : World) → Straight a w.state → (op : ℕ) → works_across a op ≡ false → (d : Decoded) → Named op d
+on_still : (a : Axis) (f : Fixed) (sheet : List ℤ) (at : ℕ) (w : World) → Straight a w.state → (op : ℕ) → works_across a op ≡ false → (d : Result Operands Refusal) → Named op d
     → StillSince a w (on_decoded f sheet at w d).world
 unfolding on_decoded Named
-on_still a f sheet at w e op m (Operands read first end) n =
+on_still a f sheet at w e op m (Ok line) n =
     let it = ap (works_across a) n ∙ m in
-    line_still a f read (take (end - first) (drop first sheet)) w e (or_left (mixes a read) (interpolates_across a read) it) (or_right (mixes a read) (interpolates_across a read) it)
-on_still a f sheet at w e op m (RefusedLine why) n = stays a w.gx w.gy w.gflags
+    line_still a f line.opcode (take (line.end - line.first) (drop line.first sheet)) w e (or_left (mixes a line.opcode) (interpolates_across a line.opcode) it) (or_right (mixes a line.opcode) (interpolates_across a line.opcode) it)
+on_still a f sheet at w e op m (Err why) n = stays a w.gx w.gy w.gflags
 
 step_still : (a : Axis) (f : Fixed) (sheet : List ℤ) (at : ℕ) (w : World) → Straight a w.state → works_across a (opcode_at sheet at) ≡ false
     → StillSince a w (step_of f sheet at w).world
@@ -51,12 +50,12 @@ module _ (a : Axis) (f : Fixed) (sheet : List ℤ) where
 
   after : (b n : ℕ) → ((at : ℕ) (x : World) → Straight a x.state → none (works_across a) (reached_from f sheet b at x) ≡ true
       → StillSince a x (replay_of f sheet b (suc n) at x).world)
-      → (w : World) (call : Call) (place : ℕ) (x : World) → StillSince a w x → Straight a x.state
+      → (w : World) (call : Result ⊤ Refusal) (place : ℕ) (x : World) → StillSince a w x → Straight a x.state
       → none (works_across a) (after_call (reached_from f sheet b) place x call) ≡ true
       → StillSince a w (on_call (replay_of f sheet b (suc n)) n place x call).world
   unfolding on_call after_call
-  after b n ih w Done place x k e free = then (ih place x e free) k
-  after b n ih w (RefusedCall why) place x k e free = k
+  after b n ih w (Ok tt) place x k e free = then (ih place x e free) k
+  after b n ih w (Err why) place x k e free = k
 
   turn : (b n at : ℕ) (w : World) → ((p : ℕ) (x : World) → Straight a x.state → none (works_across a) (reached_from f sheet b p x) ≡ true
       → StillSince a x (replay_of f sheet b (suc n) p x).world)
@@ -80,12 +79,12 @@ module _ (a : Axis) (f : Fixed) (sheet : List ℤ) where
       (λ here. turn b n at w (λ p x. replay_still b (suc n) p x) e (free_here (works_across a) (ltb at (length sheet)) _ _ here free))
       (stays a w.gx w.gy w.gflags)
 
-entry_still : (a : Axis) (f : Fixed) (sheet : List ℤ) (budget start : ℕ) (w : World) → Straight a w.state → (call : Call)
+entry_still : (a : Axis) (f : Fixed) (sheet : List ℤ) (budget start : ℕ) (w : World) → Straight a w.state → (call : Result ⊤ Refusal)
     → none (works_across a) (reached_on_entry (reached_from f sheet budget start w) call) ≡ true
     → StillSince a w (runOnEntry f sheet budget start w call).world
 unfolding runOnEntry reached_on_entry
-entry_still a f sheet budget start w e Done free = replay_still a f sheet budget 0 start w e free
-entry_still a f sheet budget start w e (RefusedCall why) free = stays a w.gx w.gy w.gflags
+entry_still a f sheet budget start w e (Ok tt) free = replay_still a f sheet budget 0 start w e free
+entry_still a f sheet budget start w e (Err why) free = stays a w.gx w.gy w.gflags
 
 -- no glyph point's coordinate or touch mark across the axis has changed
 pub across_still : (a : Axis) (f : Fixed) (sheet : List ℤ) (budget start : ℕ) (w : World) → Straight a w.state

@@ -1,8 +1,7 @@
 -- Which lines a run reaches and how many, and when two runs end alike along an axis: document 01, demand 3. Assumes nothing.
-use Rattle.std.specs.Prelude.{◌≡◌, Bool, true, cond, not, ◌&&◌, List, [], ◌∷◌, ℕ, zero, suc, ltb, ℤ, pos, length, get_or}
+use Rattle.answer.specs.declared.Refusal.{Refusal}
+use Rattle.std.specs.Prelude.{◌≡◌, Bool, true, cond, not, ◌&&◌, List, [], ◌∷◌, ℕ, zero, suc, ltb, ℤ, pos, length, get_or, ⊤, Result, Ok, Err}
 use Rattle.int.specs.Word.{index_of}
-use Rattle.answer.specs.declared.Call.{Call}
-use Rattle.answer.specs.declared.Call.TheVariants.{Done, Refused}
 use Rattle.line.specs.World.{Fixed, World}
 use Rattle.laws_axes.specs.Axes.{world_seen}
 use Rattle.flags.specs.declared.Axis.{Axis}
@@ -18,9 +17,9 @@ abbrev pub opcode_at : List ℤ → ℕ → ℕ
 opcode_at sheet at = index_of (get_or sheet at (pos 0))
 
 -- a line that is refused is reached, and none after it
-unfoldable pub after_call : (ℕ → World → List ℕ) → ℕ → World → Call → List ℕ
-after_call rest place w Done = rest place w
-after_call rest place w (Refused why) = []
+unfoldable pub after_call : (ℕ → World → List ℕ) → ℕ → World → Result ⊤ Refusal → List ℕ
+after_call rest place w (Ok tt) = rest place w
+after_call rest place w (Err why) = []
 
 abbrev pub after_line : (ℕ → World → List ℕ) → Went → List ℕ
 after_line rest g = after_call rest g.place g.world g.call
@@ -31,9 +30,9 @@ reached_from f sheet zero at w = []
 reached_from f sheet (suc budget) at w =
     cond (ltb at (length sheet)) (opcode_at sheet at ∷ after_line (reached_from f sheet budget) (step_of f sheet at w)) []
 
-unfoldable pub reached_on_entry : List ℕ → Call → List ℕ
-reached_on_entry reached Done = reached
-reached_on_entry reached (Refused why) = []
+unfoldable pub reached_on_entry : List ℕ → Result ⊤ Refusal → List ℕ
+reached_on_entry reached (Ok tt) = reached
+reached_on_entry reached (Err why) = []
 
 -- a run that is refused at its entry reaches no line
 unfoldable pub lines_reached : Fixed → List ℤ → ℕ → ℕ → World → List ℕ
@@ -46,11 +45,11 @@ none such (op ∷ ops) = not (such op) && none such ops
 
 -- how many they are, by what the entry says, the answer and the count: the lines finished, and one more where a line was refused. A run refused
 -- with no line finished was refused by its entry, which reaches none, or by its first line
-unfoldable pub reached_by : Call → Answer → ℕ → ℕ
-reached_by Done Finished finished = finished
-reached_by Done OutOfBudget finished = finished
-reached_by Done (RefusedRun why) finished = suc finished
-reached_by (Refused why) answer finished = 0
+unfoldable pub reached_by : Result ⊤ Refusal → Answer → ℕ → ℕ
+reached_by (Ok tt) Finished finished = finished
+reached_by (Ok tt) OutOfBudget finished = finished
+reached_by (Ok tt) (RefusedRun why) finished = suc finished
+reached_by (Err why) answer finished = 0
 
 -- two runs that end alike along an axis: the answer with its detail, the place, the count, and of the worlds the state, the flags and the coordinates
 -- along the axis, of both zones

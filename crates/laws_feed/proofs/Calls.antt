@@ -1,5 +1,6 @@
 -- Each call by itself: what it tests, what it leaves where it is refused, what it keeps, and that a feed which has ended repeats itself. Assumes
 -- nothing.
+use Rattle.std.specs.Prelude.{⊤, Result, Ok, Err}
 use mathlib.Core.Bool.{Bool, cond, false, true, true≢false, ◌&&◌}
 use mathlib.Core.List.{List, [], ◌++◌, ◌∷◌}
 use mathlib.Core.Path.{◌∙◌, ◌≡◌, ap, refl, subst, sym}
@@ -11,9 +12,6 @@ use lib.Dec.{eqb, leb}
 use lib.IntN.{ℤ}
 use lib.ListN.{drop, length, length-append, length-drop, take}
 use lib.Seq.{drop-append_seam, length-take-le, take-append_seam}
-use Rattle.answer.specs.declared.Call.{Call}
-use Rattle.answer.specs.declared.Call.TheVariants.{Done}
-use Rattle.answer.specs.declared.Call.TheVariants.{Refused as RefusedCall}
 use Rattle.answer.specs.declared.Refusal.{Refusal}
 use Rattle.answer.specs.declared.Refusal.TheVariants.{Line, Sizes}
 use Rattle.contour_ends.specs.Ends.{ends_rise}
@@ -75,25 +73,25 @@ abbrev pub stopped : Said → Fed → List ℤ → World → Left
 stopped said c carry w = record { said = said; base = c.base; held = 0; lines = 0; carry = carry; world = w }
 
 module _ (f : Fixed) (c : Fed) (carry words : List ℤ) (w : World) (o : said_is_open c.said ≡ true) where
-  pub fed_entered : entered_feed f c carry words w ≡ Done → feed_of f c carry words w ≡ handed carry (fed_all f (begun c carry w) words)
+  pub fed_entered : entered_feed f c carry words w ≡ Ok tt → feed_of f c carry words w ≡ handed carry (fed_all f (begun c carry w) words)
   unfolding feed_of fed_on_entry
   fed_entered e = rw (o, e)
 
-  pub fed_refused : {why : Refusal} → entered_feed f c carry words w ≡ RefusedCall why → feed_of f c carry words w ≡ stopped (Refused why) c carry w
+  pub fed_refused : {why : Refusal} → entered_feed f c carry words w ≡ Err why → feed_of f c carry words w ≡ stopped (Refused why) c carry w
   unfolding feed_of fed_on_entry
   fed_refused e = rw (o, e)
 
 module _ (f : Fixed) (c : Fed) (carry : List ℤ) (w : World) (o : said_is_open c.said ≡ true) where
-  pub end_entered : entered_feed f c carry [] w ≡ Done → end_of f c carry w ≡ stopped (cond (eqb c.held 0) Ended (Refused Line)) c carry w
+  pub end_entered : entered_feed f c carry [] w ≡ Ok tt → end_of f c carry w ≡ stopped (cond (eqb c.held 0) Ended (Refused Line)) c carry w
   unfolding end_of ended_on_entry
   end_entered e = rw (o, e)
 
-  pub end_refused : {why : Refusal} → entered_feed f c carry [] w ≡ RefusedCall why → end_of f c carry w ≡ stopped (Refused why) c carry w
+  pub end_refused : {why : Refusal} → entered_feed f c carry [] w ≡ Err why → end_of f c carry w ≡ stopped (Refused why) c carry w
   unfolding end_of ended_on_entry
   end_refused e = rw (o, e)
 
   -- at the end an unfinished line is refused at its place
-  pub unfinished : entered_feed f c carry [] w ≡ Done → 0 < c.held → end_of f c carry w ≡ stopped (Refused Line) c carry w
+  pub unfinished : entered_feed f c carry [] w ≡ Ok tt → 0 < c.held → end_of f c carry w ≡ stopped (Refused Line) c carry w
   unfinished e h = end_entered e ∙ ap (λ (t : Bool). stopped (cond t Ended (Refused Line)) c carry w) (ne_eqb c.held 0 (λ z. omega (arith, h, z)))
 
 -- ---- the sheet limit: the piece that passes it isn't taken
@@ -105,7 +103,7 @@ pub no_room : (base held words : ℕ) (carry : List ℤ) → most_words < base +
 unfolding carry_has_room
 no_room base held words carry h = rw (lt-leb (base + held + words) most_words h) (no_and (leb most_line (length carry) && leb held (length carry) && waits (look_of (take held carry))))
 
-no_sizes : (sized rising usable : Bool) {room : Bool} → room ≡ false → entry_of (sized && room) rising usable true ≡ RefusedCall Sizes
+no_sizes : (sized rising usable : Bool) {room : Bool} → room ≡ false → entry_of (sized && room) rising usable true ≡ Err Sizes
 unfolding entry_of
 no_sizes sized rising usable e = rw (e, no_and sized)
 
@@ -121,11 +119,11 @@ both true true e = (refl, refl)
 both true false e = absurd (true≢false (sym e))
 both false b e = absurd (true≢false (sym e))
 
-abbrev is_done : Call → Bool
-is_done Done = true
-is_done (RefusedCall why) = false
+abbrev is_done : Result ⊤ Refusal → Bool
+is_done (Ok tt) = true
+is_done (Err why) = false
 
-sizes_passed : (sized rising usable starts : Bool) → entry_of sized rising usable starts ≡ Done → sized ≡ true
+sizes_passed : (sized rising usable starts : Bool) → entry_of sized rising usable starts ≡ Ok tt → sized ≡ true
 unfolding entry_of
 sizes_passed true rising usable starts e = refl
 sizes_passed false rising usable starts e = absurd (true≢false (sym (ap is_done e)))
@@ -192,9 +190,9 @@ bounded_some c carry words w g h after =
       all = after.sane.place;
     }
 
-fed_bounded : (f : Fixed) (c : Fed) (carry words : List ℤ) (w : World) (call : Call) → entered_feed f c carry words w ≡ call
+fed_bounded : (f : Fixed) (c : Fed) (carry words : List ℤ) (w : World) (call : Result ⊤ Refusal) → entered_feed f c carry words w ≡ call
     → said_is_open c.said ≡ true → Bounded c carry words (feed_of f c carry words w)
-fed_bounded f c carry words w Done e o =
+fed_bounded f c carry words w (Ok tt) e o =
     let sized = both (world_fits f words w) (carry_has_room c.base c.held (length words) carry) (sizes_passed _ _ _ _ e) in
     let room = room_is c.base c.held (length words) carry sized.1 in
     let n : c.base + length (take c.held carry) ≡ c.base + c.held = ap (λ (i : ℕ). c.base + i) (length-take-le c.held carry room.inside) in
@@ -202,7 +200,7 @@ fed_bounded f c carry words w Done e o =
     record { waiting = room.waiting; kept = all_left w; place = λ _. n; most = omega (arith, n); idle = is_open Open open_said } in
     let after = pushes f w (fits_alike f words w sized.0) (c.base + c.held) (begun c carry w) words sane in
     subst (Bounded c carry words) (sym (fed_entered f c carry words w o e)) (bounded_some c carry words w (fed_all f (begun c carry w) words) room.long after)
-fed_bounded f c carry words w (RefusedCall why) e o =
+fed_bounded f c carry words w (Err why) e o =
     subst (Bounded c carry words) (sym (fed_refused f c carry words w o e)) (bounded_none c carry words why w)
 
 pub carry_bounded : (f : Fixed) (c : Fed) (carry words : List ℤ) (w : World) → said_is_open c.said ≡ true → Bounded c carry words (feed_of f c carry words w)
@@ -213,9 +211,9 @@ pub record EndIs (c : Fed) (carry : List ℤ) (w : World) (l : Left) : Type 0 wh
   pub said : Said
   pub is : l ≡ stopped said c carry w
 
-ended_by : (f : Fixed) (c : Fed) (carry : List ℤ) (w : World) (call : Call) → entered_feed f c carry [] w ≡ call → said_is_open c.said ≡ true → EndIs c carry w (end_of f c carry w)
-ended_by f c carry w Done e o = record { said = cond (eqb c.held 0) Ended (Refused Line); is = end_entered f c carry w o e }
-ended_by f c carry w (RefusedCall why) e o = record { said = Refused why; is = end_refused f c carry w o e }
+ended_by : (f : Fixed) (c : Fed) (carry : List ℤ) (w : World) (call : Result ⊤ Refusal) → entered_feed f c carry [] w ≡ call → said_is_open c.said ≡ true → EndIs c carry w (end_of f c carry w)
+ended_by f c carry w (Ok tt) e o = record { said = cond (eqb c.held 0) Ended (Refused Line); is = end_entered f c carry w o e }
+ended_by f c carry w (Err why) e o = record { said = Refused why; is = end_refused f c carry w o e }
 
 pub end_changes_nothing : (f : Fixed) (c : Fed) (carry : List ℤ) (w : World) → said_is_open c.said ≡ true → EndIs c carry w (end_of f c carry w)
 end_changes_nothing f c carry w o = ended_by f c carry w (entered_feed f c carry [] w) refl o
@@ -235,11 +233,11 @@ pub always_bounded : (f : Fixed) (carry : List ℤ) (w : World) (pieces : List (
 always_bounded f carry w pieces = pieces_held f carry (started carry w) pieces (record { few = omega arith; inside = omega arith; same = refl })
 
 -- ---- a call with words is never the end: 0 is said by the last call alone
-fed_goes_on : (f : Fixed) (c : Fed) (carry words : List ℤ) (w : World) (call : Call) → entered_feed f c carry words w ≡ call → said_is_open c.said ≡ true
+fed_goes_on : (f : Fixed) (c : Fed) (carry words : List ℤ) (w : World) (call : Result ⊤ Refusal) → entered_feed f c carry words w ≡ call → said_is_open c.said ≡ true
     → is_ended (feed_of f c carry words w).said ≡ false
 unfolding is_ended
-fed_goes_on f c carry words w Done e o = ap (λ (l : Left). is_ended l.said) (fed_entered f c carry words w o e) ∙ goes_on f (begun c carry w) words refl
-fed_goes_on f c carry words w (RefusedCall why) e o = ap (λ (l : Left). is_ended l.said) (fed_refused f c carry words w o e)
+fed_goes_on f c carry words w (Ok tt) e o = ap (λ (l : Left). is_ended l.said) (fed_entered f c carry words w o e) ∙ goes_on f (begun c carry w) words refl
+fed_goes_on f c carry words w (Err why) e o = ap (λ (l : Left). is_ended l.said) (fed_refused f c carry words w o e)
 
 pub only_the_end_ends : (f : Fixed) (c : Fed) (carry words : List ℤ) (w : World) → said_is_open c.said ≡ true → is_ended (feed_of f c carry words w).said ≡ false
 only_the_end_ends f c carry words w o = fed_goes_on f c carry words w (entered_feed f c carry words w) refl o

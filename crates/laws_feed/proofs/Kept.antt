@@ -1,5 +1,7 @@
 -- What the words of a feed leave as it was: what waits is the beginning of a line, every list is as long as it was, a usable state stays usable, and
 -- the words that wait are the last that came. And that the lines finished before don't matter. Assumes nothing.
+use Rattle.std.specs.Prelude.{⊤, Result, Ok, Err}
+use Rattle.answer.specs.declared.Refusal.{Refusal}
 use mathlib.Core.Bool.{Bool, false, true, true≢false}
 use mathlib.Core.List.{List, [], ◌++◌, ◌∷◌, append_assoc, append-nil}
 use mathlib.Core.Path.{◌∙◌, ◌≡◌, ap, refl, subst, sym}
@@ -8,9 +10,6 @@ use native.Mathlib.Nat.{add-zero}
 use native.Mathlib.Omega.{arith}
 use lib.IntN.{ℤ}
 use lib.ListN.{length, length-append}
-use Rattle.answer.specs.declared.Call.{Call}
-use Rattle.answer.specs.declared.Call.TheVariants.{Done}
-use Rattle.answer.specs.declared.Call.TheVariants.{Refused as RefusedCall}
 use Rattle.feed.specs.Feed.{Feeding, after_call, fed_all, going, on_seen, push_by}
 use Rattle.feed_carry.specs.Carry.{said_is_open, waits}
 use Rattle.feed_carry.specs.declared.Said.{Said}
@@ -77,12 +76,12 @@ module _ (f : Fixed) (w : World) (alike : Alike f w) where
   stopped n words said base lines v e p k =
       record { sane = record { waiting = nothing_waits; kept = k; place = not_open said e; most = omega (arith, p); idle = λ o. refl }; last = none_of words }
 
-  by_call : (n base lines : ℕ) (words : List ℤ) (u v : World) (call : Call) → base + length words ≡ n → Left w v
+  by_call : (n base lines : ℕ) (words : List ℤ) (u v : World) (call : Result ⊤ Refusal) → base + length words ≡ n → Left w v
       → Pushed w n words (after_call (going base lines words u) v call)
   unfolding after_call said_is_open
-  by_call n base lines words u v Done p k =
+  by_call n base lines words u v (Ok tt) p k =
       record { sane = record { waiting = nothing_waits; kept = k; place = λ o. add-zero (base + length words) ∙ p; most = omega (arith, p); idle = λ o. refl }; last = none_of words }
-  by_call n base lines words u v (RefusedCall why) p k = stopped n words (Refused why) base lines v refl p k
+  by_call n base lines words u v (Err why) p k = stopped n words (Refused why) base lines v refl p k
 
   by_seen : (n base lines : ℕ) (words : List ℤ) (u : World) (s : Seen) → look_of words ≡ s → base + length words ≡ n → Left w u
       → Pushed w n words (on_seen f (going base lines words u) s)
@@ -136,10 +135,10 @@ is_ended Ended = true
 is_ended Long = false
 is_ended (Refused why) = false
 
-call_goes_on : (base lines : ℕ) (words : List ℤ) (u v : World) (call : Call) → is_ended (after_call (going base lines words u) v call).said ≡ false
+call_goes_on : (base lines : ℕ) (words : List ℤ) (u v : World) (call : Result ⊤ Refusal) → is_ended (after_call (going base lines words u) v call).said ≡ false
 unfolding after_call is_ended
-call_goes_on base lines words u v Done = refl
-call_goes_on base lines words u v (RefusedCall why) = refl
+call_goes_on base lines words u v (Ok tt) = refl
+call_goes_on base lines words u v (Err why) = refl
 
 seen_goes_on : (f : Fixed) (base lines : ℕ) (words : List ℤ) (u : World) (s : Seen) → is_ended (on_seen f (going base lines words u) s).said ≡ false
 unfolding on_seen is_ended
@@ -163,11 +162,11 @@ goes_on f g (x ∷ l) h = goes_on f (push_by f g x g.said) l (push_goes_on f g x
 abbrev pub unnumbered : Feeding → Feeding
 unnumbered g = record { said = g.said; base = g.base; lines = 0; pending = g.pending; world = g.world }
 
-call_unnumbered : (base lines : ℕ) (words : List ℤ) (u v : World) (call : Call)
+call_unnumbered : (base lines : ℕ) (words : List ℤ) (u v : World) (call : Result ⊤ Refusal)
     → unnumbered (after_call (going base lines words u) v call) ≡ unnumbered (after_call (going base 0 words u) v call)
 unfolding after_call
-call_unnumbered base lines words u v Done = refl
-call_unnumbered base lines words u v (RefusedCall why) = refl
+call_unnumbered base lines words u v (Ok tt) = refl
+call_unnumbered base lines words u v (Err why) = refl
 
 seen_unnumbered : (f : Fixed) (base lines : ℕ) (words : List ℤ) (u : World) (s : Seen)
     → unnumbered (on_seen f (going base lines words u) s) ≡ unnumbered (on_seen f (going base 0 words u) s)

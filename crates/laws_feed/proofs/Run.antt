@@ -1,4 +1,6 @@
 -- The feed of a sheet's words, ended, is the run of its lines with enough budget: by induction on the budget, a line at a time. Assumes nothing.
+use Rattle.std.specs.Prelude.{⊤, Result, Ok, Err}
+use Rattle.answer.specs.declared.Refusal.{Refusal}
 use mathlib.Core.Bool.{Bool, cond, false, not, true, true≢false}
 use mathlib.Core.List.{List, []}
 use mathlib.Core.Path.{◌∙◌, ◌≡◌, ap, refl, sym}
@@ -10,9 +12,6 @@ use lib.Dec.{eqb, ltb}
 use lib.IntN.{pos, ℤ}
 use lib.ListN.{drop, drop_of_length-le, get_or, length, length-drop, take}
 use lib.Seq.{get_or-drop}
-use Rattle.answer.specs.declared.Call.{Call}
-use Rattle.answer.specs.declared.Call.TheVariants.{Done}
-use Rattle.answer.specs.declared.Call.TheVariants.{Refused as RefusedCall}
 use Rattle.answer.specs.declared.Refusal.TheVariants.{Line}
 use Rattle.feed.proofs.Lines.{line_fed, line_long, line_there, run_line, step_local}
 use Rattle.feed.proofs.Words.{all_wait, are_bad, stays}
@@ -31,7 +30,6 @@ use Rattle.line.specs.World.{Fixed, World}
 use Rattle.opcodes.proofs.Lines.{no_count as decode-no-count, no_opcode as decode-no-opcode, not_known as decode-not-known, too_long as decode-too-long}
 use Rattle.opcodes.specs.Decode.{decode_of}
 use Rattle.opcodes.specs.Table.{need_of, unknown}
-use Rattle.opcodes.specs.declared.Decoded.TheVariants.{Refused as RefusedLine}
 use Rattle.run_lines.proofs.Loop.{at_end}
 use Rattle.run_lines.specs.Onward.{on_call, replay_of}
 use Rattle.run_step.proofs.Steps.{not_read}
@@ -100,7 +98,7 @@ module _ (f : Fixed) (sheet : List ℤ) (small : length sheet ≤ most_words) (b
   there h = omega (arith, h, length-drop at sheet)
 
   -- the run can't read the line
-  run_refused : at < length sheet → decode_of sheet w.state.loop_counter at ≡ RefusedLine Line → run_here ≡ ending (Refused Line) at w
+  run_refused : at < length sheet → decode_of sheet w.state.loop_counter at ≡ Err Line → run_here ≡ ending (Refused Line) at w
   unfolding on_call
   run_refused h e =
       ap ending_of_run
@@ -155,16 +153,16 @@ module _ (f : Fixed) (sheet : List ℤ) (small : length sheet ≤ most_words) (b
   -- a whole line: what follows it is by induction
   module _ (ih : (at' n' m' : ℕ) (v : World) → length (drop at' sheet) ≤ b → counts_short f sheet b at' v ≡ true
       → closes (fed_all f (going at' n' [] v) (drop at' sheet)) ≡ ending_of_run (replay_of f sheet b m' at' v)) (enough : length words ≤ suc b) where
-    by_call : (k : ℕ) (line : List ℤ) (v : World) (call : Call) → length line ≡ k → 0 < k
+    by_call : (k : ℕ) (line : List ℤ) (v : World) (call : Result ⊤ Refusal) → length line ≡ k → 0 < k
         → fed_all f (going at n [] w) words ≡ fed_all f (after_call (going at n line w) v call) (drop (at + k) sheet)
         → on_done (counts_short f sheet b) (record { call = call; place = place_after at (at + k) call; world = v }) call ≡ true
         → fed_here ≡ ending_of_run (on_call (replay_of f sheet b (suc m)) m (place_after at (at + k) call) v call)
     unfolding after_call on_call on_done close_by said_is_open
-    by_call k line v Done long some e s =
+    by_call k line v (Ok tt) long some e s =
         ap closes e
         ∙ ap (λ (i : ℕ). closes (fed_all f (going (at + i) (suc n) [] v) (drop (at + k) sheet))) long
         ∙ ih (at + k) (suc n) (suc m) v (omega (arith, enough, some, length-drop at sheet, length-drop (at + k) sheet)) s
-    by_call k line v (RefusedCall why) long some e s =
+    by_call k line v (Err why) long some e s =
         ap closes (e ∙ stays f (record { said = Refused why; base = at; lines = n; pending = []; world = v }) (drop (at + k) sheet) refl)
 
     by_whole : (k : ℕ) → 0 < k → look_of words ≡ Whole k → on_done (counts_short f sheet b) (step_of f sheet at w) (step_of f sheet at w).call ≡ true → fed_here ≡ run_here

@@ -1,5 +1,6 @@
 -- The cutting theorem: any cutting of a sheet, ended by the last call, comes to what one run over the whole comes to. Each call is entered where the
 -- run is, because lines keep what the entry tests; the feed of the pieces is then the feed of the whole, and that is the run. Assumes nothing.
+use Rattle.std.specs.Prelude.{⊤, Result, Ok, Err}
 use mathlib.Core.Bool.{Bool, cond, false, true, ◌&&◌}
 use mathlib.Core.List.{List, [], ◌++◌, ◌∷◌}
 use mathlib.Core.Path.{◌∙◌, ◌≡◌, ap, ap₂, refl, subst, sym}
@@ -11,9 +12,6 @@ use lib.Dec.{eqb, leb}
 use lib.IntN.{ℤ}
 use lib.ListN.{length, length-append, take}
 use lib.Seq.{length-take-le}
-use Rattle.answer.specs.declared.Call.{Call}
-use Rattle.answer.specs.declared.Call.TheVariants.{Done}
-use Rattle.answer.specs.declared.Call.TheVariants.{Refused as RefusedCall}
 use Rattle.answer.specs.declared.Refusal.{Refusal}
 use Rattle.answer.specs.declared.Refusal.TheVariants.{Line}
 use Rattle.contour_ends.specs.Ends.{ends_rise}
@@ -65,7 +63,7 @@ entry_of_call f l words r =
     ap (λ (s : Bool). entry_of s (ends_rise (length l.world.gx) f.contours) (usable_state l.world.state) true) (sized_call f l words r)
 
 -- it is passed again after lines
-entered_still : (f : Fixed) (w v : World) → LeftOf w v → entered f [] 0 w ≡ Done → entered f [] 0 v ≡ Done
+entered_still : (f : Fixed) (w v : World) → LeftOf w v → entered f [] 0 w ≡ Ok tt → entered f [] 0 v ≡ Ok tt
 unfolding entry_of
 entered_still f w v k e =
     let p = entered_by f [] 0 w e in
@@ -90,8 +88,8 @@ module _ (f : Fixed) (w : World) (n : ℕ) (l : Left) (fine : Fine w n l) where
   begun_is o =
       ap (λ (s : Said). record { said = s; base = l.base; lines = 0; pending = take l.held l.carry; world = l.world }) (sym (open_is l.said o))
 
-  module _ (passed : entered f [] 0 w ≡ Done) where
-    call_entered : said_is_open l.said ≡ true → (words : List ℤ) → n + length words ≤ most_words → entered_feed f (given l) l.carry words l.world ≡ Done
+  module _ (passed : entered f [] 0 w ≡ Ok tt) where
+    call_entered : said_is_open l.said ≡ true → (words : List ℤ) → n + length words ≤ most_words → entered_feed f (given l) l.carry words l.world ≡ Ok tt
     call_entered o words h = entry_of_call f l words (room o words h) ∙ entered_still f w l.world fine.sane.kept passed
 
     record Piece (piece : List ℤ) (m : Left) : Type 0 where
@@ -161,7 +159,7 @@ record Through (f : Fixed) (w : World) (n : ℕ) (l : Left) (words : List ℤ) (
   is : held_in m ≡ unnumbered (fed_all f (held_in l) words)
   next : Fine w (n + length words) m
 
-all_pieces : (f : Fixed) (w : World) → entered f [] 0 w ≡ Done → (n : ℕ) (l : Left) → Fine w n l → (pieces : List (List ℤ)) → n + length (joined pieces) ≤ most_words
+all_pieces : (f : Fixed) (w : World) → entered f [] 0 w ≡ Ok tt → (n : ℕ) (l : Left) → Fine w n l → (pieces : List (List ℤ)) → n + length (joined pieces) ≤ most_words
     → Through f w n l (joined pieces) (fed_through f l pieces)
 all_pieces f w e n l fine [] h =
     let z : n ≡ n + 0 = omega arith in
@@ -187,10 +185,10 @@ close_unnumbered g Long = refl
 close_unnumbered g (Refused why) = refl
 
 module _ (f : Fixed) (carry : List ℤ) (w : World) (long : most_line ≤ length carry) (pieces : List (List ℤ)) (within : length (joined pieces) ≤ most_words) where
-  through : entered f [] 0 w ≡ Done → Through f w 0 (started carry w) (joined pieces) (fed_through f (started carry w) pieces)
+  through : entered f [] 0 w ≡ Ok tt → Through f w 0 (started carry w) (joined pieces) (fed_through f (started carry w) pieces)
   through e = all_pieces f w e 0 (started carry w) (at_start carry w long) pieces (omega (arith, within))
 
-  fed_whole : entered f [] 0 w ≡ Done → ending_of (fed_pieces f (started carry w) pieces) ≡ closes (fed_all f (going 0 0 [] w) (joined pieces))
+  fed_whole : entered f [] 0 w ≡ Ok tt → ending_of (fed_pieces f (started carry w) pieces) ≡ closes (fed_all f (going 0 0 [] w) (joined pieces))
   fed_whole e =
       let t = through e in
       let g = fed_all f (going 0 0 [] w) (joined pieces) in
@@ -201,7 +199,7 @@ module _ (f : Fixed) (carry : List ℤ) (w : World) (long : most_line ≤ length
 
 -- refused at its entry (2, 14 or 3), by the first call, at place 0 and with nothing changed, as the run is; every later call repeats it
 pub refused_at_entry : (f : Fixed) (carry : List ℤ) (w : World) (long : most_line ≤ length carry) (pieces : List (List ℤ)) → length (joined pieces) ≤ most_words → {why : Refusal}
-    → entered f [] 0 w ≡ RefusedCall why → ending_of (fed_pieces f (started carry w) pieces) ≡ ending (Refused why) 0 w
+    → entered f [] 0 w ≡ Err why → ending_of (fed_pieces f (started carry w) pieces) ≡ ending (Refused why) 0 w
 unfolding said_is_open
 refused_at_entry f carry w long [] h e =
     ap ending_of (end_refused f (given (started carry w)) carry w open_said (entry_of_call f (started carry w) [] (first_room f carry w long [] h [] (omega arith)) ∙ e))
@@ -216,14 +214,14 @@ refused_at_entry f carry w long (piece ∷ pieces) h {why} e =
 -- a sheet that is no longer than a sheet may be ends as one run over the whole with a budget of at least its length does, if no count word that the run
 -- reads is above 4,096: the same answer, place, points, flags and state.
 module _ (f : Fixed) (carry : List ℤ) (w : World) (long : most_line ≤ length carry) (pieces : List (List ℤ)) (within : length (joined pieces) ≤ most_words) where
-  whole_by_lem : (budget : ℕ) → length (joined pieces) ≤ budget → (call : Call) → entered f (joined pieces) 0 w ≡ call → short_on_entry f (joined pieces) budget w call ≡ true
+  whole_by_lem : (budget : ℕ) → length (joined pieces) ≤ budget → (call : Result ⊤ Refusal) → entered f (joined pieces) 0 w ≡ call → short_on_entry f (joined pieces) budget w call ≡ true
       → ending_of (fed_pieces f (started carry w) pieces) ≡ ending_of_run (run_of f (joined pieces) budget 0 w)
   unfolding short_on_entry
-  whole_by_lem budget enough Done e s =
+  whole_by_lem budget enough (Ok tt) e s =
       fed_whole f carry w long pieces within (sym (entry_of_run f (joined pieces) w within) ∙ e)
       ∙ from f (joined pieces) within budget 0 0 0 w enough s
       ∙ ap ending_of_run (run_entered f (joined pieces) budget 0 w refl e)
-  whole_by_lem budget enough (RefusedCall why) e s =
+  whole_by_lem budget enough (Err why) e s =
       refused_at_entry f carry w long pieces within (sym (entry_of_run f (joined pieces) w within) ∙ e)
       ∙ ap ending_of_run (not_entered f (joined pieces) budget 0 w refl e)
 
@@ -232,13 +230,13 @@ module _ (f : Fixed) (carry : List ℤ) (w : World) (long : most_line ≤ length
   whole budget enough s = whole_by_lem budget enough (entered f (joined pieces) 0 w) refl s
 
   -- two cuttings of the same words end alike, also where a line is too long (18), and with another carry
-  cutting_by : (carry' : List ℤ) → most_line ≤ length carry' → (pieces' : List (List ℤ)) → joined pieces' ≡ joined pieces → (call : Call) → entered f [] 0 w ≡ call
+  cutting_by : (carry' : List ℤ) → most_line ≤ length carry' → (pieces' : List (List ℤ)) → joined pieces' ≡ joined pieces → (call : Result ⊤ Refusal) → entered f [] 0 w ≡ call
       → ending_of (fed_pieces f (started carry w) pieces) ≡ ending_of (fed_pieces f (started carry' w) pieces')
-  cutting_by carry' long' pieces' same Done e =
+  cutting_by carry' long' pieces' same (Ok tt) e =
       fed_whole f carry w long pieces within e
       ∙ ap (λ (l : List ℤ). closes (fed_all f (going 0 0 [] w) l)) (sym same)
       ∙ sym (fed_whole f carry' w long' pieces' (omega (arith, ap length same, within)) e)
-  cutting_by carry' long' pieces' same (RefusedCall why) e =
+  cutting_by carry' long' pieces' same (Err why) e =
       refused_at_entry f carry w long pieces within e ∙ sym (refused_at_entry f carry' w long' pieces' (omega (arith, ap length same, within)) e)
 
   pub any_cutting : (carry' : List ℤ) → most_line ≤ length carry' → (pieces' : List (List ℤ)) → joined pieces' ≡ joined pieces
@@ -246,7 +244,7 @@ module _ (f : Fixed) (carry : List ℤ) (w : World) (long : most_line ≤ length
   any_cutting carry' long' pieces' same = cutting_by carry' long' pieces' same (entered f [] 0 w) refl
 
   -- and before the end, where the run is entered: what is said, the place, the words that wait and the world depend on the words that came alone
-  pub any_cutting_so_far : entered f (joined pieces) 0 w ≡ Done → (carry' : List ℤ) → most_line ≤ length carry' → (pieces' : List (List ℤ)) → joined pieces' ≡ joined pieces
+  pub any_cutting_so_far : entered f (joined pieces) 0 w ≡ Ok tt → (carry' : List ℤ) → most_line ≤ length carry' → (pieces' : List (List ℤ)) → joined pieces' ≡ joined pieces
       → held_in (fed_through f (started carry w) pieces) ≡ held_in (fed_through f (started carry' w) pieces')
   any_cutting_so_far passed carry' long' pieces' same =
       let e = sym (entry_of_run f (joined pieces) w within) ∙ passed in

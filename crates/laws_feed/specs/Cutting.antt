@@ -1,9 +1,7 @@
 -- A feed as a caller holds it from call to call, how it ends, and what is asked of a sheet whose feed is compared with one run: document 02, K11.
 -- Assumes nothing.
-use Rattle.std.specs.Prelude.{ℕ, suc, zero, ◌+◌, ◌^◌, Bool, not, true, ◌&&◌, List, [], ◌++◌, ◌∷◌, eqb, leb, ltb, pos, ℤ, drop, get_or, length}
-use Rattle.answer.specs.declared.Call.{Call}
-use Rattle.answer.specs.declared.Call.TheVariants.{Done}
-use Rattle.answer.specs.declared.Call.TheVariants.{Refused as RefusedCall}
+use Rattle.answer.specs.declared.Refusal.{Refusal}
+use Rattle.std.specs.Prelude.{ℕ, suc, zero, ◌+◌, ◌^◌, Bool, not, true, ◌&&◌, List, [], ◌++◌, ◌∷◌, eqb, leb, ltb, pos, ℤ, drop, get_or, length, ⊤, Result, Ok, Err}
 use Rattle.int.specs.Word.{index_of}
 use Rattle.line.specs.World.{Fixed, World}
 use Rattle.opcodes.specs.Table.{need_of, unknown}
@@ -78,9 +76,9 @@ long_count words =
     let count = index_of (get_or words 1 (pos 0)) in
     leb 2 (length words) && leb op 255 && not (eqb (need_of op) unknown) && ltb most_operands count && ltb count (2 ^ 31)
 
-unfoldable pub on_done : (ℕ → World → Bool) → Went → Call → Bool
-on_done rest r Done = rest r.place r.world
-on_done rest r (RefusedCall why) = true
+unfoldable pub on_done : (ℕ → World → Bool) → Went → Result ⊤ Refusal → Bool
+on_done rest r (Ok tt) = rest r.place r.world
+on_done rest r (Err why) = true
 
 -- no count word that a run reads from a place on is above 4,096
 unfoldable pub counts_short : Fixed → List ℤ → ℕ → ℕ → World → Bool
@@ -88,9 +86,9 @@ counts_short f sheet zero at w = true
 counts_short f sheet (suc budget) at w =
     not (long_count (drop at sheet)) && on_done (counts_short f sheet budget) (step_of f sheet at w) (step_of f sheet at w).call
 
-unfoldable pub short_on_entry : Fixed → List ℤ → ℕ → World → Call → Bool
-short_on_entry f sheet budget w Done = counts_short f sheet budget 0 w
-short_on_entry f sheet budget w (RefusedCall why) = true
+unfoldable pub short_on_entry : Fixed → List ℤ → ℕ → World → Result ⊤ Refusal → Bool
+short_on_entry f sheet budget w (Ok tt) = counts_short f sheet budget 0 w
+short_on_entry f sheet budget w (Err why) = true
 
 -- of a run from the sheet's first word, which reads none where it is refused at its entry
 abbrev pub reads_short : Fixed → List ℤ → ℕ → World → Bool

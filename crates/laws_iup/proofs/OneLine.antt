@@ -1,4 +1,6 @@
 -- A sheet of one line, IUP on an axis, whatever the budget and the start: what Runs.antt and Rest.antt say of it. Assumes nothing.
+use Rattle.std.specs.Prelude.{⊤, Result, Ok, Err}
+use Rattle.answer.specs.declared.Refusal.{Refusal}
 use mathlib.Core.Bool.{false, true}
 use mathlib.Core.List.{List, []}
 use mathlib.Core.Path.{◌≡◌, ap, refl, subst, sym, ◌∙◌}
@@ -7,8 +9,6 @@ use native.Mathlib.Omega.{arith}
 use lib.Dec.{ltb}
 use lib.IntN.{ℤ}
 use lib.ListN.{length}
-use Rattle.answer.specs.declared.Call.TheVariants.{Done, Refused as RefusedCall}
-use Rattle.answer.specs.declared.Call.{Call}
 use Rattle.contour_ends.specs.Ends.{ends_rise}
 use Rattle.flags.specs.declared.Axis.TheVariants.{X, Y}
 use Rattle.flags.specs.declared.Axis.{Axis}
@@ -33,10 +33,10 @@ use Rattle.laws_iup.proofs.Tests.{one_by}
 
 -- a sheet each word of which is such a code, read anywhere
 module _ (f : Fixed) (sheet : List ℤ) (each : (at : ℕ) → is_another (opcode_at sheet at) ≡ false) where
-  none_after : (b : ℕ) → ((at : ℕ) (w : World) → none is_another (reached_from f sheet b at w) ≡ true) → (place : ℕ) (w : World) (call : Call) → none is_another (after_call (reached_from f sheet b) place w call) ≡ true
+  none_after : (b : ℕ) → ((at : ℕ) (w : World) → none is_another (reached_from f sheet b at w) ≡ true) → (place : ℕ) (w : World) (call : Result ⊤ Refusal) → none is_another (after_call (reached_from f sheet b) place w call) ≡ true
   unfolding after_call
-  none_after b on place w Done = on place w
-  none_after b on place w (RefusedCall why) = refl
+  none_after b on place w (Ok tt) = on place w
+  none_after b on place w (Err why) = refl
 
   none_from : (b at : ℕ) (w : World) → none is_another (reached_from f sheet b at w) ≡ true
   unfolding reached_from
@@ -45,10 +45,10 @@ module _ (f : Fixed) (sheet : List ℤ) (each : (at : ℕ) → is_another (opcod
       let x = step_of f sheet at w in
       one_by (λ (ops : List ℕ). none is_another ops ≡ true) (ltb at (length sheet)) (λ here. rw (each at) (none_after b (none_from b) x.place x.world x.call)) refl
 
-  none_on : (budget start : ℕ) (w : World) (call : Call) → none is_another (reached_on_entry (reached_from f sheet budget start w) call) ≡ true
+  none_on : (budget start : ℕ) (w : World) (call : Result ⊤ Refusal) → none is_another (reached_on_entry (reached_from f sheet budget start w) call) ≡ true
   unfolding reached_on_entry
-  none_on budget start w Done = none_from budget start w
-  none_on budget start w (RefusedCall why) = refl
+  none_on budget start w (Ok tt) = none_from budget start w
+  none_on budget start w (Err why) = refl
 
   no_other : (budget start : ℕ) (w : World) → none is_another (lines_reached f sheet budget start w) ≡ true
   unfolding lines_reached
@@ -73,7 +73,7 @@ unfolding replay_of on_call iup_line_of
 replays_so axis f b w =
     ap (on_went (replay_of f (iup_sheet axis) b 1) 0) (steps_so axis f w) ∙ sym (at_end f (iup_sheet axis) b 1 2 (iup_line_of f (iup_code axis) [] w).world (omega arith))
 
-pub iup_run_is : (axis : Axis) (f : Fixed) (b : ℕ) (w : World) → entered f (iup_sheet axis) 0 w ≡ Done
+pub iup_run_is : (axis : Axis) (f : Fixed) (b : ℕ) (w : World) → entered f (iup_sheet axis) 0 w ≡ Ok tt
     → run_of f (iup_sheet axis) (suc b) 0 w ≡ ends Finished 1 2 (iup_line_of f (iup_code axis) [] w).world
 iup_run_is axis f b w e = sym (run_entered f (iup_sheet axis) (suc b) 0 w refl e) ∙ replays_so axis f b w
 

@@ -3,6 +3,13 @@
 -- `one_part` are that for every call. Below is what they say of each call that users make, `NAME-has-one-outcome` for the call NAME: two outcomes, r₁ with
 -- the lists that it left and r₂ with those that it left, both as the contract allows for one input, are equal part by part. `tests/contracts` holds each
 -- premise to the contract's own text. Assumes nothing.
+use Rattle.std.specs.Prelude.{⊤, Result}
+use Rattle.answer.specs.declared.Refusal.{Refusal}
+use Rattle.moves.specs.declared.Displacement.{Displacement}
+use Rattle.projection.specs.declared.Derived.{Derived}
+use Rattle.record_layout.specs.declared.Layout.{Layout}
+use Rattle.record_read.specs.declared.Damage.{Damage}
+use Rattle.round.specs.declared.Tracked.{Tracked}
 use Prim.Native.Nat.{ℕ}
 use mathlib.Core.Bool.{Bool}
 use mathlib.Core.List.{List, ◌++◌}
@@ -10,24 +17,17 @@ use mathlib.Core.Path.{◌∙◌, ◌≡◌, ap, sym}
 use lib.Ieee.{Float}
 use lib.IntN.{ℤ}
 use lib.ListN.{drop, length}
-use Rattle.answer.specs.declared.Call.{Call}
 use Rattle.flags.specs.declared.Axis.{Axis}
 use Rattle.flags.specs.declared.CoordAxis.{CoordAxis}
 use Rattle.round.specs.Round.{rounded_of}
 use Rattle.round.specs.declared.RoundState.{RoundState}
-use Rattle.round.specs.declared.Rounded.{Rounded}
 use Rattle.graphics.specs.declared.GraphicsState.{GraphicsState}
 use Rattle.graphics.specs.declared.Vector.{Vector}
 use Rattle.graphics.specs.declared.ZonePointer.{ZonePointer}
 use Rattle.projection.specs.Projection.{deduced_of, dual_project_of, measured_of, project_of}
-use Rattle.projection.specs.declared.Deduced.{Deduced}
-use Rattle.projection.specs.declared.Measured.{Measured}
 use Rattle.direct_zone.specs.Direct.{try_fetch_of, try_flip_of, try_set_on_curve_of, try_touch_of, try_touched_of, try_unscaled_of, try_untouch_of}
 use Rattle.zone.specs.Zone.{Marked, marked}
-use Rattle.zone.specs.declared.Fetched.{Fetched}
-use Rattle.zone.specs.declared.Touched.{Touched}
 use Rattle.moves.specs.Apply.{BothMoved, BothShifted, both_moved, both_shifted}
-use Rattle.moves.specs.declared.Displaced.{Displaced}
 use Rattle.direct_moves.specs.Direct.{try_displacement_of, try_move_original_of, try_move_point_of, try_move_zp2_of}
 use Rattle.iup.specs.Iup.{Swept, tried_of, swept}
 use Rattle.state_words.specs.Words.{written}
@@ -43,14 +43,12 @@ use Rattle.outline_print.specs.Print.{outline_of}
 use Rattle.outline_steps.specs.Outline.{glyph}
 use Rattle.outline_steps.specs.Pen.{begin_of, next_of}
 use Rattle.outline_steps.specs.declared.Asked.{Asked}
-use Rattle.outline_steps.specs.declared.Begun.{Begun}
 use Rattle.outline_steps.specs.declared.Pen.{Pen}
 use Rattle.rules.specs.Rules.{by_number}
 use Rattle.rules.specs.declared.Rules.TheVariants.{FreeType}
 use Rattle.rules.specs.declared.Rules.{Rules}
 use Rattle.record_read.specs.Format.{held}
 use Rattle.record_read.specs.Read.{open_of}
-use Rattle.record_read.specs.declared.Opened.{Opened}
 use Rattle.record_layout.specs.Order.{most_bytes}
 use Rattle.record_write.specs.Written.{Wrote, write_of, wrote}
 use Rattle.record_run.specs.After.{Shelved, shelved}
@@ -188,7 +186,7 @@ module _ (rules : Rules) (start budget : ℕ) (sheet controls gux guy gox goy gx
   write_has_one_outcome most s out r₁ out₁ r₂ out₂ p q = (one_part (λ (x : Wrote). x.size) p q, one_part (λ (x : Wrote). x.bytes) p q)
 
 -- ---- bytes and words
-pub open_has_one_outcome : (bytes : List ℕ) (r₁ r₂ : Opened) → r₁ ≡ open_of bytes → r₂ ≡ open_of bytes → r₁ ≡ r₂
+pub open_has_one_outcome : (bytes : List ℕ) (r₁ r₂ : Result Layout Damage) → r₁ ≡ open_of bytes → r₂ ≡ open_of bytes → r₁ ≡ r₂
 open_has_one_outcome bytes r₁ r₂ p q = one_outcome p q
 
 pub replay_within_has_one_outcome : (rules : Rules) (most : ℕ) (bytes out : List ℕ) (r₁ : Replayed) (out₁ : List ℕ) (r₂ : Replayed) (out₂ : List ℕ)
@@ -210,24 +208,24 @@ pub write_state_has_one_outcome : (s : GraphicsState) (words words₁ words₂ :
 write_state_has_one_outcome s words words₁ words₂ p q = one_outcome p q
 
 -- ---- the direct calls that change no list
-module _ (xs ys : List ℤ) (at : ℕ) (r₁ r₂ : Fetched) where
+module _ (xs ys : List ℤ) (at : ℕ) (r₁ r₂ : Result Vector Refusal) where
   pub try_fetch_has_one_outcome : r₁ ≡ try_fetch_of xs ys at → r₂ ≡ try_fetch_of xs ys at → r₁ ≡ r₂
   try_fetch_has_one_outcome p q = one_outcome p q
 
   pub try_unscaled_has_one_outcome : r₁ ≡ try_unscaled_of xs ys at → r₂ ≡ try_unscaled_of xs ys at → r₁ ≡ r₂
   try_unscaled_has_one_outcome p q = one_outcome p q
 
-pub try_is_touched_has_one_outcome : (flags : List ℕ) (at : ℕ) (axis : CoordAxis) (r₁ r₂ : Touched)
+pub try_is_touched_has_one_outcome : (flags : List ℕ) (at : ℕ) (axis : CoordAxis) (r₁ r₂ : Result Bool Refusal)
     → r₁ ≡ try_touched_of flags at axis → r₂ ≡ try_touched_of flags at axis → r₁ ≡ r₂
 try_is_touched_has_one_outcome flags at axis r₁ r₂ p q = one_outcome p q
 
-pub try_round_has_one_outcome : (self : RoundState) (d : ℤ) (r₁ r₂ : Rounded) → r₁ ≡ rounded_of self d → r₂ ≡ rounded_of self d → r₁ ≡ r₂
+pub try_round_has_one_outcome : (self : RoundState) (d : ℤ) (r₁ r₂ : Result Tracked Refusal) → r₁ ≡ rounded_of self d → r₂ ≡ rounded_of self d → r₁ ≡ r₂
 try_round_has_one_outcome self d r₁ r₂ p q = one_outcome p q
 
-pub try_derive_has_one_outcome : (s : GraphicsState) (r₁ r₂ : Deduced) → r₁ ≡ deduced_of s → r₂ ≡ deduced_of s → r₁ ≡ r₂
+pub try_derive_has_one_outcome : (s : GraphicsState) (r₁ r₂ : Result Derived Refusal) → r₁ ≡ deduced_of s → r₂ ≡ deduced_of s → r₁ ≡ r₂
 try_derive_has_one_outcome s r₁ r₂ p q = one_outcome p q
 
-module _ (s : GraphicsState) (a b : Vector) (r₁ r₂ : Measured) where
+module _ (s : GraphicsState) (a b : Vector) (r₁ r₂ : Result ℤ Refusal) where
   pub try_project_has_one_outcome : r₁ ≡ measured_of s (project_of s.vectors a b) → r₂ ≡ measured_of s (project_of s.vectors a b) → r₁ ≡ r₂
   try_project_has_one_outcome p q = one_outcome p q
 
@@ -238,16 +236,16 @@ module _ (s : GraphicsState) (a b : Vector) (r₁ r₂ : Measured) where
       r₁ ≡ measured_of s (dual_project_of s.vectors a b) → r₂ ≡ measured_of s (dual_project_of s.vectors a b) → r₁ ≡ r₂
   try_dual_project_unscaled_has_one_outcome p q = one_outcome p q
 
-pub try_point_displacement_has_one_outcome : (gox goy gx gy tox toy tx ty : List ℤ) (s : GraphicsState) (opcode : ℕ) (r₁ r₂ : Displaced)
+pub try_point_displacement_has_one_outcome : (gox goy gx gy tox toy tx ty : List ℤ) (s : GraphicsState) (opcode : ℕ) (r₁ r₂ : Result Displacement Refusal)
     → r₁ ≡ try_displacement_of gox goy gx gy tox toy tx ty s opcode → r₂ ≡ try_displacement_of gox goy gx gy tox toy tx ty s opcode → r₁ ≡ r₂
 try_point_displacement_has_one_outcome gox goy gx gy tox toy tx ty s opcode r₁ r₂ p q = one_outcome p q
 
 -- ---- the direct calls that change flags
-both_marked : {m : Marked} (r₁ : Call) (flags₁ : List ℕ) (r₂ : Call) (flags₂ : List ℕ)
+both_marked : {m : Marked} (r₁ : Result ⊤ Refusal) (flags₁ : List ℕ) (r₂ : Result ⊤ Refusal) (flags₂ : List ℕ)
     → marked r₁ flags₁ ≡ m → marked r₂ flags₂ ≡ m → (r₁ ≡ r₂) × (flags₁ ≡ flags₂)
 both_marked r₁ flags₁ r₂ flags₂ p q = (one_part (λ (x : Marked). x.call) p q, one_part (λ (x : Marked). x.flags) p q)
 
-module _ (flags : List ℕ) (r₁ : Call) (flags₁ : List ℕ) (r₂ : Call) (flags₂ : List ℕ) where
+module _ (flags : List ℕ) (r₁ : Result ⊤ Refusal) (flags₁ : List ℕ) (r₂ : Result ⊤ Refusal) (flags₂ : List ℕ) where
   pub try_touch_has_one_outcome : (at : ℕ) (axis : CoordAxis)
       → marked r₁ flags₁ ≡ try_touch_of flags at axis → marked r₂ flags₂ ≡ try_touch_of flags at axis → (r₁ ≡ r₂) × (flags₁ ≡ flags₂)
   try_touch_has_one_outcome at axis p q = both_marked r₁ flags₁ r₂ flags₂ p q
@@ -265,7 +263,7 @@ module _ (flags : List ℕ) (r₁ : Call) (flags₁ : List ℕ) (r₂ : Call) (f
   try_set_on_curve_has_one_outcome start end on p q = both_marked r₁ flags₁ r₂ flags₂ p q
 
 -- ---- the direct calls that change coordinates
-pub try_iup_has_one_outcome : (unscaled original current : List ℤ) (flags contours : List ℕ) (axis : Axis) (r₁ : Call) (current₁ : List ℤ) (r₂ : Call) (current₂ : List ℤ)
+pub try_iup_has_one_outcome : (unscaled original current : List ℤ) (flags contours : List ℕ) (axis : Axis) (r₁ : Result ⊤ Refusal) (current₁ : List ℤ) (r₂ : Result ⊤ Refusal) (current₂ : List ℤ)
     → swept r₁ current₁ ≡ tried_of axis flags contours unscaled original current
     → swept r₂ current₂ ≡ tried_of axis flags contours unscaled original current
     → (r₁ ≡ r₂) × (current₁ ≡ current₂)
@@ -273,7 +271,7 @@ try_iup_has_one_outcome unscaled original current flags contours axis r₁ curre
     (one_part (λ (x : Swept). x.answer) p q, one_part (λ (x : Swept). x.current) p q)
 
 pub try_move_original_has_one_outcome : (s : GraphicsState) (zone : ZonePointer) (at : ℕ) (distance : ℤ) (gox goy tox toy : List ℤ)
-    (r₁ : Call) (gox₁ goy₁ tox₁ toy₁ : List ℤ) (r₂ : Call) (gox₂ goy₂ tox₂ toy₂ : List ℤ)
+    (r₁ : Result ⊤ Refusal) (gox₁ goy₁ tox₁ toy₁ : List ℤ) (r₂ : Result ⊤ Refusal) (gox₂ goy₂ tox₂ toy₂ : List ℤ)
     → both_shifted r₁ gox₁ goy₁ tox₁ toy₁ ≡ try_move_original_of gox goy tox toy s zone at distance
     → both_shifted r₂ gox₂ goy₂ tox₂ toy₂ ≡ try_move_original_of gox goy tox toy s zone at distance
     → (r₁ ≡ r₂) × (gox₁ ≡ gox₂) × (goy₁ ≡ goy₂) × (tox₁ ≡ tox₂) × (toy₁ ≡ toy₂)
@@ -286,8 +284,8 @@ try_move_original_has_one_outcome s zone at distance gox goy tox toy r₁ gox₁
 )
 
 module _ (s : GraphicsState) (gx gy : List ℤ) (gflags : List ℕ) (tx ty : List ℤ) (tflags : List ℕ)
-    (r₁ : Call) (gx₁ gy₁ : List ℤ) (gflags₁ : List ℕ) (tx₁ ty₁ : List ℤ) (tflags₁ : List ℕ)
-    (r₂ : Call) (gx₂ gy₂ : List ℤ) (gflags₂ : List ℕ) (tx₂ ty₂ : List ℤ) (tflags₂ : List ℕ)
+    (r₁ : Result ⊤ Refusal) (gx₁ gy₁ : List ℤ) (gflags₁ : List ℕ) (tx₁ ty₁ : List ℤ) (tflags₁ : List ℕ)
+    (r₂ : Result ⊤ Refusal) (gx₂ gy₂ : List ℤ) (gflags₂ : List ℕ) (tx₂ ty₂ : List ℤ) (tflags₂ : List ℕ)
   where
     both_moved_lem : {m : BothMoved} → both_moved r₁ gx₁ gy₁ gflags₁ tx₁ ty₁ tflags₁ ≡ m → both_moved r₂ gx₂ gy₂ gflags₂ tx₂ ty₂ tflags₂ ≡ m
         → (r₁ ≡ r₂) × (gx₁ ≡ gx₂) × (gy₁ ≡ gy₂) × (gflags₁ ≡ gflags₂) × (tx₁ ≡ tx₂) × (ty₁ ≡ ty₂) × (tflags₁ ≡ tflags₂)
@@ -315,7 +313,7 @@ module _ (s : GraphicsState) (gx gy : List ℤ) (gflags : List ℕ) (tx ty : Lis
 
 -- ---- outlines, step by step
 module _ (xs ys : List ℤ) (flags contours : List ℕ) where
-  pub begin_has_one_outcome : (r₁ r₂ : Begun) → r₁ ≡ begin_of (glyph xs ys flags contours) → r₂ ≡ begin_of (glyph xs ys flags contours) → r₁ ≡ r₂
+  pub begin_has_one_outcome : (r₁ r₂ : Result Pen Refusal) → r₁ ≡ begin_of (glyph xs ys flags contours) → r₂ ≡ begin_of (glyph xs ys flags contours) → r₁ ≡ r₂
   begin_has_one_outcome r₁ r₂ p q = one_outcome p q
 
   pub next_has_one_outcome : (pen : Pen) (r₁ r₂ : Asked) → r₁ ≡ next_of (glyph xs ys flags contours) pen → r₂ ≡ next_of (glyph xs ys flags contours) pen → r₁ ≡ r₂

@@ -1,6 +1,8 @@
 -- What is read is written again: `words_kept` holds of every byte string that `read_of` keeps, whatever its edition: the state's words, completed where the
 -- edition is older, and all that stood between them and the trailer. Of the newest edition it is the same bytes: `written_as_read`. What older ones
 -- are completed with is in `count_of_1` and Older.antt's `older_measures_lem`. Assumes nothing.
+use Rattle.std.specs.Prelude.{Result, Ok, Err}
+use Rattle.record_read.specs.declared.Damage.{Damage}
 use mathlib.Core.Bool.{true}
 use mathlib.Core.List.{List, [], ◌++◌, append-nil}
 use mathlib.Core.Path.{◌∙◌, ◌≡◌, ap, ap₂, refl, subst, sym}
@@ -21,8 +23,6 @@ use Rattle.record_read.specs.Format.{Held, body_words, glyph_words, layout_for, 
 use Rattle.record_read.specs.Read.{Kept, held_in, kept_by, kept_in, layout_of, open_of, read_as, read_of, state_in, trailer_word, word_count}
 use Rattle.record_layout.specs.Order.{at_trailer, edition, list_place, trailer_size}
 use Rattle.record_layout.specs.declared.Layout.{Layout}
-use Rattle.record_read.specs.declared.Opened.{Opened}
-use Rattle.record_read.specs.declared.Opened.TheVariants.{Whole, Damaged}
 use Rattle.laws_record.proofs.States.{state_words_lem}
 use Rattle.laws_record.proofs.Whence.{refused_or_kept}
 use Rattle.laws_record.proofs.Values.{ends_back, flags_back, numbers_back, words_at}
@@ -201,9 +201,9 @@ module _ (bytes : List ℕ) (f : Bytes bytes) where
 
 -- ---- over every byte string
 -- what was read, and that the bytes are sound
-pub sound_held : (bytes : List ℕ) (o : Opened) → open_of bytes ≡ o → (h : Held) → read_as bytes o ≡ Kept h → (held_in bytes (layout_of bytes) ≡ h) × Sound bytes (layout_of bytes)
-sound_held bytes (Whole l) e h k = (ap (held_in bytes) (layout_is bytes l e) ∙ cc k, sound bytes l e)
-sound_held bytes (Damaged why) e h k = absurd (refused_or_kept k)
+pub sound_held : (bytes : List ℕ) (o : Result Layout Damage) → open_of bytes ≡ o → (h : Held) → read_as bytes o ≡ Kept h → (held_in bytes (layout_of bytes) ≡ h) × Sound bytes (layout_of bytes)
+sound_held bytes (Ok l) e h k = (ap (held_in bytes) (layout_is bytes l e) ∙ cc k, sound bytes l e)
+sound_held bytes (Err why) e h k = absurd (refused_or_kept k)
 
 -- what is read is written with the words that stood before the trailer, the state's completed
 pub words_kept : (bytes : List ℕ) → Bytes bytes → (h : Held) → read_of bytes ≡ Kept h

@@ -1,5 +1,7 @@
 -- What is read can be held by a record of the newest edition, where that has 24 KiB at most: `read_keepable` holds of every byte string that `read_of`
 -- keeps. Assumes nothing.
+use Rattle.std.specs.Prelude.{Result, Ok, Err}
+use Rattle.record_read.specs.declared.Damage.{Damage}
 use mathlib.Core.List.{List, [], ◌∷◌}
 use mathlib.Core.Path.{◌≡◌, subst, ap, sym}
 use Prim.Native.Nat.{◌%◌, ◌*◌, ◌+◌, ◌<◌, ◌≤◌, ◌^◌, ℕ}
@@ -19,8 +21,6 @@ use Rattle.record_layout.specs.declared.Layout.{Layout}
 use Rattle.record_read.specs.Format.{Held, layout_for}
 use Rattle.record_read.specs.Read.{held_in, open_of, read_as, read_of, state_in}
 use Rattle.record_read.specs.Read.Read.{Kept}
-use Rattle.record_read.specs.declared.Opened.{Opened}
-use Rattle.record_read.specs.declared.Opened.TheVariants.{Damaged, Whole}
 use Rattle.laws_record.proofs.Keepable.{Keepable}
 use Rattle.laws_record.proofs.States.{state_words_lem}
 use Rattle.laws_record.proofs.Values.{words_at}
@@ -105,18 +105,18 @@ module _ (bytes : List ℕ) (f : Bytes bytes) (l : Layout) where
   held_fits = record { fixed = fixed_fits; sheet = numbers (list_place l 14) l.words; world = world_fits }
 
 -- ---- over every byte string
-by_verdict : (bytes : List ℕ) → Bytes bytes → (o : Opened) (h : Held) → read_as bytes o ≡ Kept h → HeldInWidth h
-by_verdict bytes f (Whole l) h e = let g : held_in bytes l ≡ h = cc e in subst HeldInWidth g (held_fits bytes f l)
-by_verdict bytes f (Damaged why) h e = absurd (refused_or_kept e)
+by_verdict : (bytes : List ℕ) → Bytes bytes → (o : Result Layout Damage) (h : Held) → read_as bytes o ≡ Kept h → HeldInWidth h
+by_verdict bytes f (Ok l) h e = let g : held_in bytes l ≡ h = cc e in subst HeldInWidth g (held_fits bytes f l)
+by_verdict bytes f (Err why) h e = absurd (refused_or_kept e)
 
 -- what is read has each value within its width
 pub read_widths : (bytes : List ℕ) → Bytes bytes → (h : Held) → read_of bytes ≡ Kept h → HeldInWidth h
 read_widths bytes f h e = by_verdict bytes f (open_of bytes) h e
 
 -- and no rules but those that every record is read under
-rules_read : (bytes : List ℕ) (o : Opened) (h : Held) → read_as bytes o ≡ Kept h → h.fixed.rules ≡ FreeType
-rules_read bytes (Whole l) h e = let g : held_in bytes l ≡ h = cc e in ap (λ (k : Held). k.fixed.rules) (sym g)
-rules_read bytes (Damaged why) h e = absurd (refused_or_kept e)
+rules_read : (bytes : List ℕ) (o : Result Layout Damage) (h : Held) → read_as bytes o ≡ Kept h → h.fixed.rules ≡ FreeType
+rules_read bytes (Ok l) h e = let g : held_in bytes l ≡ h = cc e in ap (λ (k : Held). k.fixed.rules) (sym g)
+rules_read bytes (Err why) h e = absurd (refused_or_kept e)
 
 -- and can be held by a record, where the newest edition has room for it
 pub read_keepable : (bytes : List ℕ) → Bytes bytes → (h : Held) → read_of bytes ≡ Kept h → record_size (layout_for h) ≤ most_bytes → Keepable h

@@ -1,4 +1,5 @@
 -- What is written reads back as written, for all that a record can hold: `kept_as_written`. Assumes nothing.
+use Rattle.std.specs.Prelude.{Ok}
 use mathlib.Core.Bool.{Bool, true, ◌&&◌}
 use mathlib.Core.List.{List, [], ◌++◌, ◌∷◌}
 use mathlib.Core.Path.{◌∙◌, ◌≡◌, ap, ap₂, refl, sym}
@@ -16,7 +17,6 @@ use Rattle.record_read.specs.Format.{Held, body_words, glyph_words, layout, layo
 use Rattle.record_read.specs.Read.{Kept, counts_fit, framed, kept_by, kept_in, layout_of, open_of, read_as, read_of, sum_fits, trailer_fits, trailer_word, word_count, words_fit}
 use Rattle.record_layout.specs.Order.{at_trailer, edition, most_bytes, list_place, record_size, trailer_size}
 use Rattle.record_layout.specs.declared.Layout.{Layout}
-use Rattle.record_read.specs.declared.Opened.TheVariants.{Whole}
 use Rattle.limits.specs.Limits.{most_contours, most_control_values, most_points, most_words}
 use Rattle.line.proofs.Alike.{fits_most}
 use Rattle.laws_record.proofs.Keepable.{Keepable}
@@ -189,12 +189,12 @@ module _ (h : Held) (k : Keepable h) where
       eq-eqb (wrapping_sum (part bs 0 (word_count bs - 1))) (trailer_word bs 7)
       (ap wrapping_sum (ap (part bs 0) e ∙ framed_lies) ∙ sym (place 7 _ p ∙ ap (λ (xs : List ℕ). get_or xs 0 0) sum_lies))
 
-  opens : open_of bs ≡ Whole lay
+  opens : open_of bs ≡ Ok lay
   unfolding open_of
   opens =
       ap (λ (x : Bool). verdict (layout_of bs) x (framed bs && words_fit bs (layout_of bs)) (sum_fits bs)) (le-leb (length bs) most_bytes (omega (arith, bytes_long, k.short)))
       ∙ ap₂ (λ (x y : Bool). verdict (layout_of bs) true x y) (both frame_holds words_hold) sum_holds
-      ∙ ap Whole layout_same
+      ∙ ap Ok layout_same
 
   -- what is written reads back as written
   pub kept_as_written : read_of (record_of h) ≡ Kept h

@@ -1,5 +1,6 @@
 -- What is known of what is read: it is within document 01's sizes, and its record is as long as the byte string, but for the words of the state that an older
 -- edition hasn't: `Whence`, of a byte string that is whole. Assumes nothing.
+use Rattle.std.specs.Prelude.{Ok}
 use mathlib.Core.Bool.{Bool, ◌&&◌, true}
 use mathlib.Core.List.{List}
 use mathlib.Core.Path.{◌∙◌, ◌≡◌, ap, ap₂, refl, subst, sym}
@@ -24,8 +25,6 @@ use Rattle.record_read.proofs.Whole.{layout_is, layout_kept, sound}
 use Rattle.record_read.specs.Format.{Held, layout_for}
 use Rattle.record_read.specs.Read.{counts_fit, held_in, kept_by, kept_in, layout_of, open_of, read_as, read_of, trailer_word}
 use Rattle.record_read.specs.Read.Read.{Kept, Refused}
-use Rattle.record_read.specs.declared.Opened.{Opened}
-use Rattle.record_read.specs.declared.Opened.TheVariants.{Damaged, Whole}
 
 pub both : {a c : Bool} → a ≡ true → c ≡ true → a && c ≡ true
 both e g = ap₂ (λ (x y : Bool). x && y) e g
@@ -92,7 +91,7 @@ pub record Whence (bytes : List ℕ) (h : Held) : Type 0 where
   pub some : 26 ≤ kept_in bytes
   pub short : length bytes ≤ most_bytes
 
-pub whence_whole : (bytes : List ℕ) (l : Layout) → open_of bytes ≡ Whole l → Whence bytes (held_in bytes l)
+pub whence_whole : (bytes : List ℕ) (l : Layout) → open_of bytes ≡ Ok l → Whence bytes (held_in bytes l)
 whence_whole bytes l e =
     let m = layout_of bytes in
     let s = sound bytes l e in

@@ -1,4 +1,7 @@
 -- The rules `skrifa` are what a run gave before the rules had names, on every input; and a run that reaches no MSIRP is the same under all rules. Assumes nothing.
+use Rattle.opcodes.specs.declared.Operands.{Operands}
+use Rattle.std.specs.Prelude.{⊤, Result, Ok, Err}
+use Rattle.answer.specs.declared.Refusal.{Refusal}
 use Prim.Native.Nat.{ℕ, suc, zero, ◌-◌}
 use mathlib.Core.Bool.{Bool, cond, false, not, true, true≢false, ◌&&◌}
 use mathlib.Core.List.{List, [], ◌∷◌, map}
@@ -7,9 +10,6 @@ use borrow.Author.Tests.{not-true}
 use lib.Dec.{leb, ltb}
 use lib.IntN.{ℤ}
 use lib.ListN.{drop, length, take}
-use Rattle.answer.specs.declared.Call.{Call}
-use Rattle.answer.specs.declared.Call.TheVariants.{Done}
-use Rattle.answer.specs.declared.Call.TheVariants.{Refused as RefusedCall}
 use Rattle.graphics.proofs.Laws.{and_left, and_right}
 use Rattle.graphics.specs.State.{past_both_iups}
 use Rattle.laws_axes.proofs.RunSteps.{Named, all_named, free_here}
@@ -42,9 +42,6 @@ use Rattle.line_vectors.specs.Vectors.{to_dual_line_of, to_line_of, vector_of}
 use Rattle.line_steps.specs.Steps.{control_at, done_in, in_state, reference_in}
 use Rattle.opcodes.specs.Decode.{decode_of}
 use Rattle.opcodes.specs.Table.{Line, Row, has, line_of, row_in, row_of, rows}
-use Rattle.opcodes.specs.declared.Decoded.{Decoded}
-use Rattle.opcodes.specs.declared.Decoded.TheVariants.{Operands}
-use Rattle.opcodes.specs.declared.Decoded.TheVariants.{Refused as RefusedLine}
 use Rattle.replay.specs.Run.{entered, on_entry, run_of}
 use Rattle.rules.specs.declared.Rules.TheVariants.{Skrifa}
 use Rattle.rules.specs.declared.Rules.{Rules}
@@ -249,10 +246,10 @@ only_msirp rules f opcode operands w e = row_has (Free rules) rows (all_free rul
 module _ (line : Line) (f g : Fixed) (sheet : List ℤ) (such : ℕ → Bool)
     (lines-alike : (opcode : ℕ) (operands : List ℤ) (w : World) → such opcode ≡ false → line_of f opcode operands w ≡ line g opcode operands w)
   where
-    decoded_alike : (at : ℕ) (w : World) (opcode : ℕ) → such opcode ≡ false → (d : Decoded) → Named opcode d → on_decoded f sheet at w d ≡ on_decoded_by line g sheet at w d
+    decoded_alike : (at : ℕ) (w : World) (opcode : ℕ) → such opcode ≡ false → (d : Result Operands Refusal) → Named opcode d → on_decoded f sheet at w d ≡ on_decoded_by line g sheet at w d
     unfolding on_decoded on_decoded_by Named
-    decoded_alike at w opcode e (Operands read first end) named = ap (landed_in at end) (lines-alike read (take (end - first) (drop first sheet)) w (ap such named ∙ e))
-    decoded_alike at w opcode e (RefusedLine why) named = refl
+    decoded_alike at w opcode e (Ok read) named = ap (landed_in at read.end) (lines-alike read.opcode (take (read.end - read.first) (drop read.first sheet)) w (ap such named ∙ e))
+    decoded_alike at w opcode e (Err why) named = refl
 
     step_alike : (at : ℕ) (w : World) → such (opcode_at sheet at) ≡ false → step_of f sheet at w ≡ step_by line g sheet at w
     unfolding step_of step_by
@@ -263,11 +260,11 @@ module _ (line : Line) (f g : Fixed) (sheet : List ℤ) (such : ℕ → Bool)
     abbrev Alike : ℕ → Type 0
     Alike b = (lines at : ℕ) (w : World) → none such (reached_from f sheet b at w) ≡ true → replay_of f sheet b lines at w ≡ replay_by line g sheet b lines at w
 
-    after : (b lines : ℕ) → Alike b → (call : Call) (place : ℕ) (w : World) → none such (after_call (reached_from f sheet b) place w call) ≡ true
+    after : (b lines : ℕ) → Alike b → (call : Result ⊤ Refusal) (place : ℕ) (w : World) → none such (after_call (reached_from f sheet b) place w call) ≡ true
         → on_call (replay_of f sheet b (suc lines)) lines place w call ≡ on_call (replay_by line g sheet b (suc lines)) lines place w call
     unfolding on_call after_call
-    after b lines ih Done place w free = ih (suc lines) place w free
-    after b lines ih (RefusedCall why) place w free = refl
+    after b lines ih (Ok tt) place w free = ih (suc lines) place w free
+    after b lines ih (Err why) place w free = refl
 
     turn : (b lines at : ℕ) (w : World) → Alike b → not (such (opcode_at sheet at)) && none such (after_line (reached_from f sheet b) (step_of f sheet at w)) ≡ true
         → on_went (replay_of f sheet b (suc lines)) lines (step_of f sheet at w) ≡ on_went (replay_by line g sheet b (suc lines)) lines (step_by line g sheet at w)
@@ -287,11 +284,11 @@ module _ (line : Line) (f g : Fixed) (sheet : List ℤ) (such : ℕ → Bool)
     replays_alike (suc b) lines at w free =
         by_test (ltb at (length sheet)) _ _ _ (λ here. turn b lines at w (replays_alike b) (free_here such (ltb at (length sheet)) _ _ here free))
 
-    on_entry_lem : (budget start : ℕ) (w : World) (call : Call) → none such (reached_on_entry (reached_from f sheet budget start w) call) ≡ true
+    on_entry_lem : (budget start : ℕ) (w : World) (call : Result ⊤ Refusal) → none such (reached_on_entry (reached_from f sheet budget start w) call) ≡ true
         → on_entry f sheet budget start w call ≡ on_entry_by line g sheet budget start w call
     unfolding on_entry on_entry_by reached_on_entry
-    on_entry_lem budget start w Done free = replays_alike budget 0 start w free
-    on_entry_lem budget start w (RefusedCall why) free = refl
+    on_entry_lem budget start w (Ok tt) free = replays_alike budget 0 start w free
+    on_entry_lem budget start w (Err why) free = refl
 
     runs_alike : (budget start : ℕ) (w : World) → entered f sheet start w ≡ entered g sheet start w → none such (lines_reached f sheet budget start w) ≡ true
         → run_of f sheet budget start w ≡ run_by line g sheet budget start w

@@ -1,9 +1,8 @@
 -- What a run gave before the rules had names (document 02, K9): MSIRP's definition as it stood until then, and a run by a table that has it. Prints that were made
 -- before then are of this run, and the rules `skrifa` are it: proofs/Before.antt. Assumes nothing.
-use Rattle.std.specs.Prelude.{ℕ, suc, zero, ◌-◌, Bool, cond, ◌&&◌, List, map, eqb, leb, ltb, ℤ, drop, length, take}
-use Rattle.answer.specs.declared.Call.{Call}
-use Rattle.answer.specs.declared.Call.TheVariants.{Done}
-use Rattle.answer.specs.declared.Call.TheVariants.{Refused as RefusedCall}
+use Rattle.opcodes.specs.declared.Operands.{Operands}
+use Rattle.answer.specs.declared.Refusal.{Refusal}
+use Rattle.std.specs.Prelude.{ℕ, suc, zero, ◌-◌, Bool, cond, ◌&&◌, List, map, eqb, leb, ltb, ℤ, drop, length, take, ⊤, Result, Ok, Err}
 use Rattle.int.specs.Word.{index_of, sub32}
 use Rattle.line.specs.Operands.{is_odd}
 use Rattle.line.specs.World.{Fixed, Lined, World}
@@ -12,9 +11,6 @@ use Rattle.line_relative.specs.Relative.{both_there, related}
 use Rattle.line_steps.specs.Steps.{done_in, made_in, move_in, passed_over, point_in, two}
 use Rattle.opcodes.specs.Decode.{decode_of}
 use Rattle.opcodes.specs.Table.{Line, Row, row, row_in, rows}
-use Rattle.opcodes.specs.declared.Decoded.{Decoded}
-use Rattle.opcodes.specs.declared.Decoded.TheVariants.{Operands}
-use Rattle.opcodes.specs.declared.Decoded.TheVariants.{Refused as RefusedLine}
 use Rattle.projection.specs.Projection.{project_of}
 use Rattle.replay.specs.Run.{entered}
 use Rattle.run_lines.specs.Onward.{Ran, ends, on_went}
@@ -49,9 +45,9 @@ line_before f opcode operands w = (row_in (map row_before rows) opcode).line f o
 
 -- ---- a run by any lines: the text of `step_of`, `replay_of` and `run_of` with the lines as an argument
 module _ (line : Line) where
-  unfoldable pub on_decoded_by : Fixed → List ℤ → ℕ → World → Decoded → Went
-  on_decoded_by f sheet at w (Operands op first end) = landed_in at end (line f op (take (end - first) (drop first sheet)) w)
-  on_decoded_by f sheet at w (RefusedLine why) = record { call = RefusedCall why; place = at; world = w }
+  unfoldable pub on_decoded_by : Fixed → List ℤ → ℕ → World → Result Operands Refusal → Went
+  on_decoded_by f sheet at w (Ok read) = landed_in at read.end (line f read.opcode (take (read.end - read.first) (drop read.first sheet)) w)
+  on_decoded_by f sheet at w (Err why) = record { call = Err why; place = at; world = w }
 
   unfoldable pub step_by : Fixed → List ℤ → ℕ → World → Went
   step_by f sheet at w = on_decoded_by f sheet at w (decode_of sheet w.state.loop_counter at)
@@ -61,9 +57,9 @@ module _ (line : Line) where
   replay_by f sheet (suc budget) lines at w =
       cond (ltb at (length sheet)) (on_went (replay_by f sheet budget (suc lines)) lines (step_by f sheet at w)) (ends Finished lines at w)
 
-  unfoldable pub on_entry_by : Fixed → List ℤ → ℕ → ℕ → World → Call → Ran
-  on_entry_by f sheet budget start w Done = replay_by f sheet budget 0 start w
-  on_entry_by f sheet budget start w (RefusedCall why) = ends (Refused why) 0 start w
+  unfoldable pub on_entry_by : Fixed → List ℤ → ℕ → ℕ → World → Result ⊤ Refusal → Ran
+  on_entry_by f sheet budget start w (Ok tt) = replay_by f sheet budget 0 start w
+  on_entry_by f sheet budget start w (Err why) = ends (Refused why) 0 start w
 
   unfoldable pub run_by : Fixed → List ℤ → ℕ → ℕ → World → Ran
   run_by f sheet budget start w = on_entry_by f sheet budget start w (entered f sheet start w)

@@ -2,6 +2,7 @@
 -- the summed budget, the counts added. By induction on the first budget; the first run keeps what the entry tests, so that the second is
 -- entered too. The definition takes any numbers; the public call's budgets are u64, and where their sum is one too, all three runs are its
 -- own. Assumes nothing.
+use Rattle.std.specs.Prelude.{⊤, Result, Ok, Err}
 use mathlib.Core.Bool.{Bool, cond, false, true}
 use mathlib.Core.List.{List}
 use Prim.Native.Nat.{◌+◌, ◌≤◌, suc, zero, ℕ}
@@ -12,8 +13,6 @@ use lib.Dec.{leb, ltb}
 use lib.ListN.{length}
 use lib.IntN.{ℤ}
 use Rattle.run_lines.specs.declared.Answer.{Answer}
-use Rattle.answer.specs.declared.Call.{Call}
-use Rattle.answer.specs.declared.Call.TheVariants.{Done, Refused as RefusedCall}
 use Rattle.run_lines.specs.declared.Answer.TheVariants.{Finished, OutOfBudget, Refused}
 use Rattle.line.specs.World.{Fixed, World, world}
 use Rattle.run_lines.specs.Onward.{Ran, ends, on_call, replay_of}
@@ -44,12 +43,12 @@ unfolding resume on_answer
 split_none f sheet b n at w true e = refl
 split_none f sheet b n at w false e = sym (at_end f sheet b n at w (ltb-false at (length sheet) e))
 
-split_call : (f : Fixed) (sheet : List ℤ) (b n place : ℕ) (w : World) (call : Call) (k k' : ℕ → World → Ran)
+split_call : (f : Fixed) (sheet : List ℤ) (b n place : ℕ) (w : World) (call : Result ⊤ Refusal) (k k' : ℕ → World → Ran)
     → ((p : ℕ) (v : World) → k p v ≡ resume f sheet b (k' p v))
     → on_call k n place w call ≡ resume f sheet b (on_call k' n place w call)
 unfolding on_call resume on_answer
-split_call f sheet b n place w Done k k' ih = ih place w
-split_call f sheet b n place w (RefusedCall why) k k' ih = refl
+split_call f sheet b n place w (Ok tt) k k' ih = ih place w
+split_call f sheet b n place w (Err why) k k' ih = refl
 
 split_test : (f : Fixed) (sheet : List ℤ) (b n at : ℕ) (w : World) (t : Bool) (r r' : Ran) → r ≡ resume f sheet b r'
     → cond t r (ends Finished n at w) ≡ resume f sheet b (cond t r' (ends Finished n at w))
@@ -74,11 +73,11 @@ count_none : (m n at : ℕ) (w : World) (t : Bool)
 count_none m n at w true = refl
 count_none m n at w false = refl
 
-count_call : (m n place : ℕ) (w : World) (call : Call) (k k' : ℕ → World → Ran) → ((p : ℕ) (v : World) → k p v ≡ counted m (k' p v))
+count_call : (m n place : ℕ) (w : World) (call : Result ⊤ Refusal) (k k' : ℕ → World → Ran) → ((p : ℕ) (v : World) → k p v ≡ counted m (k' p v))
     → on_call k (m + n) place w call ≡ counted m (on_call k' n place w call)
 unfolding on_call
-count_call m n place w Done k k' ih = ih place w
-count_call m n place w (RefusedCall why) k k' ih = refl
+count_call m n place w (Ok tt) k k' ih = ih place w
+count_call m n place w (Err why) k k' ih = refl
 
 count_test : (m n at : ℕ) (w : World) (t : Bool) (r r' : Ran) → r ≡ counted m r'
     → cond t r (ends Finished (m + n) at w) ≡ counted m (cond t r' (ends Finished n at w))
@@ -128,11 +127,11 @@ module _ (f : Fixed) (sheet : List ℤ) (a b start : ℕ) (w : World) where
   abbrev first : Ran
   first = run_of f sheet a start w
 
-  abbrev tests : Call
+  abbrev tests : Result ⊤ Refusal
   tests = entered f sheet start w
 
   -- the second run is entered because the first was
-  entered_again : tests ≡ Done → run_of f sheet b first.place first.world ≡ replay_of f sheet b 0 first.place first.world
+  entered_again : tests ≡ Ok tt → run_of f sheet b first.place first.world ≡ replay_of f sheet b 0 first.place first.world
   entered_again told =
       let kept = run_keeps f sheet a start w in
       let passed = entered_by f sheet start w told in
@@ -144,7 +143,7 @@ module _ (f : Fixed) (sheet : List ℤ) (a b start : ℕ) (w : World) where
         starts = run_place f sheet a start w passed.starts;
       })
 
-  two_entered : tests ≡ Done → first.answer ≡ OutOfBudget
+  two_entered : tests ≡ Ok tt → first.answer ≡ OutOfBudget
       → run_of f sheet (a + b) start w ≡ counted first.lines (run_of f sheet b first.place first.world)
   two_entered told e =
       let is : replay_of f sheet a 0 start w ≡ first = run_entered f sheet a start w refl told in
@@ -153,19 +152,19 @@ module _ (f : Fixed) (sheet : List ℤ) (a b start : ℕ) (w : World) where
       ∙ ap (λ (r : Ran). counted r.lines (replay_of f sheet b 0 r.place r.world)) is
       ∙ ap (counted first.lines) (sym (entered_again told))
 
-  two_by : (begun : Call) → tests ≡ begun → first.answer ≡ OutOfBudget
+  two_by : (begun : Result ⊤ Refusal) → tests ≡ begun → first.answer ≡ OutOfBudget
       → run_of f sheet (a + b) start w ≡ counted first.lines (run_of f sheet b first.place first.world)
-  two_by Done told e = two_entered told e
-  two_by (RefusedCall why) told e = refused_otherwise why _ _ (ap (λ (r : Ran). r.answer) (not_entered f sheet a start w refl told) ∙ e)
+  two_by (Ok tt) told e = two_entered told e
+  two_by (Err why) told e = refused_otherwise why _ _ (ap (λ (r : Ran). r.answer) (not_entered f sheet a start w refl told) ∙ e)
 
-  same_entered : tests ≡ Done → first.answer ≡ Finished → run_of f sheet (a + b) start w ≡ first
+  same_entered : tests ≡ Ok tt → first.answer ≡ Finished → run_of f sheet (a + b) start w ≡ first
   same_entered told e =
       let is : replay_of f sheet a 0 start w ≡ first = run_entered f sheet a start w refl told in
       sym (run_entered f sheet (a + b) start w refl told) ∙ split f sheet a b 0 start w ∙ ap (resume f sheet b) is ∙ not_resumed f sheet b first e
 
-  same_by : (begun : Call) → tests ≡ begun → first.answer ≡ Finished → run_of f sheet (a + b) start w ≡ first
-  same_by Done told e = same_entered told e
-  same_by (RefusedCall why) told e = finished_otherwise why _ _ (ap (λ (r : Ran). r.answer) (not_entered f sheet a start w refl told) ∙ e)
+  same_by : (begun : Result ⊤ Refusal) → tests ≡ begun → first.answer ≡ Finished → run_of f sheet (a + b) start w ≡ first
+  same_by (Ok tt) told e = same_entered told e
+  same_by (Err why) told e = finished_otherwise why _ _ (ap (λ (r : Ran). r.answer) (not_entered f sheet a start w refl told) ∙ e)
 
 -- a run that has finished is the same with any further budget
 pub finished_runs : (f : Fixed) (sheet : List ℤ) (a b start : ℕ) (w : World) → (run_of f sheet a start w).answer ≡ Finished

@@ -1,5 +1,8 @@
 -- What a line and a run leave as the entry tested it: every list is as long as it was, and a usable state stays usable; and a run that begins within
 -- the sheet ends within it. A line by the things that it does, a run by induction on the budget. Assumes nothing.
+use Rattle.opcodes.specs.declared.Operands.{Operands}
+use Rattle.std.specs.Prelude.{⊤, Result, Ok, Err}
+use Rattle.answer.specs.declared.Refusal.{Refusal}
 use mathlib.Core.Bool.{Bool, ◌&&◌, true}
 use mathlib.Core.List.{List}
 use Prim.Native.Nat.{◌-◌, ◌≤◌, suc, zero, ℕ}
@@ -8,10 +11,6 @@ use lib.ListN.{drop, length, take}
 use lib.Dec.{eqb, leb, ltb}
 use lib.IntN.{ℤ}
 use Rattle.line.specs.World.{Alike, Fixed, World}
-use Rattle.answer.specs.declared.Call.{Call}
-use Rattle.opcodes.specs.declared.Decoded.{Decoded}
-use Rattle.answer.specs.declared.Call.TheVariants.{Done}
-use Rattle.opcodes.specs.declared.Decoded.TheVariants.{Operands}
 use Rattle.run_lines.specs.Onward.{Ran, on_call, replay_of}
 use Rattle.replay.specs.Run.{entered, on_entry, run_of}
 use Rattle.line.specs.Sizes.{fits, world_fits}
@@ -27,8 +26,6 @@ use Rattle.limits.specs.Limits.{most_contours, most_control_values, most_points,
 use Rattle.run_step.proofs.Steps.{operands_inside}
 use Rattle.contour_ends.specs.Ends.{ends_rise}
 use Rattle.graphics.specs.State.{usable_state}
-use Rattle.answer.specs.declared.Call.TheVariants.{Refused as RefusedCall}
-use Rattle.opcodes.specs.declared.Decoded.TheVariants.{Refused as RefusedLine}
 use Rattle.laws_run.proofs.Left.{Left}
 
 pub all_left : (w : World) → Left w w
@@ -43,40 +40,40 @@ line_keeps f op operands w alike =
     let k = line_kept f op operands w alike in
     record { lengths = same_sizes k.gx k.gy k.gflags k.tox k.toy k.tx k.ty k.tflags; usable = line_usable f op operands w }
 
-decoded_keeps : (f : Fixed) (sheet : List ℤ) (at : ℕ) (w : World) → Alike f w → (d : Decoded) → Left w (on_decoded f sheet at w d).world
+decoded_keeps : (f : Fixed) (sheet : List ℤ) (at : ℕ) (w : World) → Alike f w → (d : Result Operands Refusal) → Left w (on_decoded f sheet at w d).world
 unfolding on_decoded
-decoded_keeps f sheet at w alike (Operands op first end) = line_keeps f op (take (end - first) (drop first sheet)) w alike
-decoded_keeps f sheet at w alike (RefusedLine why) = all_left w
+decoded_keeps f sheet at w alike (Ok line) = line_keeps f line.opcode (take (line.end - line.first) (drop line.first sheet)) w alike
+decoded_keeps f sheet at w alike (Err why) = all_left w
 
 pub step_keeps : (f : Fixed) (sheet : List ℤ) (at : ℕ) (w : World) → Alike f w → Left w (step_of f sheet at w).world
 unfolding step_of
 step_keeps f sheet at w alike = decoded_keeps f sheet at w alike (decode_of sheet w.state.loop_counter at)
 
 -- ---- the place after a line
-placed_within : (n at end : ℕ) (call : Call) → at ≤ n → end ≤ n → place_after at end call ≤ n
-placed_within n at end Done h k = k
-placed_within n at end (RefusedCall why) h k = h
+placed_within : (n at end : ℕ) (call : Result ⊤ Refusal) → at ≤ n → end ≤ n → place_after at end call ≤ n
+placed_within n at end (Ok tt) h k = k
+placed_within n at end (Err why) h k = h
 
-decoded_place : (f : Fixed) (sheet : List ℤ) (at : ℕ) (w : World) → at ≤ length sheet → (d : Decoded)
+decoded_place : (f : Fixed) (sheet : List ℤ) (at : ℕ) (w : World) → at ≤ length sheet → (d : Result Operands Refusal)
     → decode_of sheet w.state.loop_counter at ≡ d
     → (on_decoded f sheet at w d).place ≤ length sheet
 unfolding on_decoded
-decoded_place f sheet at w h (Operands op first end) told =
-    placed_within (length sheet) at end (line_of f op (take (end - first) (drop first sheet)) w).call h
+decoded_place f sheet at w h (Ok line) told =
+    placed_within (length sheet) at line.end (line_of f line.opcode (take (line.end - line.first) (drop line.first sheet)) w).call h
     (operands_inside sheet w.state.loop_counter at told).1
-decoded_place f sheet at w h (RefusedLine why) told = h
+decoded_place f sheet at w h (Err why) told = h
 
 pub step_place : (f : Fixed) (sheet : List ℤ) (at : ℕ) (w : World) → at ≤ length sheet → (step_of f sheet at w).place ≤ length sheet
 unfolding step_of
 step_place f sheet at w h = decoded_place f sheet at w h (decode_of sheet w.state.loop_counter at) refl
 
 -- ---- a run
-call_keeps : (f : Fixed) (lines place : ℕ) (w v : World) (call : Call) (rest : ℕ → World → Ran) → Left w v
+call_keeps : (f : Fixed) (lines place : ℕ) (w v : World) (call : Result ⊤ Refusal) (rest : ℕ → World → Ran) → Left w v
     → ((p : ℕ) → Left v (rest p v).world)
     → Left w (on_call rest lines place v call).world
 unfolding on_call
-call_keeps f lines place w v Done rest l keeps = left_by_both l (keeps place)
-call_keeps f lines place w v (RefusedCall why) rest l keeps = l
+call_keeps f lines place w v (Ok tt) rest l keeps = left_by_both l (keeps place)
+call_keeps f lines place w v (Err why) rest l keeps = l
 
 pub replay_keeps : (f : Fixed) (sheet : List ℤ) (budget lines at : ℕ) (w : World) → Alike f w → Left w (replay_of f sheet budget lines at w).world
 unfolding replay_of
@@ -89,12 +86,12 @@ replay_keeps f sheet (suc budget) lines at w alike =
     (λ p. replay_keeps f sheet budget (suc lines) p g.world (still_alike f w g.world l.lengths alike)))
     (all_left w)
 
-call_place : (n lines place : ℕ) (w : World) (call : Call) (rest : ℕ → World → Ran) → place ≤ n
+call_place : (n lines place : ℕ) (w : World) (call : Result ⊤ Refusal) (rest : ℕ → World → Ran) → place ≤ n
     → ((p : ℕ) → p ≤ n → (rest p w).place ≤ n)
     → (on_call rest lines place w call).place ≤ n
 unfolding on_call
-call_place n lines place w Done rest h within = within place h
-call_place n lines place w (RefusedCall why) rest h within = h
+call_place n lines place w (Ok tt) rest h within = within place h
+call_place n lines place w (Err why) rest h within = h
 
 pub replay_place : (f : Fixed) (sheet : List ℤ) (budget lines at : ℕ) (w : World) → at ≤ length sheet
     → (replay_of f sheet budget lines at w).place ≤ length sheet
@@ -108,23 +105,23 @@ replay_place f sheet (suc budget) lines at w h =
     h
 
 -- ---- the public run, which needs no premise: where its entry refuses, the world is the one given
-entry_keeps : (f : Fixed) (sheet : List ℤ) (budget start : ℕ) (w : World) (begun : Call)
+entry_keeps : (f : Fixed) (sheet : List ℤ) (budget start : ℕ) (w : World) (begun : Result ⊤ Refusal)
     → begun ≡ entered f sheet start w
     → Left w (on_entry f sheet budget start w begun).world
 unfolding on_entry
-entry_keeps f sheet budget start w Done told =
+entry_keeps f sheet budget start w (Ok tt) told =
     replay_keeps f sheet budget 0 start w (entered_sound f sheet start w told refl).0
-entry_keeps f sheet budget start w (RefusedCall why) told = all_left w
+entry_keeps f sheet budget start w (Err why) told = all_left w
 
 pub run_keeps : (f : Fixed) (sheet : List ℤ) (budget start : ℕ) (w : World) → Left w (run_of f sheet budget start w).world
 unfolding run_of
 run_keeps f sheet budget start w = entry_keeps f sheet budget start w (entered f sheet start w) refl
 
-pub entry_place : (f : Fixed) (sheet : List ℤ) (budget start : ℕ) (w : World) (begun : Call) → start ≤ length sheet
+pub entry_place : (f : Fixed) (sheet : List ℤ) (budget start : ℕ) (w : World) (begun : Result ⊤ Refusal) → start ≤ length sheet
     → (on_entry f sheet budget start w begun).place ≤ length sheet
 unfolding on_entry
-entry_place f sheet budget start w Done h = replay_place f sheet budget 0 start w h
-entry_place f sheet budget start w (RefusedCall why) h = h
+entry_place f sheet budget start w (Ok tt) h = replay_place f sheet budget 0 start w h
+entry_place f sheet budget start w (Err why) h = h
 
 -- ---- the entry, once more
 -- whether the sizes pass, by the lengths alone

@@ -1,11 +1,11 @@
 -- Document 01, "Numbers to hold it to", as one claim: `numbers`. Every row of its table, what it says of Grid, Up and Down on every input, and its
 -- runs. A row computes from the definition that the public call of its rule is proved to equal. Assumes nothing.
+use Rattle.std.specs.Prelude.{Ok}
 use mathlib.Core.Bool.{Bool, false, true}
 use mathlib.Core.List.{List, [], ◌∷◌, map}
 use Prim.Native.Nat.{◌%◌, ◌-◌, ◌^◌, ◌≤◌, ℕ}
 use lib.IntN.{◌-ℤ◌, nat_abs, neg_ℤ, pos, ℤ}
 use mathlib.Core.Path.{◌≡◌, refl}
-use Rattle.answer.specs.declared.Call.TheVariants.{Done}
 use Rattle.round.specs.declared.RoundMode.TheVariants.{DoubleGrid, DownToGrid, Grid, HalfGrid, Super, UpToGrid}
 use Rattle.run_lines.specs.declared.Answer.TheVariants.{Finished, OutOfBudget, Refused}
 use Rattle.line.specs.World.{Fixed, World, fixed, world}
@@ -139,9 +139,9 @@ pub record PaperNumbers : Type 0 where
   pub fdotp : map (λ (x : ℤ). fdotp_of (leaning x)) (pos 0x3FF ∷ neg 0x3FF ∷ pos 0x400 ∷ neg 0x400 ∷ [])
       ≡ pos 0x4000 ∷ pos 0x4000 ∷ pos 0x400 ∷ neg 0x400 ∷ []
   pub iup_shift : iup (three (pos 0) (pos 0) (pos 0)) (three (pos 0) (pos 64) (pos 128)) (three (pos 0) (pos 74) (pos 128)) (flags 0 2 0)
-      ≡ walked Done (three (pos 10) (pos 74) (pos 138))
+      ≡ walked (Ok tt) (three (pos 10) (pos 74) (pos 138))
   pub iup_between : iup (three (pos 0) (pos 500) (pos 1000)) (three (pos 0) (pos 320) (pos 640)) (three (pos 0) (pos 320) (pos 704)) (flags 2 0 2)
-      ≡ walked Done (three (pos 0) (pos 352) (pos 704))
+      ≡ walked (Ok tt) (three (pos 0) (pos 352) (pos 704))
   -- on every input; Grid moves by at most 32, Up and Down by less than 64
   pub grid_always : Steady (plainly Grid) 32
   pub up_always : Steady (plainly UpToGrid) 63

@@ -1,5 +1,8 @@
 -- A run keeps every value in its width: `run_in_width`. A line by the things that it does, a run by induction on the budget. It asks that the sheet's words
 -- are words of 32 bits, as its operands become references; of what lines only read it asks nothing, and nothing of the sizes. Assumes nothing.
+use Rattle.opcodes.specs.declared.Operands.{Operands}
+use Rattle.std.specs.Prelude.{⊤, Result, Ok, Err}
+use Rattle.answer.specs.declared.Refusal.{Refusal}
 use mathlib.Core.List.{List}
 use Prim.Native.Nat.{◌-◌, ◌<◌, ◌^◌, suc, zero, ℕ}
 use lib.Dec.{leb, ltb}
@@ -7,8 +10,6 @@ use lib.IntN.{ℤ}
 use lib.ListN.{length}
 use mir.Syntax.{w32}
 use mir.Val.{SFits}
-use Rattle.answer.specs.declared.Call.TheVariants.{Done, Refused as RefusedCall}
-use Rattle.answer.specs.declared.Call.{Call}
 use Rattle.graphics.specs.State.{usable_state}
 use Rattle.int.proofs.Tests.{either}
 use Rattle.laws_lines.proofs.Lines.{line_leaves}
@@ -16,8 +17,6 @@ use Rattle.laws_lines.proofs.Sets.{Sets}
 use Rattle.run_lines.specs.Onward.{Ran, on_call, replay_of}
 use Rattle.opcodes.specs.Decode.{decode_of}
 use Rattle.opcodes.specs.Table.{line_of}
-use Rattle.opcodes.specs.declared.Decoded.TheVariants.{Operands, Refused as RefusedLine}
-use Rattle.opcodes.specs.declared.Decoded.{Decoded}
 use Rattle.record_read.proofs.Widths.{FixedInWidth, InWidth}
 use Rattle.replay.specs.Run.{entered, on_entry, run_of}
 use Rattle.run_step.specs.Step.{on_decoded, step_of}
@@ -49,21 +48,21 @@ line_in_width f x op {operands} o {w} k =
 
 -- ---- a step: a line's operands are a part of the sheet
 module _ (f : Fixed) (x : FixedInWidth f) {sheet : List ℤ} (o : Numbers sheet) where
-  decoded_in_width : (at : ℕ) (w : World) → InWidth w → (d : Decoded) → InWidth (on_decoded f sheet at w d).world
+  decoded_in_width : (at : ℕ) (w : World) → InWidth w → (d : Result Operands Refusal) → InWidth (on_decoded f sheet at w d).world
   unfolding on_decoded
-  decoded_in_width at w k (Operands op first end) = line_in_width f x op (every_take (every_drop o first) (end - first)) k
-  decoded_in_width at w k (RefusedLine why) = k
+  decoded_in_width at w k (Ok line) = line_in_width f x line.opcode (every_take (every_drop o line.first) (line.end - line.first)) k
+  decoded_in_width at w k (Err why) = k
 
   pub step_in_width : (at : ℕ) (w : World) → InWidth w → InWidth (step_of f sheet at w).world
   unfolding step_of
   step_in_width at w k = decoded_in_width at w k (decode_of sheet w.state.loop_counter at)
 
 -- ---- a run
-call_in_width : (lines place : ℕ) (v : World) (call : Call) (rest : ℕ → World → Ran) → InWidth v → ((p : ℕ) → InWidth (rest p v).world)
+call_in_width : (lines place : ℕ) (v : World) (call : Result ⊤ Refusal) (rest : ℕ → World → Ran) → InWidth v → ((p : ℕ) → InWidth (rest p v).world)
     → InWidth (on_call rest lines place v call).world
 unfolding on_call
-call_in_width lines place v Done rest k keeps = keeps place
-call_in_width lines place v (RefusedCall why) rest k keeps = k
+call_in_width lines place v (Ok tt) rest k keeps = keeps place
+call_in_width lines place v (Err why) rest k keeps = k
 
 module _ (f : Fixed) (x : FixedInWidth f) {sheet : List ℤ} (o : Numbers sheet) where
   pub replay_in_width : (budget lines at : ℕ) (w : World) → InWidth w → InWidth (replay_of f sheet budget lines at w).world
@@ -77,11 +76,11 @@ module _ (f : Fixed) (x : FixedInWidth f) {sheet : List ℤ} (o : Numbers sheet)
       k
 
 -- the public run, which needs no premise on the sizes: where its entry refuses, the world is the one given
-entry_in_width : (f : Fixed) (sheet : List ℤ) (budget start : ℕ) (w : World) → FixedInWidth f → Numbers sheet → InWidth w → (begun : Call)
+entry_in_width : (f : Fixed) (sheet : List ℤ) (budget start : ℕ) (w : World) → FixedInWidth f → Numbers sheet → InWidth w → (begun : Result ⊤ Refusal)
     → InWidth (on_entry f sheet budget start w begun).world
 unfolding on_entry
-entry_in_width f sheet budget start w x o k Done = replay_in_width f x o budget 0 start w k
-entry_in_width f sheet budget start w x o k (RefusedCall why) = k
+entry_in_width f sheet budget start w x o k (Ok tt) = replay_in_width f x o budget 0 start w k
+entry_in_width f sheet budget start w x o k (Err why) = k
 
 pub run_in_width : (f : Fixed) (sheet : List ℤ) (budget start : ℕ) (w : World) → FixedInWidth f → Numbers sheet → InWidth w → InWidth (run_of f sheet budget start w).world
 unfolding run_of

@@ -1,18 +1,18 @@
 -- Points of the zone that a pointer names: OpenType, "Instructing TrueType Glyphs" (zone pointers), and FreeType 2.13.3, ttinterp.c (the zones
 -- zp0, zp1 and zp2 of an execution context). Assumes nothing.
-use Rattle.std.specs.Prelude.{ℕ, List, ℤ, set}
+use Rattle.answer.specs.declared.Refusal.{Refusal}
+use Rattle.std.specs.Prelude.{ℕ, List, ℤ, set, Result}
 use Rattle.graphics.specs.declared.Vector.{Vector}
 use Rattle.graphics.specs.declared.ZonePointer.TheVariants.{Twilight, Glyph}
 use Rattle.graphics.specs.declared.ZonePointer.{ZonePointer}
 use Rattle.zone.specs.Zone.{place_of, fetch_of}
-use Rattle.zone.specs.declared.Fetched.{Fetched}
 
 -- (0, 0) outside
 unfoldable pub place_in : ℕ → List ℤ → List ℤ → List ℤ → List ℤ → ZonePointer → Vector
 place_in at gx gy tx ty Glyph = place_of gx gy at
 place_in at gx gy tx ty Twilight = place_of tx ty at
 
-unfoldable pub fetch_in : ℕ → List ℤ → List ℤ → List ℤ → List ℤ → ZonePointer → Fetched
+unfoldable pub fetch_in : ℕ → List ℤ → List ℤ → List ℤ → List ℤ → ZonePointer → Result Vector Refusal
 fetch_in at gx gy tx ty Glyph = fetch_of gx gy at
 fetch_in at gx gy tx ty Twilight = fetch_of tx ty at
 

@@ -1,7 +1,7 @@
 -- What a run holds: document 01, "What the replayer holds". `World` is what lines change, `Fixed` what they only read; a glyph's originals are among
 -- the latter. Assumes nothing.
-use Rattle.std.specs.Prelude.{ℕ, List, true, ◌≡◌, ℤ, length}
-use Rattle.answer.specs.declared.Call.{Call}
+use Rattle.answer.specs.declared.Refusal.{Refusal}
+use Rattle.std.specs.Prelude.{ℕ, List, true, ◌≡◌, ℤ, length, ⊤, Result}
 use Rattle.contour_ends.specs.Ends.{ends_rise}
 use Rattle.graphics.specs.declared.GraphicsState.{GraphicsState}
 use Rattle.rules.specs.declared.Rules.{Rules}
@@ -60,7 +60,7 @@ Sound f w = Alike f w × (ends_rise (length w.gx) f.contours ≡ true)
 
 -- what a line comes to, and the world after it
 pub record Lined : Type 0 where
-  pub call : Call
+  pub call : Result ⊤ Refusal
   pub world : World
 
 abbrev pub lined : Stepped → List ℤ → List ℤ → List ℕ → List ℤ → List ℤ → List ℤ → List ℤ → List ℕ → Lined

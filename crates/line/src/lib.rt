@@ -15,16 +15,16 @@ ghost use Rattle.rules.specs.declared.Rules.{Rules};
 ghost use Rattle.line.specs.World.{fixed};
 ghost use Rattle.zone.specs.Zone.{place_of};
 
-use answer::{Call, Refusal};
+use answer::Refusal;
 use graphics::{GraphicsState, Vector, ZonePointer};
 use int::as_index;
 use limits::{control_values_fit, words_fit};
-use zone::{Fetched, coordinate_or_0, fetch, glyph_fits, twilight_fits};
+use zone::{coordinate_or_0, fetch, glyph_fits, twilight_fits};
 
 // ---- what a line comes to
 #[derive(Clone, Copy)]
 pub struct Stepped {
-    pub call: Call,
+    pub call: Result<(), Refusal>,
     pub state: GraphicsState,
 }
 
@@ -32,7 +32,7 @@ pub fn done(state: GraphicsState) -> Stepped
     ensures { result ≡ done_with state }
 {
     Stepped {
-        call: Call::Done,
+        call: Ok(()),
         state: state.by_words(),
     }
 }
@@ -41,7 +41,7 @@ pub fn refused(state: GraphicsState, why: Refusal) -> Stepped
     ensures { result ≡ refused_with state why }
 {
     Stepped {
-        call: Call::Refused(why),
+        call: Err(why),
         state: state.by_words(),
     }
 }
@@ -113,7 +113,7 @@ pub fn fetch_in(
     gy: &[i32],
     tx: &[i32],
     ty: &[i32],
-) -> Fetched
+) -> Result<Vector, Refusal>
     requires { (length gy.now ≡ length gx.now) × (length ty.now ≡ length tx.now) }
     ensures { result ≡ fetch_in at gx.now gy.now tx.now ty.now zone }
 {

@@ -12,25 +12,24 @@ ghost use Rattle.line.specs.World.{Fixed, lined, world};
 ghost use Rattle.line_alignpts.specs.Alignpts.{alignpts_of, both_moved_by};
 ghost use Rattle.line_alignpts.specs.Steps.{half_apart};
 
-use answer::{Call, Refusal};
-use graphics::{GraphicsState, Vectors};
+use answer::Refusal;
+use graphics::{GraphicsState, Vector, Vectors};
 use int::{wrapping_div, wrapping_neg};
 use line::{Stepped, fetch_in, index_at, refused};
 use moves::{apply_in, move_of};
-use projection::{Measured, project};
-use zone::Fetched;
+use projection::project;
 
 // Half of how far the first lies from the second; the first is looked at first.
-fn half_apart(v: Vectors, first: Fetched, second: Fetched) -> Measured
+fn half_apart(
+    v: Vectors,
+    first: Result<Vector, Refusal>,
+    second: Result<Vector, Refusal>,
+) -> Result<i32, Refusal>
     ensures { result ≡ half_apart v first second }
 {
-    match first {
-        Fetched::Refused(why) => Measured::Refused(why),
-        Fetched::At(there) => match second {
-            Fetched::Refused(why) => Measured::Refused(why),
-            Fetched::At(here) => Measured::Distance(wrapping_div(project(v, there, here), 2)),
-        },
-    }
+    let there = first?;
+    let here = second?;
+    Ok(wrapping_div(project(v, there, here), 2))
 }
 
 // Zp1's point moved by half the distance, then zp0's back by as much.
@@ -45,7 +44,7 @@ fn move_both(
     tx: &mut [i32],
     ty: &mut [i32],
     tflags: &mut [u8],
-) -> Call
+) -> Result<(), Refusal>
     requires { (length gy.old ≡ length gx.old) × (length gflags.old ≡ length gx.old) × (length ty.old ≡ length tx.old) × (length tflags.old ≡ length tx.old) }
     ensures { (tox toy : List ℤ) → lined (record { call = result; state = s }) gx.new gy.new gflags.new tox toy tx.new ty.new tflags.new ≡ both_moved_by half first second (world s gx.old gy.old gflags.old tox toy tx.old ty.old tflags.old) }
 {
@@ -53,14 +52,9 @@ fn move_both(
     let zp0 = pointers.zp0;
     let zp1 = pointers.zp1;
     let there = move_of(s.vectors, s.facts, half);
-    let call = apply_in(zp1, there, second, gx, gy, gflags, tx, ty, tflags);
-    match call {
-        Call::Refused(why) => Call::Refused(why),
-        Call::Done => {
-            let back = move_of(s.vectors, s.facts, wrapping_neg(half));
-            apply_in(zp0, back, first, gx, gy, gflags, tx, ty, tflags)
-        }
-    }
+    apply_in(zp1, there, second, gx, gy, gflags, tx, ty, tflags)?;
+    let back = move_of(s.vectors, s.facts, wrapping_neg(half));
+    apply_in(zp0, back, first, gx, gy, gflags, tx, ty, tflags)
 }
 
 // ALIGNPTS: a point of zp0, and one of zp1.
@@ -89,8 +83,8 @@ pub fn alignpts(
     let here = fetch_in(zp1, second, gx, gy, tx, ty);
     let apart = half_apart(s.vectors, there, here);
     match apart {
-        Measured::Refused(why) => refused(s, why),
-        Measured::Distance(half) => {
+        Err(why) => refused(s, why),
+        Ok(half) => {
             let call = move_both(s, half, first, second, gx, gy, gflags, tx, ty, tflags);
             Stepped {
                 call,

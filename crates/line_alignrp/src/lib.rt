@@ -13,20 +13,12 @@ ghost use Rattle.line_alignrp.specs.Loop.{aligning_of, align_at};
 ghost use Rattle.line_alignrp.specs.Alignrp.{alignrp_of};
 ghost use Rattle.line.specs.World.{Fixed, lined, world};
 
-use answer::{Call, Refusal};
+use answer::Refusal;
 use graphics::GraphicsState;
 use int::{as_index, wrapping_neg};
 use line::{Stepped, fetch_in};
 use moves::{Move, apply_in, move_of};
 use projection::project;
-use zone::Fetched;
-
-// What brings a point into line with rp0.
-#[derive(Clone, Copy)]
-pub enum Aligning {
-    Along(Move),
-    Refused(Refusal),
-}
 
 // The point is read first, then rp0.
 fn move_to_align(
@@ -36,7 +28,7 @@ fn move_to_align(
     gy: &[i32],
     tx: &[i32],
     ty: &[i32],
-) -> Aligning
+) -> Result<Move, Refusal>
     requires { (length gy.now ≡ length gx.now) × (length ty.now ≡ length tx.now) }
     ensures { result ≡ aligning_of s at gx.now gy.now tx.now ty.now }
 {
@@ -46,21 +38,10 @@ fn move_to_align(
     let references = s.references;
     let zp0 = pointers.zp0;
     let zp1 = pointers.zp1;
-    let here = fetch_in(zp1, at, gx, gy, tx, ty);
-    match here {
-        Fetched::Refused(why) => Aligning::Refused(why),
-        Fetched::At(point) => {
-            let there = fetch_in(zp0, references.rp0, gx, gy, tx, ty);
-            match there {
-                Fetched::Refused(why) => Aligning::Refused(why),
-                Fetched::At(reference) => {
-                    let distance = project(vectors, point, reference);
-                    let m = move_of(vectors, facts, wrapping_neg(distance));
-                    Aligning::Along(m)
-                }
-            }
-        }
-    }
+    let point = fetch_in(zp1, at, gx, gy, tx, ty)?;
+    let reference = fetch_in(zp0, references.rp0, gx, gy, tx, ty)?;
+    let distance = project(vectors, point, reference);
+    Ok(move_of(vectors, facts, wrapping_neg(distance)))
 }
 
 fn align_point(
@@ -72,17 +53,14 @@ fn align_point(
     tx: &mut [i32],
     ty: &mut [i32],
     tflags: &mut [u8],
-) -> Call
+) -> Result<(), Refusal>
     requires { (length gy.old ≡ length gx.old) × (length gflags.old ≡ length gx.old) × (length ty.old ≡ length tx.old) × (length tflags.old ≡ length tx.old) }
     ensures { ended result (zones gx.new gy.new gflags.new tx.new ty.new tflags.new) ≡ align_at s at (zones gx.old gy.old gflags.old tx.old ty.old tflags.old) }
 {
     let pointers = s.pointers;
     let zp1 = pointers.zp1;
-    let found = move_to_align(s, at, gx, gy, tx, ty);
-    match found {
-        Aligning::Refused(why) => Call::Refused(why),
-        Aligning::Along(m) => apply_in(zp1, m, at, gx, gy, gflags, tx, ty, tflags),
-    }
+    let m = move_to_align(s, at, gx, gy, tx, ty)?;
+    apply_in(zp1, m, at, gx, gy, gflags, tx, ty, tflags)
 }
 
 fn align_each(
@@ -95,24 +73,19 @@ fn align_each(
     tx: &mut [i32],
     ty: &mut [i32],
     tflags: &mut [u8],
-) -> Call
+) -> Result<(), Refusal>
     requires { (length gy.old ≡ length gx.old) × (length gflags.old ≡ length gx.old) × (length ty.old ≡ length tx.old) × (length tflags.old ≡ length tx.old) }
     ensures { ended result (zones gx.new gy.new gflags.new tx.new ty.new tflags.new) ≡ each (align_at s) count operands.now (zones gx.old gy.old gflags.old tx.old ty.old tflags.old) }
 {
     let wanted = count as usize;
-    let mut k = 0;
-    while k < wanted {
+    for k in 0..wanted {
         if operands.len() <= k {
-            return Call::Refused(Refusal::Missing);
+            return Err(Refusal::Missing);
         }
         let at = as_index(operands[k]);
-        let aligned = align_point(s, at, gx, gy, gflags, tx, ty, tflags);
-        match aligned {
-            Call::Refused(why) => return Call::Refused(why),
-            Call::Done => k += 1,
-        }
+        align_point(s, at, gx, gy, gflags, tx, ty, tflags)?;
     }
-    Call::Done
+    Ok(())
 }
 
 pub fn alignrp(

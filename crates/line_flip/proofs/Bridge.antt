@@ -1,10 +1,11 @@
 -- One point flipped in the flags lent is one in any world that holds them, so the loop is too. Assumes nothing.
+use Rattle.std.specs.Prelude.{⊤, Result}
+use Rattle.answer.specs.declared.Refusal.{Refusal}
 use Prim.Native.Nat.{ℕ}
 use mathlib.Core.Bool.{Bool, cond, false, true}
 use mathlib.Core.List.{List}
 use mathlib.Core.Path.{◌≡◌, ap, refl, ◌∙◌}
 use lib.IntN.{ℤ}
-use Rattle.answer.specs.declared.Call.{Call}
 use Rattle.graphics.specs.State.{past_both_iups, with_loop_counter}
 use Rattle.graphics.specs.declared.GraphicsState.{GraphicsState}
 use Rattle.int.specs.Word.{index_of}
@@ -32,7 +33,7 @@ step_is : (o : ℤ) (w : World) → flip_point o w ≡ flagged w (flip_in w.stat
 unfolding flip_point
 step_is o w = unless_held (past_both_iups w.state.facts) (index_of o) w
 
-pub flippt_is : (f : Fixed) (opcode : ℕ) (operands : List ℤ) (w : World) {r : Stepped} {held : Bool} {call : Call} {flags : List ℕ}
+pub flippt_is : (f : Fixed) (opcode : ℕ) (operands : List ℤ) (w : World) {r : Stepped} {held : Bool} {call : Result ⊤ Refusal} {flags : List ℕ}
     → r ≡ record { call = call; state = with_loop_counter w.state 1 } → held ≡ past_both_iups w.state.facts
     → ended call flags ≡ each (flip_unless held) w.state.loop_counter operands w.gflags
     → lined r w.gx w.gy flags w.tox w.toy w.tx w.ty w.tflags ≡ flippt_of f opcode operands w

@@ -1,4 +1,5 @@
 -- What FLIPRGON and FLIPRGOFF come to in each of their cases, over plain lists: the functions' proofs cite these. Assumes nothing.
+use Rattle.std.specs.Prelude.{Err}
 use Prim.Native.Nat.{ℕ, ◌<◌, ◌≤◌, suc}
 use mathlib.Core.Bool.{Bool, cond, false, true}
 use mathlib.Core.List.{List}
@@ -8,7 +9,6 @@ use native.Mathlib.Omega.{arith}
 use borrow.Author.Tests.{eq-eqb, ne_eqb}
 use lib.IntN.{ℤ}
 use lib.ListN.{length}
-use Rattle.answer.specs.declared.Call.TheVariants.{Refused}
 use Rattle.answer.specs.declared.Refusal.TheVariants.{Missing, Range}
 use Rattle.graphics.specs.State.{past_both_iups}
 use Rattle.graphics.specs.declared.Facts.{Facts}
@@ -22,7 +22,7 @@ use Rattle.zone.specs.Zone.{Marked, marked}
 use Rattle.line_flip.specs.Flip.{fliprg_of, held_fast, last_index, set_through}
 
 -- a high point outside, whichever way the range goes
-pub through_out : (flags : List ℕ) (low high : ℕ) (on : Bool) → length flags ≤ high → marked (Refused (Range low)) flags ≡ set_through flags low high on
+pub through_out : (flags : List ℕ) (low high : ℕ) (on : Bool) → length flags ≤ high → marked (Err (Range low)) flags ≡ set_through flags low high on
 through_out flags low high on h =
     ⊎_elim
     (λ reversed. range_reversed flags low (suc high) on reversed)

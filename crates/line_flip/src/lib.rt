@@ -15,7 +15,7 @@ ghost use Rattle.zone.specs.Zone.{marked};
 ghost use Rattle.line_flip.specs.Flip.{flippt_of, fliprg_of, held_fast, set_through};
 ghost use Rattle.line_flip.specs.Steps.{flip_at, flip_unless};
 
-use answer::{Call, Refusal};
+use answer::Refusal;
 use graphics::{Facts, GraphicsState};
 use int::as_index;
 use line::{Stepped, done, index_at, is_odd, refused};
@@ -23,27 +23,22 @@ use line_steps::take_each;
 use zone::{flip_on_curve, set_on_curve};
 
 // ---- FLIPPT
-fn flip_each(count: u32, operands: &[i32], gflags: &mut [u8]) -> Call
+fn flip_each(count: u32, operands: &[i32], gflags: &mut [u8]) -> Result<(), Refusal>
     ensures { ended result gflags.new ≡ each flip_at count operands.now gflags.old }
 {
     let wanted = count as usize;
-    let mut k = 0;
-    while k < wanted {
+    for k in 0..wanted {
         if operands.len() <= k {
-            return Call::Refused(Refusal::Missing);
+            return Err(Refusal::Missing);
         }
         let at = as_index(operands[k]);
-        let flipped = flip_on_curve(gflags, at);
-        match flipped {
-            Call::Refused(why) => return Call::Refused(why),
-            Call::Done => k += 1,
-        }
+        flip_on_curve(gflags, at)?;
     }
-    Call::Done
+    Ok(())
 }
 
 // Past both IUPs no point is flipped, but the operands are taken all the same.
-fn flip_points(held: bool, count: u32, operands: &[i32], gflags: &mut [u8]) -> Call
+fn flip_points(held: bool, count: u32, operands: &[i32], gflags: &mut [u8]) -> Result<(), Refusal>
     ensures { ended result gflags.new ≡ each (flip_unless held) count operands.now gflags.old }
 {
     if held {
@@ -54,13 +49,13 @@ fn flip_points(held: bool, count: u32, operands: &[i32], gflags: &mut [u8]) -> C
 }
 
 // One point, as most lines have it: no loop.
-fn flip_one(held: bool, operands: &[i32], gflags: &mut [u8]) -> Call
+fn flip_one(held: bool, operands: &[i32], gflags: &mut [u8]) -> Result<(), Refusal>
     ensures { ended result gflags.new ≡ each (flip_unless held) 1 operands.now gflags.old }
 {
     if operands.len() == 0 {
-        Call::Refused(Refusal::Missing)
+        Err(Refusal::Missing)
     } else if held {
-        Call::Done
+        Ok(())
     } else {
         flip_on_curve(gflags, as_index(operands[0]))
     }
@@ -88,12 +83,12 @@ pub fn flippt(s: GraphicsState, operands: &[i32], gflags: &mut [u8]) -> Stepped
 
 // ---- FLIPRGON, FLIPRGOFF
 // The high point is one of the range, and none lies beyond the last.
-fn set_through(gflags: &mut [u8], low: u64, high: u64, on: bool) -> Call
+fn set_through(gflags: &mut [u8], low: u64, high: u64, on: bool) -> Result<(), Refusal>
     ensures { marked result gflags.new ≡ set_through gflags.old low high on }
 {
     let h = high as usize;
     if gflags.len() <= h {
-        return Call::Refused(Refusal::Range(low));
+        return Err(Refusal::Range(low));
     }
     set_on_curve(gflags, low, high + 1, on)
 }

@@ -1,11 +1,10 @@
 -- What each definition of IP says by the tests that were made and what the calls ensure, over plain values: the functions' proofs cite these. Assumes nothing.
+use Rattle.std.specs.Prelude.{⊤, Result, Ok, Err}
 use Prim.Native.Nat.{ℕ}
 use mathlib.Core.Bool.{Bool, ◌||◌, false, true}
 use mathlib.Core.List.{List}
 use mathlib.Core.Path.{◌≡◌, ap, ap₂, refl, sym, ◌∙◌}
 use lib.IntN.{ℤ, pos}
-use Rattle.answer.specs.declared.Call.TheVariants.{Done, Refused}
-use Rattle.answer.specs.declared.Call.{Call}
 use Rattle.answer.specs.declared.Refusal.{Refusal}
 use Rattle.graphics.specs.State.{is_twilight}
 use Rattle.graphics.specs.declared.Facts.{Facts}
@@ -23,9 +22,6 @@ use Rattle.moves.specs.Move.{move_of}
 use Rattle.moves.specs.declared.Move.{Move}
 use Rattle.projection.specs.Projection.{dual_project_of, project_of}
 use Rattle.zone.specs.Zone.{place_of}
-use Rattle.zone.specs.declared.Fetched.TheVariants.{At}
-use Rattle.zone.specs.declared.Fetched.TheVariants.{Refused as RefusedPlace}
-use Rattle.zone.specs.declared.Fetched.{Fetched}
 use Rattle.line_ip.specs.Ip.{any_twilight, distance_left, outline_place, stretch_of, stretched}
 use Rattle.line_ip.specs.Loop.{interpolate_all, interpolate_at, interpolate_by, interpolate_from, let_pass, place_at, zones_after}
 use Rattle.line_ip.specs.declared.Stretch.{Stretch}
@@ -77,23 +73,23 @@ unfolding distance_left
 left_is v t outline place ew ei ed e f g = g ∙ rw (e, ew, ei, ed, f) refl
 
 -- ---- a point
-pub refused_by : (pedantic : Bool) (why : Refusal) → pedantic ≡ true → Refused why ≡ let_pass pedantic why
+pub refused_by : (pedantic : Bool) (why : Refusal) → pedantic ≡ true → Err why ≡ let_pass pedantic why
 unfolding let_pass
 refused_by pedantic why h = rw h refl
 
-pub let_by : (pedantic : Bool) (why : Refusal) → pedantic ≡ false → Done ≡ let_pass pedantic why
+pub let_by : (pedantic : Bool) (why : Refusal) → pedantic ≡ false → (Ok tt) ≡ let_pass pedantic why
 unfolding let_pass
 let_by pedantic why h = rw h refl
 
-module _ (v : Vectors) (facts : Facts) (zone : ZonePointer) (outline : ℕ → Vector) (t : Stretch) (at : ℕ) (z : Zones) {g : Fetched} (e : g ≡ place_at z zone at) where
-  by_fetched : {h : Fetched} {r : Ended Zones} → g ≡ h → r ≡ interpolate_by v facts zone outline t at z h → r ≡ interpolate_at v facts zone outline t at z
+module _ (v : Vectors) (facts : Facts) (zone : ZonePointer) (outline : ℕ → Vector) (t : Stretch) (at : ℕ) (z : Zones) {g : Result Vector Refusal} (e : g ≡ place_at z zone at) where
+  by_fetched : {h : Result Vector Refusal} {r : Ended Zones} → g ≡ h → r ≡ interpolate_by v facts zone outline t at z h → r ≡ interpolate_at v facts zone outline t at z
   by_fetched q p = p ∙ ap (interpolate_by v facts zone outline t at z) (sym q ∙ e)
 
-  pub point_passed : {why : Refusal} {call : Call} → g ≡ RefusedPlace why → call ≡ let_pass facts.pedantic why → ended call z ≡ interpolate_at v facts zone outline t at z
+  pub point_passed : {why : Refusal} {call : Result ⊤ Refusal} → g ≡ Err why → call ≡ let_pass facts.pedantic why → ended call z ≡ interpolate_at v facts zone outline t at z
   unfolding interpolate_by
-  point_passed q p = by_fetched q (ap (λ (call : Call). ended call z) p)
+  point_passed q p = by_fetched q (ap (λ (call : Result ⊤ Refusal). ended call z) p)
 
-  pub point_moved : {place lay : Vector} {d : ℤ} {m : Move} {b : BothMoved} → g ≡ At place → lay ≡ outline at → d ≡ distance_left v t lay place
+  pub point_moved : {place lay : Vector} {d : ℤ} {m : Move} {b : BothMoved} → g ≡ Ok place → lay ≡ outline at → d ≡ distance_left v t lay place
       → m ≡ move_of v facts d
       → b ≡ apply_in m at z.glyph.xs z.glyph.ys z.glyph.flags z.twilight.xs z.twilight.ys z.twilight.flags zone
       → zones_after b ≡ interpolate_at v facts zone outline t at z
@@ -105,24 +101,24 @@ module _ (v : Vectors) (facts : Facts) (zone : ZonePointer) (outline : ℕ → V
       (m ∙ ap (move_of v facts) (d ∙ ap (λ (lay : Vector). distance_left v t lay place) l)))
 
 -- ---- the line
-module _ (s : GraphicsState) (outline : ZonePointer → ℕ → Vector) (operands : List ℤ) (z : Zones) {g : Fetched} (e : g ≡ place_at z s.pointers.zp0 s.references.rp1) where
-  pub near_out : {why : Refusal} {call : Call} → g ≡ RefusedPlace why → call ≡ let_pass s.facts.pedantic why → ended call z ≡ interpolate_all s outline operands z
+module _ (s : GraphicsState) (outline : ZonePointer → ℕ → Vector) (operands : List ℤ) (z : Zones) {g : Result Vector Refusal} (e : g ≡ place_at z s.pointers.zp0 s.references.rp1) where
+  pub near_out : {why : Refusal} {call : Result ⊤ Refusal} → g ≡ Err why → call ≡ let_pass s.facts.pedantic why → ended call z ≡ interpolate_all s outline operands z
   unfolding interpolate_from
   near_out q p =
-      ap (λ (call : Call). ended call z) p
-      ∙ ap (λ (g : Fetched). interpolate_from s outline operands z g (place_at z s.pointers.zp1 s.references.rp2)) (sym q ∙ e)
+      ap (λ (call : Result ⊤ Refusal). ended call z) p
+      ∙ ap (λ (g : Result Vector Refusal). interpolate_from s outline operands z g (place_at z s.pointers.zp1 s.references.rp2)) (sym q ∙ e)
 
-  module _ {current : Vector} (q : g ≡ At current) {h : Fetched} (f : h ≡ place_at z s.pointers.zp1 s.references.rp2) where
-    by_both : {k : Fetched} {r : Ended Zones} → h ≡ k → r ≡ interpolate_from s outline operands z (At current) k → r ≡ interpolate_all s outline operands z
+  module _ {current : Vector} (q : g ≡ Ok current) {h : Result Vector Refusal} (f : h ≡ place_at z s.pointers.zp1 s.references.rp2) where
+    by_both : {k : Result Vector Refusal} {r : Ended Zones} → h ≡ k → r ≡ interpolate_from s outline operands z (Ok current) k → r ≡ interpolate_all s outline operands z
     by_both o p =
-        p ∙ ap (interpolate_from s outline operands z (At current)) (sym o ∙ f)
-        ∙ ap (λ (g : Fetched). interpolate_from s outline operands z g (place_at z s.pointers.zp1 s.references.rp2)) (sym q ∙ e)
+        p ∙ ap (interpolate_from s outline operands z (Ok current)) (sym o ∙ f)
+        ∙ ap (λ (g : Result Vector Refusal). interpolate_from s outline operands z g (place_at z s.pointers.zp1 s.references.rp2)) (sym q ∙ e)
 
-    pub far_out : {why : Refusal} {call : Call} → h ≡ RefusedPlace why → call ≡ let_pass s.facts.pedantic why → ended call z ≡ interpolate_all s outline operands z
+    pub far_out : {why : Refusal} {call : Result ⊤ Refusal} → h ≡ Err why → call ≡ let_pass s.facts.pedantic why → ended call z ≡ interpolate_all s outline operands z
     unfolding interpolate_from
-    far_out o p = by_both o (ap (λ (call : Call). ended call z) p)
+    far_out o p = by_both o (ap (λ (call : Result ⊤ Refusal). ended call z) p)
 
-    pub both_there : {farCurrent original farOriginal : Vector} {t : Stretch} {r : Ended Zones} → h ≡ At farCurrent
+    pub both_there : {farCurrent original farOriginal : Vector} {t : Stretch} {r : Ended Zones} → h ≡ Ok farCurrent
         → original ≡ outline s.pointers.zp0 s.references.rp1 → farOriginal ≡ outline s.pointers.zp1 s.references.rp2
         → t ≡ stretch_of s.vectors original farOriginal current farCurrent
         → r ≡ each (interpolate_at s.vectors s.facts s.pointers.zp2 (outline s.pointers.zp2) t) s.loop_counter operands z → r ≡ interpolate_all s outline operands z

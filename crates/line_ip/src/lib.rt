@@ -17,14 +17,13 @@ ghost use Rattle.line_steps.specs.Loop.{each, ended, zones};
 ghost use Rattle.line_ip.specs.Ip.{any_twilight, distance_left, ip_of, outline_place, stretch_of, stretched};
 ghost use Rattle.line_ip.specs.Loop.{interpolate_all, interpolate_at, let_pass};
 
-use answer::{Call, Refusal};
+use answer::Refusal;
 use graphics::{Facts, GraphicsState, Vector, Vectors, ZonePointer, ZonePointers};
 use int::{as_index, equal, wrapping_sub};
 use line::{Stepped, fetch_in, place_at, place_in};
 use math::mul_div;
 use moves::{apply_in, move_of};
 use projection::{dual_project, project};
-use zone::Fetched;
 
 // ---- the original outline
 // Whether one of the three pointers is at twilight, which has no unscaled points.
@@ -108,14 +107,10 @@ fn distance_left(v: Vectors, t: Stretch, outline: Vector, place: Vector) -> i32
 
 // ---- the points
 // Outside, a point is refused if pedantic, else passed over.
-fn let_pass(pedantic: bool, why: Refusal) -> Call
+fn let_pass(pedantic: bool, why: Refusal) -> Result<(), Refusal>
     ensures { result ≡ let_pass pedantic why }
 {
-    if pedantic {
-        Call::Refused(why)
-    } else {
-        Call::Done
-    }
+    if pedantic { Err(why) } else { Ok(()) }
 }
 
 fn interpolate_point(
@@ -137,14 +132,14 @@ fn interpolate_point(
     tx: &mut [i32],
     ty: &mut [i32],
     tflags: &mut [u8],
-) -> Call
+) -> Result<(), Refusal>
     requires { (length gy.old ≡ length gx.old) × (length gflags.old ≡ length gx.old) × (length ty.old ≡ length tx.old) × (length tflags.old ≡ length tx.old) }
     ensures { ended result (zones gx.new gy.new gflags.new tx.new ty.new tflags.new) ≡ interpolate_at v facts zone (outline_place twilight gux.now guy.now gox.now goy.now tox.now toy.now zone) t at (zones gx.old gy.old gflags.old tx.old ty.old tflags.old) }
 {
     let here = fetch_in(zone, at, gx, gy, tx, ty);
     match here {
-        Fetched::Refused(why) => let_pass(facts.pedantic, why),
-        Fetched::At(place) => {
+        Err(why) => let_pass(facts.pedantic, why),
+        Ok(place) => {
             let outline = outline_place(twilight, zone, at, gux, guy, gox, goy, tox, toy);
             let m = move_of(v, facts, distance_left(v, t, outline, place));
             apply_in(zone, m, at, gx, gy, gflags, tx, ty, tflags)
@@ -172,27 +167,22 @@ fn interpolate_each(
     tx: &mut [i32],
     ty: &mut [i32],
     tflags: &mut [u8],
-) -> Call
+) -> Result<(), Refusal>
     requires { (length gy.old ≡ length gx.old) × (length gflags.old ≡ length gx.old) × (length ty.old ≡ length tx.old) × (length tflags.old ≡ length tx.old) }
     ensures { ended result (zones gx.new gy.new gflags.new tx.new ty.new tflags.new) ≡ each (interpolate_at v facts zone (outline_place twilight gux.now guy.now gox.now goy.now tox.now toy.now zone) t) count operands.now (zones gx.old gy.old gflags.old tx.old ty.old tflags.old) }
 {
     let wanted = count as usize;
-    let mut k = 0;
-    while k < wanted {
+    for k in 0..wanted {
         if operands.len() <= k {
-            return Call::Refused(Refusal::Missing);
+            return Err(Refusal::Missing);
         }
         let at = as_index(operands[k]);
-        let moved = interpolate_point(
+        interpolate_point(
             v, facts, zone, twilight, t, at, gux, guy, gox, goy, gx, gy, gflags, tox, toy, tx, ty,
             tflags,
-        );
-        match moved {
-            Call::Refused(why) => return Call::Refused(why),
-            Call::Done => k += 1,
-        }
+        )?;
     }
-    Call::Done
+    Ok(())
 }
 
 // rp1 is looked at first, then rp2, and then each point.
@@ -211,7 +201,7 @@ fn interpolate_all(
     tx: &mut [i32],
     ty: &mut [i32],
     tflags: &mut [u8],
-) -> Call
+) -> Result<(), Refusal>
     requires { (length gy.old ≡ length gx.old) × (length gflags.old ≡ length gx.old) × (length ty.old ≡ length tx.old) × (length tflags.old ≡ length tx.old) }
     ensures { ended result (zones gx.new gy.new gflags.new tx.new ty.new tflags.new) ≡ interpolate_all s (outline_place (any_twilight s.pointers) gux.now guy.now gox.now goy.now tox.now toy.now) operands.now (zones gx.old gy.old gflags.old tx.old ty.old tflags.old) }
 {
@@ -226,12 +216,12 @@ fn interpolate_all(
     let rp2 = references.rp2;
     let near = fetch_in(zp0, rp1, gx, gy, tx, ty);
     match near {
-        Fetched::Refused(why) => let_pass(facts.pedantic, why),
-        Fetched::At(current) => {
+        Err(why) => let_pass(facts.pedantic, why),
+        Ok(current) => {
             let far = fetch_in(zp1, rp2, gx, gy, tx, ty);
             match far {
-                Fetched::Refused(why) => let_pass(facts.pedantic, why),
-                Fetched::At(far_current) => {
+                Err(why) => let_pass(facts.pedantic, why),
+                Ok(far_current) => {
                     let twilight = any_twilight(pointers);
                     let original = outline_place(twilight, zp0, rp1, gux, guy, gox, goy, tox, toy);
                     let far_original = outline_place(

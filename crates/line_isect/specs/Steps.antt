@@ -1,6 +1,5 @@
 -- ISECT's steps as its private functions say them. Nobody need believe this: `isect_of` is what the line is held to. Assumes nothing.
-use Rattle.std.specs.Prelude.{ℕ, cond, List, ltb, ℤ, length, set}
-use Rattle.answer.specs.declared.Call.TheVariants.{Done, Refused}
+use Rattle.std.specs.Prelude.{ℕ, cond, List, ltb, ℤ, length, set, Ok, Err}
 use Rattle.answer.specs.declared.Refusal.TheVariants.{Point}
 use Rattle.graphics.specs.declared.Vector.{Vector}
 use Rattle.graphics.specs.declared.ZonePointer.TheVariants.{Glyph, Twilight}
@@ -26,8 +25,8 @@ meeting_in zoneA a0 a1 zoneB b0 b1 w rest =
 unfoldable pub put_of : Vector → ℕ → List ℤ → List ℤ → List ℕ → Moved
 put_of place at xs ys flags =
     cond (ltb at (length xs))
-    (moved Done (set xs at place.x) (set ys at place.y) (or_at flags at (touch_bits Both)))
-    (moved (Refused (Point at)) xs ys flags)
+    (moved (Ok tt) (set xs at place.x) (set ys at place.y) (or_at flags at (touch_bits Both)))
+    (moved (Err (Point at)) xs ys flags)
 
 unfoldable pub put_in : Vector → ℕ → List ℤ → List ℤ → List ℕ → List ℤ → List ℤ → List ℕ → ZonePointer → BothMoved
 put_in place at gx gy gflags tx ty tflags Glyph = moved_glyph tx ty tflags (put_of place at gx gy gflags)

@@ -15,12 +15,12 @@ ghost use Rattle.line_steps.specs.Steps.{by_fetched, refused_in};
 ghost use Rattle.line_isect.specs.Isect.{isect_of};
 ghost use Rattle.line_isect.specs.Steps.{meeting_in, put_of, put_in};
 
-use answer::{Call, Refusal};
+use answer::Refusal;
 use crossing::crossing;
 use flags::CoordAxis;
 use graphics::{GraphicsState, Vector, ZonePointer};
 use line::{Stepped, fetch_in, index_at, put_at, refused};
-use zone::{Fetched, or_at};
+use zone::or_at;
 
 // ---- where the lines meet
 // Line a, then line b, each from its start; the first end outside is refused.
@@ -35,41 +35,47 @@ fn meeting(
     gy: &[i32],
     tx: &[i32],
     ty: &[i32],
-) -> Fetched
+) -> Result<Vector, Refusal>
     requires { (length gy.now ≡ length gx.now) × (length ty.now ≡ length tx.now) }
     ensures { (s : GraphicsState) (gflags : List ℕ) (tox toy : List ℤ) (tflags : List ℕ) (rest : Vector → Lined) → by_fetched (refused_in (world s gx.now gy.now gflags tox toy tx.now ty.now tflags)) rest result ≡ meeting_in zone_a a0 a1 zone_b b0 b1 (world s gx.now gy.now gflags tox toy tx.now ty.now tflags) rest }
 {
     let one = fetch_in(zone_a, a0, gx, gy, tx, ty);
-    let Fetched::At(a_from) = one else {
+    let Ok(a_from) = one else {
         return one;
     };
     let two = fetch_in(zone_a, a1, gx, gy, tx, ty);
-    let Fetched::At(a_to) = two else {
+    let Ok(a_to) = two else {
         return two;
     };
     let three = fetch_in(zone_b, b0, gx, gy, tx, ty);
-    let Fetched::At(b_from) = three else {
+    let Ok(b_from) = three else {
         return three;
     };
     let four = fetch_in(zone_b, b1, gx, gy, tx, ty);
-    let Fetched::At(b_to) = four else {
+    let Ok(b_to) = four else {
         return four;
     };
-    Fetched::At(crossing(a_from, a_to, b_from, b_to))
+    Ok(crossing(a_from, a_to, b_from, b_to))
 }
 
 // ---- the point
 // Puts a point of one zone somewhere and touches both axes, whatever holds points back.
-fn put_touched(place: Vector, at: u64, xs: &mut [i32], ys: &mut [i32], flags: &mut [u8]) -> Call
+fn put_touched(
+    place: Vector,
+    at: u64,
+    xs: &mut [i32],
+    ys: &mut [i32],
+    flags: &mut [u8],
+) -> Result<(), Refusal>
     ensures { moved result xs.new ys.new flags.new ≡ put_of place at xs.old ys.old flags.old }
 {
     let i = at as usize;
     if xs.len() <= i {
-        return Call::Refused(Refusal::Point(at));
+        return Err(Refusal::Point(at));
     }
     put_at(place, at, xs, ys);
     or_at(flags, at, CoordAxis::Both.touch_bits());
-    Call::Done
+    Ok(())
 }
 
 // The same in the zone that a pointer names.
@@ -83,7 +89,7 @@ fn put_in(
     tx: &mut [i32],
     ty: &mut [i32],
     tflags: &mut [u8],
-) -> Call
+) -> Result<(), Refusal>
     ensures { both_moved result gx.new gy.new gflags.new tx.new ty.new tflags.new ≡ put_in place at gx.old gy.old gflags.old tx.old ty.old tflags.old zone }
 {
     match zone {
@@ -121,8 +127,8 @@ pub fn isect(
     let zp2 = pointers.zp2;
     let met = meeting(zp1, a0, a1, zp0, b0, b1, gx, gy, tx, ty);
     match met {
-        Fetched::Refused(why) => refused(s, why),
-        Fetched::At(place) => {
+        Err(why) => refused(s, why),
+        Ok(place) => {
             let call = put_in(zp2, place, at, gx, gy, gflags, tx, ty, tflags);
             Stepped {
                 call,

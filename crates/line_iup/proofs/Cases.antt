@@ -1,10 +1,10 @@
 -- IUP in each of its cases, over a plain world: the functions' proofs cite these. Assumes nothing.
+use Rattle.std.specs.Prelude.{Ok}
 use Prim.Native.Nat.{ℕ}
 use mathlib.Core.Bool.{Bool, cond, false, true}
 use mathlib.Core.List.{List}
 use mathlib.Core.Path.{◌≡◌, ap, refl, sym, ◌∙◌}
 use lib.IntN.{ℤ}
-use Rattle.answer.specs.declared.Call.TheVariants.{Done}
 use Rattle.graphics.specs.State.{marked_x, marked_y, past_both_iups, with_facts}
 use Rattle.graphics.specs.declared.GraphicsState.{GraphicsState}
 use Rattle.iup.specs.Iup.{iup_of}
@@ -46,7 +46,7 @@ module _ (f : Fixed) (w : World) {x : Bool} where
 
 -- ---- the line
 -- it is done, whatever the contours are
-pub iup_done : (f : Fixed) (opcode : ℕ) (operands : List ℤ) (w : World) → (iup_line_of f opcode operands w).call ≡ Done
+pub iup_done : (f : Fixed) (opcode : ℕ) (operands : List ℤ) (w : World) → (iup_line_of f opcode operands w).call ≡ Ok tt
 unfolding iup_line_of
 iup_done f opcode operands w = refl
 

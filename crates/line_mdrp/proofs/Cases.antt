@@ -1,12 +1,11 @@
 -- MDRP in each of its cases, over a plain world: the laws of its steps, in their order. Assumes nothing.
+use Rattle.std.specs.Prelude.{⊤, Result, Ok, Err}
 use Prim.Native.Nat.{ℕ, ◌≤◌, ◌<◌}
 use mathlib.Core.Bool.{Bool}
 use mathlib.Core.List.{List}
 use mathlib.Core.Path.{◌≡◌, ap, ap₂, ◌∙◌}
 use lib.IntN.{ℤ}
 use lib.ListN.{length}
-use Rattle.answer.specs.declared.Call.TheVariants.{Done, Refused}
-use Rattle.answer.specs.declared.Call.{Call}
 use Rattle.answer.specs.declared.Refusal.TheVariants.{Missing}
 use Rattle.answer.specs.declared.Refusal.{Refusal}
 use Rattle.graphics.specs.declared.Measures.{Measures}
@@ -41,7 +40,7 @@ distance_by opcode native round m {outline' = outline'} ec ew eo ed em ed' p =
     (ed' ∙ ed ∙ ap₂ (λ (cut width : ℤ). single_outline cut width outline') ec ew ∙ ap (single_outline m.single_width_cut_in m.single_width) eo)
 
 -- ---- the two points looked at, by the sizes of their zones
-looked : (w : World) (at : ℕ) {zp0 zp1 : ZonePointer} {firsts seconds : ℕ} {there : Call} → zp0 ≡ w.state.pointers.zp0 → zp1 ≡ w.state.pointers.zp1
+looked : (w : World) (at : ℕ) {zp0 zp1 : ZonePointer} {firsts seconds : ℕ} {there : Result ⊤ Refusal} → zp0 ≡ w.state.pointers.zp0 → zp1 ≡ w.state.pointers.zp1
     → firsts ≡ size_in w zp1 → seconds ≡ size_in w zp0 → there ≡ both_inside at firsts w.state.references.rp0 seconds
     → there ≡ both_inside at (size_in w w.state.pointers.zp1) w.state.references.rp0 (size_in w w.state.pointers.zp0)
 looked w at e0 e1 k l e = e ∙ ap₂ (λ (m n : ℕ). both_inside at m w.state.references.rp0 n) (k ∙ ap (size_in w) e1) (l ∙ ap (size_in w) e0)
@@ -53,14 +52,14 @@ module _ (f : Fixed) (opcode : ℕ) (operands : List ℤ) (w : World) {r : Lined
   mdrp_missing h e = one_missing w operands _ h e
 
   -- ---- the operand is there, and both points were looked at
-  module _ {at firsts seconds : ℕ} {zp0 zp1 : ZonePointer} {sets : Bool} {there : Call} (h : 1 ≤ length operands) (i : at ≡ index_at operands 0) (e0 : zp0 ≡ w.state.pointers.zp0) (e1 : zp1 ≡ w.state.pointers.zp1) (s : sets ≡ sets_rp0 opcode) (k : firsts ≡ size_in w zp1) (l : seconds ≡ size_in w zp0) (e : there ≡ both_inside at firsts w.state.references.rp0 seconds) where
-    pub mdrp_outside : {why : Refusal} → there ≡ Refused why → r ≡ related_or sets at w why → r ≡ mdrp_of f opcode operands w
+  module _ {at firsts seconds : ℕ} {zp0 zp1 : ZonePointer} {sets : Bool} {there : Result ⊤ Refusal} (h : 1 ≤ length operands) (i : at ≡ index_at operands 0) (e0 : zp0 ≡ w.state.pointers.zp0) (e1 : zp1 ≡ w.state.pointers.zp1) (s : sets ≡ sets_rp0 opcode) (k : firsts ≡ size_in w zp1) (l : seconds ≡ size_in w zp0) (e : there ≡ both_inside at firsts w.state.references.rp0 seconds) where
+    pub mdrp_outside : {why : Refusal} → there ≡ Err why → r ≡ related_or sets at w why → r ≡ mdrp_of f opcode operands w
     unfolding mdrp_of
     mdrp_outside t p =
         one_there w operands _ h
         (rw (← i, ← s) (both_looked_up w (related_or sets at w) w.state.pointers.zp1 at w.state.pointers.zp0 w.state.references.rp0 _ (looked w at e0 e1 k l e) t p))
 
-    pub mdrp_moved : {scale outline own distance : ℤ} {d step : Tracked} {place reference : Vector} {m : Move} {b : BothMoved} → there ≡ Done → scale ≡ w.state.measures.scale
+    pub mdrp_moved : {scale outline own distance : ℤ} {d step : Tracked} {place reference : Vector} {m : Move} {b : BothMoved} → there ≡ Ok tt → scale ≡ w.state.measures.scale
         → outline ≡ outline_of w.state.vectors.dual scale zp1 at zp0 w.state.references.rp0 f.gux f.guy f.gox f.goy w.tox w.toy
         → d ≡ mdrp_distance opcode w.state.facts.native_clear_type_x w.state.round w.state.measures outline
         → place ≡ place_on w zp1 at → reference ≡ place_on w zp0 w.state.references.rp0

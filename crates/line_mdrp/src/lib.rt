@@ -11,7 +11,7 @@ ghost use Rattle.rules.specs.declared.Rules.{Rules};
 ghost use Rattle.line.specs.World.{fixed, lined, world};
 ghost use Rattle.line_mdrp.specs.Mdrp.{mdrp_distance, mdrp_of};
 
-use answer::{Call, Refusal};
+use answer::Refusal;
 use graphics::{GraphicsState, Measures};
 use line::{Stepped, index_at, refused, size_of};
 use line_distance::{finish, outline_apart, sets_rp0, single_outline};
@@ -71,8 +71,8 @@ pub fn mdrp(
     let seconds = size_of(zp0, gx.len(), tx.len());
     let there = both_inside(at, firsts, rp0, seconds);
     match there {
-        Call::Refused(why) => relate_or(s, sets, at, why),
-        Call::Done => {
+        Err(why) => relate_or(s, sets, at, why),
+        Ok(()) => {
             let outline = outline_apart(
                 vectors.dual,
                 measures.scale,

@@ -1,4 +1,5 @@
 -- GC and MD in each of their cases, over a plain world: what their functions find is what the lines push. Assumes nothing.
+use Rattle.std.specs.Prelude.{Result, Ok, Err}
 use Prim.Native.Nat.{ℕ, ◌≤◌, ◌<◌}
 use mathlib.Core.Bool.{Bool, ◌&&◌, ◌||◌, cond, false, not, true, true≢false}
 use mathlib.Core.List.{List}
@@ -20,12 +21,7 @@ use Rattle.line_steps.proofs.Laws.{one_missing, one_there, two_missing, two_ther
 use Rattle.line_steps.specs.Numbers.{from_origin, origin}
 use Rattle.line_steps.specs.Steps.{by_fetched, point_or, refused_in}
 use Rattle.projection.specs.Projection.{along_of, dual_project_of, project_of}
-use Rattle.projection.specs.declared.Measured.TheVariants.{Distance, Refused}
-use Rattle.projection.specs.declared.Measured.{Measured}
 use Rattle.zone.specs.Zone.{fetch_of}
-use Rattle.zone.specs.declared.Fetched.TheVariants.{At}
-use Rattle.zone.specs.declared.Fetched.TheVariants.{Refused as RefusedPlace}
-use Rattle.zone.specs.declared.Fetched.{Fetched}
 use Rattle.line_measure.specs.Measure.{gc_of, md_of, md_original, original_or, pushes, zero_or}
 use Rattle.line_measure.specs.Steps.{apart_of, by_measured, glyph_apart, looked_up, vector_for}
 
@@ -38,18 +34,18 @@ module _ {A : Type 0} (x y : A) {b : Bool} {r : A} where
   left h e = e ∙ sym (ap (λ (t : Bool). cond t x y) h)
 
 -- ---- how far one point lies from another, by where they were found
-module _ (v : Vector) {first : Fetched} where
-  pub first_out : (second : Fetched) {why : Refusal} → first ≡ RefusedPlace why → Refused why ≡ apart_of v first second
+module _ (v : Vector) {first : Result Vector Refusal} where
+  pub first_out : (second : Result Vector Refusal) {why : Refusal} → first ≡ Err why → Err why ≡ apart_of v first second
   unfolding apart_of
-  first_out second e = ap (λ (g : Fetched). apart_of v g second) (sym e)
+  first_out second e = ap (λ (g : Result Vector Refusal). apart_of v g second) (sym e)
 
-  pub second_out : {second : Fetched} {here : Vector} {why : Refusal} → first ≡ At here → second ≡ RefusedPlace why → Refused why ≡ apart_of v first second
+  pub second_out : {second : Result Vector Refusal} {here : Vector} {why : Refusal} → first ≡ Ok here → second ≡ Err why → Err why ≡ apart_of v first second
   unfolding apart_of
   second_out e h = ap₂ (apart_of v) (sym e) (sym h)
 
-  pub both_there : {second : Fetched} {here there : Vector} {d : ℤ} → first ≡ At here → second ≡ At there → d ≡ along_of v here there → Distance d ≡ apart_of v first second
+  pub both_there : {second : Result Vector Refusal} {here there : Vector} {d : ℤ} → first ≡ Ok here → second ≡ Ok there → d ≡ along_of v here there → Ok d ≡ apart_of v first second
   unfolding apart_of
-  both_there e h p = ap Distance p ∙ ap₂ (apart_of v) (sym e) (sym h)
+  both_there e h p = ap Ok p ∙ ap₂ (apart_of v) (sym e) (sym h)
 
 -- of numbers as they are read back, two points of the original glyph
 module _ (pedantic : Bool) (v : Vector) (scale : ℤ) (a b : ℕ) (gux guy : List ℤ) {in_a in_b : Bool} (k : in_a ≡ ltb a (length gux)) (l : in_b ≡ ltb b (length gux)) where
@@ -76,22 +72,22 @@ module _ (w : World) (why : Refusal) {r : Lined} where
   zero_lenient h e = left _ _ h e
 
 -- a distance, as it is read back
-pub pushed_read : (w : World) {m : Measured} {d d' : ℤ} {r : Lined} → m ≡ Distance d → d' ≡ d → r ≡ pushes d' w → r ≡ by_measured w m
+pub pushed_read : (w : World) {m : Result ℤ Refusal} {d d' : ℤ} {r : Lined} → m ≡ Ok d → d' ≡ d → r ≡ pushes d' w → r ≡ by_measured w m
 pushed_read w e z p = p ∙ ap (λ (d : ℤ). pushes d w) z ∙ sym (ap (by_measured w) e)
 
 -- ---- what is found is what the line pushes
 module _ (f : Fixed) (w : World) where
-  abbrev looked_in : Bool → ZonePointer → ℕ → Fetched
+  abbrev looked_in : Bool → ZonePointer → ℕ → Result Vector Refusal
   looked_in original zone at = looked_up original zone at f.gox f.goy w.gx w.gy w.tox w.toy w.tx w.ty
 
   -- GC's point
-  one_found : (v : Vector) (g : Fetched) → by_measured w (apart_of v g (At origin)) ≡ by_fetched (zero_or w) (λ (place : Vector). pushes (along_of v place origin) w) g
+  one_found : (v : Vector) (g : Result Vector Refusal) → by_measured w (apart_of v g (Ok origin)) ≡ by_fetched (zero_or w) (λ (place : Vector). pushes (along_of v place origin) w) g
   unfolding apart_of
-  one_found v (At place) = refl
-  one_found v (RefusedPlace why) = refl
+  one_found v (Ok place) = refl
+  one_found v (Err why) = refl
 
   gc_measured : (original : Bool) (zone : ZonePointer) (at : ℕ)
-      → by_measured w (apart_of (vector_for original w.state.vectors) (looked_in original zone at) (At origin))
+      → by_measured w (apart_of (vector_for original w.state.vectors) (looked_in original zone at) (Ok origin))
       ≡ cond original
       (original_or f zone at w (zero_or w) (λ (place : Vector). pushes (dual_project_of w.state.vectors place origin) w))
       (point_or zone at w (zero_or w) (λ (place : Vector). pushes (from_origin w.state.vectors place) w))
@@ -100,12 +96,12 @@ module _ (f : Fixed) (w : World) where
   gc_measured false zone at = one_found w.state.vectors.projection _
 
   -- MD's two
-  two_found : (v : Vector) (g h : Fetched)
+  two_found : (v : Vector) (g h : Result Vector Refusal)
       → by_measured w (apart_of v g h) ≡ by_fetched (zero_or w) (λ (here : Vector). by_fetched (zero_or w) (λ (there : Vector). pushes (along_of v here there) w) h) g
   unfolding apart_of
-  two_found v (At here) (At there) = refl
-  two_found v (At here) (RefusedPlace why) = refl
-  two_found v (RefusedPlace why) h = refl
+  two_found v (Ok here) (Ok there) = refl
+  two_found v (Ok here) (Err why) = refl
+  two_found v (Err why) h = refl
 
   -- two originals: each was found at its place
   abbrev original_at : ℕ → ZonePointer → Vector
@@ -114,8 +110,8 @@ module _ (f : Fixed) (w : World) where
   abbrev is_there : ℕ → ZonePointer → Bool
   is_there at zone = ltb at (size_of (length f.gox) (length w.tox) zone)
 
-  abbrev found_by : ℕ → Vector → Bool → Fetched
-  found_by at place b = cond b (At place) (RefusedPlace (Point at))
+  abbrev found_by : ℕ → Vector → Bool → Result Vector Refusal
+  found_by at place b = cond b (Ok place) (Err (Point at))
 
   fetched_by : (at : ℕ) (zone : ZonePointer) → looked_in true zone at ≡ found_by at (original_at at zone) (is_there at zone)
   unfolding looked_up fetch_in fetch_of place_in size_of
@@ -173,11 +169,11 @@ module _ (f : Fixed) (opcode : ℕ) (operands : List ℤ) (w : World) {r : Lined
   unfolding gc_of
   gc_missing h e = one_missing w operands _ h e
 
-  pub gc_found : {at : ℕ} {odd : Bool} {zp2 : ZonePointer} {v : Vector} {g : Fetched} {m : Measured} → 1 ≤ length operands → at ≡ index_at operands 0 → odd ≡ is_odd opcode
-      → zp2 ≡ w.state.pointers.zp2 → g ≡ looked_in f w odd zp2 at → v ≡ vector_for odd w.state.vectors → m ≡ apart_of v g (At origin) → r ≡ by_measured w m → r ≡ gc_of f opcode operands w
+  pub gc_found : {at : ℕ} {odd : Bool} {zp2 : ZonePointer} {v : Vector} {g : Result Vector Refusal} {m : Result ℤ Refusal} → 1 ≤ length operands → at ≡ index_at operands 0 → odd ≡ is_odd opcode
+      → zp2 ≡ w.state.pointers.zp2 → g ≡ looked_in f w odd zp2 at → v ≡ vector_for odd w.state.vectors → m ≡ apart_of v g (Ok origin) → r ≡ by_measured w m → r ≡ gc_of f opcode operands w
   unfolding gc_of
   gc_found {at = at} {odd = odd} h i o z e v d p =
-      let found = d ∙ ap₂ (λ (v : Vector) (g : Fetched). apart_of v g (At origin)) v (e ∙ ap (λ (zone : ZonePointer). looked_in f w odd zone at) z) in
+      let found = d ∙ ap₂ (λ (v : Vector) (g : Result Vector Refusal). apart_of v g (Ok origin)) v (e ∙ ap (λ (zone : ZonePointer). looked_in f w odd zone at) z) in
       one_there w operands _ h (rw (← i, ← o) (p ∙ ap (by_measured w) found ∙ gc_measured f w odd w.state.pointers.zp2 at))
 
   pub md_missing : length operands < 2 → r ≡ refused_in w Missing → r ≡ md_of f opcode operands w
@@ -186,14 +182,14 @@ module _ (f : Fixed) (opcode : ℕ) (operands : List ℤ) (w : World) {r : Lined
 
   -- ---- the operands are there, and the zones were looked at
   module _ {a b : ℕ} {zp0 zp1 : ZonePointer} {odd tp tq : Bool} (h : 2 ≤ length operands) (j : b ≡ index_at operands 0) (i : a ≡ index_at operands 1) (o : odd ≡ is_odd opcode) (e0 : zp0 ≡ w.state.pointers.zp0) (e1 : zp1 ≡ w.state.pointers.zp1) (s : tp ≡ is_twilight zp0) (t : tq ≡ is_twilight zp1) where
-    pub md_found : {v : Vector} {g k : Fetched} {m : Measured} → odd || tp || tq ≡ true
+    pub md_found : {v : Vector} {g k : Result Vector Refusal} {m : Result ℤ Refusal} → odd || tp || tq ≡ true
         → g ≡ looked_in f w (not odd) zp0 a → k ≡ looked_in f w (not odd) zp1 b
         → v ≡ vector_for (not odd) w.state.vectors → m ≡ apart_of v g k → r ≡ by_measured w m → r ≡ md_of f opcode operands w
     unfolding md_of
     md_found {k = k} c e u v d p =
         let first = e ∙ ap (λ (zone : ZonePointer). looked_in f w (not odd) zone a) e0 in
         let second = u ∙ ap (λ (zone : ZonePointer). looked_in f w (not odd) zone b) e1 in
-        let found = d ∙ ap₂ (λ (v : Vector) (g : Fetched). apart_of v g k) v first ∙ ap (apart_of (vector_for (not odd) w.state.vectors) _) second in
+        let found = d ∙ ap₂ (λ (v : Vector) (g : Result Vector Refusal). apart_of v g k) v first ∙ ap (apart_of (vector_for (not odd) w.state.vectors) _) second in
         two_there w operands _ h (rw (← i, ← j, ← o) (p ∙ ap (by_measured w) found ∙ md_measured f w a b odd (rw (s ∙ ap is_twilight e0, t ∙ ap is_twilight e1) at c)))
 
     pub md_glyph : {scale d : ℤ} → odd || tp || tq ≡ false → scale ≡ w.state.measures.scale → d ≡ glyph_in f w a b scale → r ≡ pushes d w → r ≡ md_of f opcode operands w

@@ -19,8 +19,7 @@ use answer::Refusal;
 use graphics::{GraphicsState, Vector, Vectors, ZonePointer};
 use line::{Stepped, done, fetch_in, index_at, is_odd, refused};
 use line_distance::unscaled_apart;
-use projection::{Measured, along};
-use zone::Fetched;
+use projection::along;
 
 // ---- what is found
 // A point of the original outline, or where it is now.
@@ -36,7 +35,7 @@ fn look_up(
     toy: &[i32],
     tx: &[i32],
     ty: &[i32],
-) -> Fetched
+) -> Result<Vector, Refusal>
     requires { (length goy.now ≡ length gox.now) × (length gy.now ≡ length gx.now) × (length toy.now ≡ length tox.now) × (length ty.now ≡ length tx.now) }
     ensures { result ≡ looked_up original zone at gox.now goy.now gx.now gy.now tox.now toy.now tx.now ty.now }
 {
@@ -55,16 +54,16 @@ fn vector_for(original: bool, v: Vectors) -> Vector
 }
 
 // How far the first lies from the second along a vector; the first is looked at first.
-fn apart(v: Vector, first: Fetched, second: Fetched) -> Measured
+fn apart(
+    v: Vector,
+    first: Result<Vector, Refusal>,
+    second: Result<Vector, Refusal>,
+) -> Result<i32, Refusal>
     ensures { result ≡ apart_of v first second }
 {
-    match first {
-        Fetched::Refused(why) => Measured::Refused(why),
-        Fetched::At(here) => match second {
-            Fetched::Refused(why) => Measured::Refused(why),
-            Fetched::At(there) => Measured::Distance(along(v, here, there)),
-        },
-    }
+    let here = first?;
+    let there = second?;
+    Ok(along(v, here, there))
 }
 
 fn is_inside(at: u64, size: usize) -> bool
@@ -106,12 +105,12 @@ fn zero_or(s: GraphicsState, why: Refusal) -> Stepped
     }
 }
 
-fn settle_measured(s: GraphicsState, m: Measured) -> Stepped
+fn settle_measured(s: GraphicsState, m: Result<i32, Refusal>) -> Stepped
     ensures { (w : World) → into w result ≡ by_measured (in_state w s) m }
 {
     match m {
-        Measured::Distance(d) => done(s.with_push(d)),
-        Measured::Refused(why) => zero_or(s, why),
+        Ok(d) => done(s.with_push(d)),
+        Err(why) => zero_or(s, why),
     }
 }
 
@@ -140,7 +139,7 @@ pub fn gc(
     let original = is_odd(opcode);
     let zp2 = s.zp2();
     let point = look_up(original, zp2, at, gox, goy, gx, gy, tox, toy, tx, ty);
-    let origin = Fetched::At(Vector { x: 0, y: 0 });
+    let origin = Ok(Vector { x: 0, y: 0 });
     settle_measured(s, apart(vector_for(original, s.vectors), point, origin))
 }
 

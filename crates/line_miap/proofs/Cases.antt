@@ -1,4 +1,5 @@
 -- MIAP in each of its cases, over a plain world: the laws of its steps, in their order. Assumes nothing.
+use Rattle.std.specs.Prelude.{Result, Ok, Err}
 use Prim.Native.Nat.{ℕ, ◌≤◌, ◌<◌}
 use mathlib.Core.Bool.{Bool}
 use mathlib.Core.List.{List}
@@ -18,9 +19,6 @@ use Rattle.moves.specs.declared.Move.{Move}
 use Rattle.line.specs.Operands.{index_at, is_odd}
 use Rattle.line.specs.Places.{fetch_in}
 use Rattle.line.specs.World.{Fixed, Lined, World}
-use Rattle.zone.specs.declared.Fetched.TheVariants.{At}
-use Rattle.zone.specs.declared.Fetched.TheVariants.{Refused as RefusedPlace}
-use Rattle.zone.specs.declared.Fetched.{Fetched}
 use Rattle.line_miap.specs.Miap.{miap_of}
 use Rattle.line_miap.specs.Numbers.{control_place, miap_distance}
 
@@ -35,13 +33,13 @@ module _ (f : Fixed) (opcode : ℕ) (operands : List ℤ) (w : World) {r : Lined
   miap_no_control {entry = entry} h i k e = two_there w operands _ h (rw (← i) (no_control w f entry _ k e))
 
   -- ---- both operands and the control value are there
-  module _ {entry at : ℕ} {control : ℤ} (h : 2 ≤ length operands) (i : entry ≡ index_at operands 0) (j : at ≡ index_at operands 1) (k : entry < length f.controls) (v : control ≡ get_or f.controls entry (pos 0)) (made : World) (q : made ≡ made_in at (control_place w.state.vectors.freedom control) w w.state.pointers.zp0) {g : Fetched} (e : g ≡ fetch_in at made.gx made.gy made.tx made.ty w.state.pointers.zp0) where
-    pub miap_outside : {why : Refusal} → g ≡ RefusedPlace why → r ≡ refused_in made why → r ≡ miap_of f opcode operands w
+  module _ {entry at : ℕ} {control : ℤ} (h : 2 ≤ length operands) (i : entry ≡ index_at operands 0) (j : at ≡ index_at operands 1) (k : entry < length f.controls) (v : control ≡ get_or f.controls entry (pos 0)) (made : World) (q : made ≡ made_in at (control_place w.state.vectors.freedom control) w w.state.pointers.zp0) {g : Result Vector Refusal} (e : g ≡ fetch_in at made.gx made.gy made.tx made.ty w.state.pointers.zp0) where
+    pub miap_outside : {why : Refusal} → g ≡ Err why → r ≡ refused_in made why → r ≡ miap_of f opcode operands w
     unfolding miap_of
     miap_outside t p =
         two_there w operands _ h (rw (← i, ← j) (control_there w f entry _ k (rw (← v, ← q) (point_out made w.state.pointers.zp0 at _ _ e t p))))
 
-    pub miap_moved : {place : Vector} {odd : Bool} {own cut : ℤ} {d : Tracked} {distance : ℤ} {m : Move} {b : BothMoved} → g ≡ At place → own ≡ from_origin w.state.vectors place
+    pub miap_moved : {place : Vector} {odd : Bool} {own cut : ℤ} {d : Tracked} {distance : ℤ} {m : Move} {b : BothMoved} → g ≡ Ok place → own ≡ from_origin w.state.vectors place
         → odd ≡ is_odd opcode → cut ≡ w.state.measures.cut_in
         → d ≡ miap_distance odd w.state.facts.native_clear_type_x w.state.round cut control own
         → distance ≡ d.word → m ≡ move_of made.state.vectors made.state.facts distance

@@ -1,4 +1,5 @@
 -- MIRP's numbers, and MIRP in each of its cases, over a plain world: the laws of its steps, in their order. Assumes nothing.
+use Rattle.std.specs.Prelude.{⊤, Result, Ok, Err}
 use Prim.Native.Nat.{ℕ, suc, zero, ◌-◌, ◌≤◌, ◌<◌}
 use mathlib.Core.Bool.{Bool, beq, ◌&&◌, cond, false, true, true≢false}
 use mathlib.Core.List.{List}
@@ -8,9 +9,6 @@ use borrow.Author.Tests.{le-leb, lt-leb, ne_eqb}
 use lib.Dec.{eqb, leb}
 use lib.IntN.{ℤ, pos}
 use lib.ListN.{get_or, length}
-use Rattle.answer.specs.declared.Call.TheVariants.{Done}
-use Rattle.answer.specs.declared.Call.TheVariants.{Refused as RefusedCall}
-use Rattle.answer.specs.declared.Call.{Call}
 use Rattle.answer.specs.declared.Refusal.TheVariants.{ControlValue, Missing}
 use Rattle.answer.specs.declared.Refusal.{Refusal}
 use Rattle.graphics.specs.State.{is_twilight}
@@ -36,8 +34,6 @@ use Rattle.moves.specs.Apply.{BothMoved, apply_in}
 use Rattle.moves.specs.Move.{move_of}
 use Rattle.moves.specs.declared.Move.{Move}
 use Rattle.projection.specs.Projection.{project_of}
-use Rattle.projection.specs.declared.Measured.TheVariants.{Distance, Refused}
-use Rattle.projection.specs.declared.Measured.{Measured}
 use Rattle.round.specs.declared.RoundState.{RoundState}
 use Rattle.round.specs.declared.Tracked.{Tracked}
 use Rattle.line_mirp.specs.Mirp.{control_by, mirp_distance, mirp_of, mirp_place, same_zone}
@@ -48,32 +44,32 @@ pub next_by : {z z' n n' : ℤ} {r : ℕ} (operand : ℤ) → z' ≡ z → z ≡
 next_by operand ez' ez en en' er = er ∙ ap index_of (en' ∙ en ∙ ap (λ (z : ℤ). add32 z (pos 1)) (ez' ∙ ez))
 
 module _ (controls : List ℤ) where
-  pub control_zero : (next : ℕ) → next ≡ 0 → Distance (pos 0) ≡ control_found next controls
+  pub control_zero : (next : ℕ) → next ≡ 0 → Ok (pos 0) ≡ control_found next controls
   unfolding control_found
   control_zero next e = rw e refl
 
-  pub control_none : (next : ℕ) → (next ≡ 0 → ⊥) → length controls ≤ next - 1 → Refused (ControlValue (next - 1)) ≡ control_found next controls
+  pub control_none : (next : ℕ) → (next ≡ 0 → ⊥) → length controls ≤ next - 1 → Err (ControlValue (next - 1)) ≡ control_found next controls
   unfolding control_found
   control_none zero h k = absurd (h refl)
   control_none (suc n) h k = rw (ne_eqb (suc n) 0 h, lt-leb (suc n) (length controls) (omega arith)) refl
 
-  pub control_there : (next : ℕ) {z : ℤ} → (next ≡ 0 → ⊥) → next - 1 < length controls → z ≡ get_or controls (next - 1) (pos 0) → Distance z ≡ control_found next controls
+  pub control_there : (next : ℕ) {z : ℤ} → (next ≡ 0 → ⊥) → next - 1 < length controls → z ≡ get_or controls (next - 1) (pos 0) → Ok z ≡ control_found next controls
   unfolding control_found
   control_there zero h k e = absurd (h refl)
-  control_there (suc n) h k e = rw (ne_eqb (suc n) 0 h, le-leb (suc n) (length controls) (omega arith)) (ap Distance e)
+  control_there (suc n) h k e = rw (ne_eqb (suc n) 0 h, le-leb (suc n) (length controls) (omega arith)) (ap Ok e)
 
 -- ---- what is found, of a control value and two points that were looked at
-module _ (m : Measures) {c control : Measured} {t there : Call} (ec : c ≡ control) (et : t ≡ there) where
-  pub found_no_control : {why : Refusal} → c ≡ Refused why → Refused why ≡ mirp_found m control there
-  found_no_control h = sym (ap (λ (c : Measured). mirp_found m c there) (sym ec ∙ h))
+module _ (m : Measures) {c control : Result ℤ Refusal} {t there : Result ⊤ Refusal} (ec : c ≡ control) (et : t ≡ there) where
+  pub found_no_control : {why : Refusal} → c ≡ Err why → Err why ≡ mirp_found m control there
+  found_no_control h = sym (ap (λ (c : Result ℤ Refusal). mirp_found m c there) (sym ec ∙ h))
 
-  pub found_outside : {v : ℤ} {why : Refusal} → c ≡ Distance v → t ≡ RefusedCall why → Refused why ≡ mirp_found m control there
+  pub found_outside : {v : ℤ} {why : Refusal} → c ≡ Ok v → t ≡ Err why → Err why ≡ mirp_found m control there
   found_outside h k = sym (ap₂ (mirp_found m) (sym ec ∙ h) (sym et ∙ k))
 
-  pub found_there : {v value cut width z z' : ℤ} → c ≡ Distance v → t ≡ Done → value ≡ v → cut ≡ m.single_width_cut_in → width ≡ m.single_width → z ≡ single_control cut width value → z' ≡ z
-      → Distance z' ≡ mirp_found m control there
+  pub found_there : {v value cut width z z' : ℤ} → c ≡ Ok v → t ≡ Ok tt → value ≡ v → cut ≡ m.single_width_cut_in → width ≡ m.single_width → z ≡ single_control cut width value → z' ≡ z
+      → Ok z' ≡ mirp_found m control there
   found_there {v} h k ev ek ew ez ez' =
-      ap Distance (ez' ∙ ez ∙ ap (single_control _ _) ev ∙ ap₂ (λ (cut width : ℤ). single_control cut width v) ek ew)
+      ap Ok (ez' ∙ ez ∙ ap (single_control _ _) ev ∙ ap₂ (λ (cut width : ℤ). single_control cut width v) ek ew)
       ∙ sym (ap₂ (mirp_found m) (sym ec ∙ h) (sym et ∙ k))
 
 -- ---- the twilight point
@@ -116,25 +112,25 @@ distance_by opcode within native round m control original eo ec et et' eb ei en 
     rw (er, el, en', en, et', et, eb, ei, eo, ec) refl
 
 -- ---- the control value and the points looked at
-abbrev by_found : (Refusal → Lined) → (ℤ → Lined) → Measured → Lined
-by_found out rest (Distance z) = rest z
-by_found out rest (Refused why) = out why
+abbrev by_found : (Refusal → Lined) → (ℤ → Lined) → Result ℤ Refusal → Lined
+by_found out rest (Ok z) = rest z
+by_found out rest (Err why) = out why
 
-abbrev is_distance : Measured → Bool
-is_distance (Distance _) = true
-is_distance (Refused _) = false
+abbrev is_distance : Result ℤ Refusal → Bool
+is_distance (Ok _) = true
+is_distance (Err _) = false
 
-not_found : {why : Refusal} {z : ℤ} → Refused why ≡ Distance z → ⊥
+not_found : {why : Refusal} {z : ℤ} → Err why ≡ Ok z → ⊥
 not_found e = true≢false (sym (ap is_distance e))
 
-points_there : (m : Measures) (c : Measured) (t : Call) {z : ℤ} → mirp_found m c t ≡ Distance z → t ≡ Done
-points_there m (Refused why) t e = absurd (not_found e)
-points_there m (Distance v) Done e = refl
-points_there m (Distance v) (RefusedCall why) e = absurd (not_found e)
+points_there : (m : Measures) (c : Result ℤ Refusal) (t : Result ⊤ Refusal) {z : ℤ} → mirp_found m c t ≡ Ok z → t ≡ Ok tt
+points_there m (Err why) t e = absurd (not_found e)
+points_there m (Ok v) (Ok tt) e = refl
+points_there m (Ok v) (Err why) e = absurd (not_found e)
 
 module _ (f : Fixed) (w : World) (out : Refusal → Lined) where
   tried : (rest : ℤ → Lined) (a b : Bool) (x y : ℤ) (why : Refusal)
-      → by_found out rest (cond a (Distance x) (cond b (Distance y) (Refused why))) ≡ cond a (rest x) (cond b (rest y) (out why))
+      → by_found out rest (cond a (Ok x) (cond b (Ok y) (Err why))) ≡ cond a (rest x) (cond b (rest y) (out why))
   tried rest true b x y why = refl
   tried rest false true x y why = refl
   tried rest false false x y why = refl
@@ -148,14 +144,14 @@ module _ (f : Fixed) (w : World) (out : Refusal → Lined) where
     abbrev single : ℤ → ℤ
     single v = single_control m.single_width_cut_in m.single_width v
 
-    both_are : (c : Measured) → by_found out rest (mirp_found m c (reach_in w at zone)) ≡ by_found out (λ (v : ℤ). both_there at w out (rest (single v)) zone) c
-    both_are (Refused why) = refl
-    both_are (Distance v) = split (reach_in w at zone) ∙ looked_up w out at (rest (single v)) zone refl refl refl where
-      split : (t : Call) → by_found out rest (mirp_found m (Distance v) t) ≡ by_reach w out (rest (single v)) t
-      split Done = refl
-      split (RefusedCall why) = refl
+    both_are : (c : Result ℤ Refusal) → by_found out rest (mirp_found m c (reach_in w at zone)) ≡ by_found out (λ (v : ℤ). both_there at w out (rest (single v)) zone) c
+    both_are (Err why) = refl
+    both_are (Ok v) = split (reach_in w at zone) ∙ looked_up w out at (rest (single v)) zone refl refl refl where
+      split : (t : Result ⊤ Refusal) → by_found out rest (mirp_found m (Ok v) t) ≡ by_reach w out (rest (single v)) t
+      split (Ok tt) = refl
+      split (Err why) = refl
 
-    found_by : (next : ℕ) {found said : Measured} {r : Lined} → found ≡ mirp_found m (control_found next f.controls) (reach_in w at zone) → found ≡ said → r ≡ by_found out rest said
+    found_by : (next : ℕ) {found said : Result ℤ Refusal} {r : Lined} → found ≡ mirp_found m (control_found next f.controls) (reach_in w at zone) → found ≡ said → r ≡ by_found out rest said
         → r ≡ control_by f next out (λ (v : ℤ). both_there at w out (rest (single v)) zone)
     found_by next e h p = p ∙ ap (by_found out rest) (sym h ∙ e) ∙ both_are (control_found next f.controls) ∙ control_is next _
 
@@ -191,7 +187,7 @@ module _ (f : Fixed) (w : World) (at : ℕ) where
   made_and_brought opcode sets control = brought opcode sets (made_from control w.state.pointers.zp0 w.state.pointers.zp1) control
 
   -- what was found, by the zones that the pointers name
-  abbrev found_in : ℕ → ZonePointer → ZonePointer → Measured
+  abbrev found_in : ℕ → ZonePointer → ZonePointer → Result ℤ Refusal
   found_in next zp0 zp1 = mirp_found w.state.measures (control_found next f.controls) (reach_of at zp0 w.state.references.rp0 (length w.gx) (length w.tx) zp1)
 
 module _ (f : Fixed) (opcode : ℕ) (operands : List ℤ) (w : World) {r : Lined} where
@@ -200,18 +196,18 @@ module _ (f : Fixed) (opcode : ℕ) (operands : List ℤ) (w : World) {r : Lined
   mirp_missing h e = two_missing w operands _ h e
 
   -- ---- both operands are there, and the control value and the points were looked at
-  module _ {next at : ℕ} {zp0 zp1 : ZonePointer} {sets : Bool} {found : Measured} (h : 2 ≤ length operands) (i : next ≡ index_of (add32 (get_or operands 0 (pos 0)) (pos 1))) (j : at ≡ index_at operands 1) (e0 : zp0 ≡ w.state.pointers.zp0) (e1 : zp1 ≡ w.state.pointers.zp1) (s : sets ≡ sets_rp0 opcode) (e : found ≡ found_in f w at next zp0 zp1) where
-    by_found_lem : {said : Measured} → found ≡ said → r ≡ by_found (related_or sets at w) (made_and_brought f w at opcode sets) said → r ≡ mirp_of f opcode operands w
+  module _ {next at : ℕ} {zp0 zp1 : ZonePointer} {sets : Bool} {found : Result ℤ Refusal} (h : 2 ≤ length operands) (i : next ≡ index_of (add32 (get_or operands 0 (pos 0)) (pos 1))) (j : at ≡ index_at operands 1) (e0 : zp0 ≡ w.state.pointers.zp0) (e1 : zp1 ≡ w.state.pointers.zp1) (s : sets ≡ sets_rp0 opcode) (e : found ≡ found_in f w at next zp0 zp1) where
+    by_found_lem : {said : Result ℤ Refusal} → found ≡ said → r ≡ by_found (related_or sets at w) (made_and_brought f w at opcode sets) said → r ≡ mirp_of f opcode operands w
     unfolding mirp_of
     by_found_lem t p =
         two_there w operands _ h
         (rw (← i, ← j, ← s)
         (found_by f w (related_or sets at w) w.state.measures at w.state.pointers.zp1 (made_and_brought f w at opcode sets) next (e ∙ ap₂ (found_in f w at next) e0 e1) t p))
 
-    pub mirp_outside : {why : Refusal} → found ≡ Refused why → r ≡ related_or sets at w why → r ≡ mirp_of f opcode operands w
+    pub mirp_outside : {why : Refusal} → found ≡ Err why → r ≡ related_or sets at w why → r ≡ mirp_of f opcode operands w
     mirp_outside t p = by_found_lem t p
 
-    pub mirp_moved : {z control : ℤ} (made : World) {own original distance : ℤ} {within : Bool} {d step : Tracked} {m : Move} {b : BothMoved} → found ≡ Distance z → control ≡ z → made ≡ made_from f w at control zp0 zp1
+    pub mirp_moved : {z control : ℤ} (made : World) {own original distance : ℤ} {within : Bool} {d step : Tracked} {m : Move} {b : BothMoved} → found ≡ Ok z → control ≡ z → made ≡ made_from f w at control zp0 zp1
         → own ≡ own_in f w at made zp0 zp1
         → original ≡ apart_in f w at made zp0 zp1
         → within ≡ same_zone zp0 zp1

@@ -21,7 +21,7 @@ ghost use Rattle.projection.specs.Projection.{project_of};
 ghost use Rattle.line_mirp.specs.Mirp.{mirp_distance, mirp_of, mirp_place, same_zone};
 ghost use Rattle.line_mirp.specs.Steps.{control_found, mirp_found};
 
-use answer::{Call, Refusal};
+use answer::Refusal;
 use graphics::{GraphicsState, Measures, Vector, Vectors, ZonePointer};
 use int::{as_index, wrapping_add};
 use line::{Stepped, index_at, place_in, put_at, refused};
@@ -32,7 +32,7 @@ use line_relative::{place_alike_in, reach, relate_or, settle_relative};
 use line_steps::step_from;
 use math::mul;
 use moves::{apply_in, move_of};
-use projection::{Measured, project};
+use projection::project;
 use round::{RoundState, Tracked};
 use zone::coordinate_or_0;
 
@@ -44,19 +44,19 @@ fn next_at(operands: &[i32]) -> u64
     as_index(wrapping_add(coordinate_or_0(operands, 0), 1))
 }
 
-fn control_found(next: u64, controls: &[i32]) -> Measured
+fn control_found(next: u64, controls: &[i32]) -> Result<i32, Refusal>
     ensures { result ≡ control_found next controls.now }
 {
     if next == 0 {
-        return Measured::Distance(0);
+        return Ok(0);
     }
     let entry = next - 1;
     let i = entry as usize;
     if controls.len() <= i {
-        return Measured::Refused(Refusal::ControlValue(entry));
+        return Err(Refusal::ControlValue(entry));
     }
     let value = controls[i];
-    Measured::Distance(value)
+    Ok(value)
 }
 
 // The control value, or the single width where that is near, or why the line is refused: the value is looked at first, then the points.
@@ -70,23 +70,14 @@ fn mirp_found(
     reference: u64,
     glyph: usize,
     twilight: usize,
-) -> Measured
+) -> Result<i32, Refusal>
     ensures { result ≡ mirp_found m (control_found next controls.now) (reach_of at other reference glyph twilight zone) }
 {
     let control = control_found(next, controls);
     let there = reach(zone, at, other, reference, glyph, twilight);
-    match control {
-        Measured::Refused(why) => Measured::Refused(why),
-        Measured::Distance(value) => {
-            match there {
-                Call::Refused(why) => Measured::Refused(why),
-                Call::Done => {
-                    let width = single_control(m.single_width_cut_in, m.single_width, value);
-                    Measured::Distance(width)
-                }
-            }
-        }
-    }
+    let value = control?;
+    there?;
+    Ok(single_control(m.single_width_cut_in, m.single_width, value))
 }
 
 // ---- the twilight point
@@ -226,8 +217,8 @@ pub fn mirp(
         tx.len(),
     );
     match found {
-        Measured::Refused(why) => relate_or(s, sets, at, why),
-        Measured::Distance(control) => {
+        Err(why) => relate_or(s, sets, at, why),
+        Ok(control) => {
             make_in(
                 zp1,
                 vectors.freedom,

@@ -1,12 +1,11 @@
 -- MSIRP in each of its cases, over a plain world: the laws of its steps, in their order. Assumes nothing.
+use Rattle.std.specs.Prelude.{⊤, Result, Ok, Err}
 use Prim.Native.Nat.{ℕ, ◌≤◌, ◌<◌}
 use mathlib.Core.Bool.{Bool, cond, false}
 use mathlib.Core.List.{List}
 use mathlib.Core.Path.{◌≡◌, ap, refl, ◌∙◌}
 use lib.IntN.{ℤ, pos}
 use lib.ListN.{get_or, length}
-use Rattle.answer.specs.declared.Call.TheVariants.{Done, Refused}
-use Rattle.answer.specs.declared.Call.{Call}
 use Rattle.answer.specs.declared.Refusal.TheVariants.{Missing}
 use Rattle.answer.specs.declared.Refusal.{Refusal}
 use Rattle.graphics.specs.State.{with_rounding}
@@ -49,12 +48,12 @@ module _ (f : Fixed) (opcode : ℕ) (operands : List ℤ) (w : World) {r : Lined
   msirp_missing h e = two_missing w operands _ h e
 
   -- ---- both operands are there
-  module _ {distance : ℤ} {at : ℕ} {there : Call} (h : 2 ≤ length operands) (d : distance ≡ get_or operands 0 (pos 0)) (j : at ≡ index_at operands 1) (e : there ≡ reach_in w at w.state.pointers.zp1) where
-    pub msirp_passed : {why : Refusal} → there ≡ Refused why → r ≡ passed_over w why → r ≡ msirp_of f opcode operands w
+  module _ {distance : ℤ} {at : ℕ} {there : Result ⊤ Refusal} (h : 2 ≤ length operands) (d : distance ≡ get_or operands 0 (pos 0)) (j : at ≡ index_at operands 1) (e : there ≡ reach_in w at w.state.pointers.zp1) where
+    pub msirp_passed : {why : Refusal} → there ≡ Err why → r ≡ passed_over w why → r ≡ msirp_of f opcode operands w
     unfolding msirp_of
     msirp_passed t p = two_there w operands _ h (rw (← d, ← j) (looked_up w (passed_over w) at _ w.state.pointers.zp1 e t p))
 
-    pub msirp_moved : (made : World) {place reference : Vector} {by : ℤ} {odd : Bool} {m : Move} {b : BothMoved} → there ≡ Done
+    pub msirp_moved : (made : World) {place reference : Vector} {by : ℤ} {odd : Bool} {m : Move} {b : BothMoved} → there ≡ Ok tt
         → made ≡ made_in at (made_place w.state.vectors distance (made_from f.rules (place_of w.tox w.toy at) (place_in w.state.references.rp0 f.gox f.goy w.tox w.toy w.state.pointers.zp0))) w w.state.pointers.zp1
         → place ≡ place_on made w.state.pointers.zp1 at
         → reference ≡ place_on made w.state.pointers.zp0 w.state.references.rp0

@@ -16,7 +16,7 @@ ghost use Rattle.zone.specs.Zone.{place_of};
 ghost use Rattle.line_steps.specs.Steps.{in_state, into, made_in, passed_over};
 ghost use Rattle.line_msirp.specs.Msirp.{made_from, made_place, msirp_of};
 
-use answer::{Call, Refusal};
+use answer::Refusal;
 use graphics::{GraphicsState, Vector, Vectors, ZonePointer};
 use int::{wrapping_add, wrapping_sub};
 use line::{Stepped, done, index_at, is_odd, place_at, place_in, put_at, refused};
@@ -145,8 +145,8 @@ pub fn msirp(
     let rp0 = references.rp0;
     let there = reach(zp1, at, zp0, rp0, gx.len(), tx.len());
     match there {
-        Call::Refused(why) => pass_over(s, why),
-        Call::Done => {
+        Err(why) => pass_over(s, why),
+        Ok(()) => {
             make_in(
                 zp1, rules, vectors, distance, at, zp0, rp0, gox, goy, tox, toy, tx, ty,
             );

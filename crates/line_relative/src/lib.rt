@@ -12,24 +12,24 @@ ghost use Rattle.line_steps.specs.Steps.{by_call, done_in, in_state, into, round
 ghost use Rattle.line_relative.specs.Relative.{related, related_by, related_or};
 ghost use Rattle.line_relative.specs.Steps.{both_inside, reach_of};
 
-use answer::{Call, Refusal};
+use answer::Refusal;
 use graphics::{GraphicsState, Vector, ZonePointer};
 use line::{Stepped, done, refused, size_of};
 
 // ---- whether the two points are there
 // The first is looked at first.
-pub fn both_inside(first: u64, firsts: usize, second: u64, seconds: usize) -> Call
+pub fn both_inside(first: u64, firsts: usize, second: u64, seconds: usize) -> Result<(), Refusal>
     ensures { result ≡ both_inside first firsts second seconds }
 {
     let i = first as usize;
     let j = second as usize;
     if firsts <= i {
-        return Call::Refused(Refusal::Point(first));
+        return Err(Refusal::Point(first));
     }
     if seconds <= j {
-        return Call::Refused(Refusal::Point(second));
+        return Err(Refusal::Point(second));
     }
-    Call::Done
+    Ok(())
 }
 
 // rp0 is looked at first where the point is in twilight, else the point.
@@ -40,7 +40,7 @@ pub fn reach(
     reference: u64,
     glyph: usize,
     twilight: usize,
-) -> Call
+) -> Result<(), Refusal>
     ensures { result ≡ reach_of at other reference glyph twilight zone }
 {
     let others = size_of(other, glyph, twilight);
@@ -105,11 +105,17 @@ pub fn relate_or(s: GraphicsState, sets: bool, at: u64, why: Refusal) -> Stepped
 }
 
 // What a line comes to once the point was moved: its rounding counted and the references set.
-pub fn settle_relative(s: GraphicsState, sets: bool, at: u64, wrapped: bool, call: Call) -> Stepped
+pub fn settle_relative(
+    s: GraphicsState,
+    sets: bool,
+    at: u64,
+    wrapped: bool,
+    call: Result<(), Refusal>,
+) -> Stepped
     ensures { (w : World) → into w result ≡ by_call (in_state w s) (λ (v : World). done_in (related sets at (rounded_in wrapped v))) call }
 {
     match call {
-        Call::Done => done(relate(s.with_rounding(wrapped), sets, at)),
-        Call::Refused(why) => refused(s, why),
+        Ok(()) => done(relate(s.with_rounding(wrapped), sets, at)),
+        Err(why) => refused(s, why),
     }
 }

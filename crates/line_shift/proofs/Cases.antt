@@ -1,4 +1,6 @@
 -- What SHP and SHPIX come to in each of their cases, over plain lists: the functions' proofs cite these. Assumes nothing.
+use Rattle.std.specs.Prelude.{⊤, Result, Ok, Err}
+use Rattle.graphics.specs.declared.Vector.{Vector}
 use Prim.Native.Nat.{ℕ, ◌-◌, ◌<◌}
 use mathlib.Core.Bool.{false, true}
 use mathlib.Core.List.{List, [], ◌∷◌}
@@ -7,7 +9,6 @@ use native.Mathlib.Omega.{arith}
 use lib.IntN.{ℤ, pos}
 use lib.ListN.{drop, get_or, length, take}
 use lib.Seq.{take_all}
-use Rattle.answer.specs.declared.Call.{Call}
 use Rattle.answer.specs.declared.Refusal.TheVariants.{Compatibility, Missing}
 use Rattle.answer.specs.declared.Refusal.{Refusal}
 use Rattle.graphics.specs.State.{with_loop_counter}
@@ -25,19 +26,15 @@ use Rattle.line_steps.specs.Steps.{looped, refused_in, shift_point}
 use Rattle.math.specs.Fixed.{mul_fix14}
 use Rattle.moves.specs.Displacement.{displaced_at, displaced_from, displaced_in, reference_of}
 use Rattle.moves.specs.Move.{zp2_move_of}
-use Rattle.moves.specs.declared.Displaced.TheVariants.{By}
-use Rattle.moves.specs.declared.Displaced.TheVariants.{Refused as RefusedDisplacement}
-use Rattle.moves.specs.declared.Displaced.{Displaced}
 use Rattle.moves.specs.declared.Displacement.{Displacement}
 use Rattle.moves.specs.declared.Move.{Move}
 use Rattle.moves.specs.declared.Reference.{Reference}
 use Rattle.line.specs.World.{Fixed, Lined, World, lined}
 use Rattle.zone.proofs.Tried.{outside, within}
-use Rattle.zone.specs.declared.Fetched.{Fetched}
 use Rattle.line_shift.specs.Shift.{pixel_move, shp_of, shpix_of}
 
 -- ---- the loop, by any move that is the line's
-shifted_by : (operands : List ℤ) (w : World) {m by : Move} {r : Stepped} {call : Call} {z : Zones} → m ≡ by
+shifted_by : (operands : List ℤ) (w : World) {m by : Move} {r : Stepped} {call : Result ⊤ Refusal} {z : Zones} → m ≡ by
     → r ≡ record { call = call; state = with_loop_counter w.state 1 }
     → ended call z ≡ in_zone (each (shift_unless_idle m) w.state.loop_counter operands) (zones_of w) w.state.pointers.zp2
     → lined r z.glyph.xs z.glyph.ys z.glyph.flags w.tox w.toy z.twilight.xs z.twilight.ys z.twilight.flags ≡ looped operands w (shift_point by)
@@ -52,21 +49,21 @@ module _ (v : Vectors) (p : Reference) (gox goy gx gy tox toy tx ty : List ℤ) 
   in_zone_lem Glyph = refl
   in_zone_lem Twilight = refl
 
-  pub current_read : {here h : Fetched} → here ≡ fetch_in p.at gx gy tx ty p.zone → here ≡ h
+  pub current_read : {here h : Result Vector Refusal} → here ≡ fetch_in p.at gx gy tx ty p.zone → here ≡ h
       → displaced_from v p (fetch_in p.at gox goy tox toy p.zone) h ≡ displaced_in v p gox goy gx gy tox toy tx ty p.zone
   current_read e q = ap (displaced_from v p (fetch_in p.at gox goy tox toy p.zone)) (sym q ∙ e) ∙ in_zone_lem p.zone
 
-  pub both_read : {here h there t : Fetched} → here ≡ fetch_in p.at gx gy tx ty p.zone → here ≡ h → there ≡ fetch_in p.at gox goy tox toy p.zone → there ≡ t
+  pub both_read : {here h there t : Result Vector Refusal} → here ≡ fetch_in p.at gx gy tx ty p.zone → here ≡ h → there ≡ fetch_in p.at gox goy tox toy p.zone → there ≡ t
       → displaced_from v p t h ≡ displaced_in v p gox goy gx gy tox toy tx ty p.zone
-  both_read {h = h} e q f r = ap (λ (original : Fetched). displaced_from v p original h) (sym r ∙ f) ∙ current_read e q
+  both_read {h = h} e q f r = ap (λ (original : Result Vector Refusal). displaced_from v p original h) (sym r ∙ f) ∙ current_read e q
 
-module _ (f : Fixed) (opcode : ℕ) (operands : List ℤ) (w : World) {p : Reference} {d : Displaced} (e : p ≡ reference_of w.state opcode)
+module _ (f : Fixed) (opcode : ℕ) (operands : List ℤ) (w : World) {p : Reference} {d : Result Displacement Refusal} (e : p ≡ reference_of w.state opcode)
     (q : d ≡ displaced_in w.state.vectors p f.gox f.goy w.gx w.gy w.tox w.toy w.tx w.ty p.zone) where
-  pub shp_refused : {why : Refusal} {r : Lined} → d ≡ RefusedDisplacement why → r ≡ refused_in w why → r ≡ shp_of f opcode operands w
+  pub shp_refused : {why : Refusal} {r : Lined} → d ≡ Err why → r ≡ refused_in w why → r ≡ shp_of f opcode operands w
   unfolding shp_of
   shp_refused h k = reference_out w f opcode _ (reference_is w f opcode e q) h k
 
-  pub shp_shifted : {by : Displacement} {x y : ℤ} {m : Move} {r : Stepped} {call : Call} {z : Zones} → d ≡ By by
+  pub shp_shifted : {by : Displacement} {x y : ℤ} {m : Move} {r : Stepped} {call : Result ⊤ Refusal} {z : Zones} → d ≡ Ok by
       → m ≡ zp2_move_of w.state.vectors w.state.facts x y true → x ≡ by.dx → y ≡ by.dy
       → r ≡ record { call = call; state = with_loop_counter w.state 1 }
       → ended call z ≡ in_zone (each (shift_unless_idle m) w.state.loop_counter operands) (zones_of w) w.state.pointers.zp2
@@ -97,7 +94,7 @@ module _ (f : Fixed) (opcode : ℕ) (operands : List ℤ) (w : World) where
   no_amount h k e = first_missing w operands _ (omega arith) e ∙ outside _ _ refl h
 
   -- the first operand is the amount, and the rest are points
-  pub amount_first : {amount : ℤ} {m : Move} {r : Stepped} {call : Call} {z : Zones} → w.state.facts.backward_compatibility ≡ false → 0 < length operands
+  pub amount_first : {amount : ℤ} {m : Move} {r : Stepped} {call : Result ⊤ Refusal} {z : Zones} → w.state.facts.backward_compatibility ≡ false → 0 < length operands
       → m ≡ pixel_move w.state.vectors w.state.facts amount → amount ≡ get_or operands 0 (pos 0)
       → r ≡ record { call = call; state = with_loop_counter w.state 1 }
       → ended call z ≡ in_zone (each (shift_unless_idle m) w.state.loop_counter (take (length operands - 1) (drop 1 operands))) (zones_of w) w.state.pointers.zp2

@@ -15,17 +15,15 @@ ghost use Rattle.line.specs.World.{Fixed, fixed, lined, world};
 ghost use Rattle.moves.specs.Displacement.{displaced_in};
 ghost use Rattle.line_shift.specs.Shift.{pixel_move, shp_of, shpix_of};
 
-use answer::{Call, Refusal};
+use answer::Refusal;
 use graphics::{Facts, GraphicsState, Vectors, ZonePointer};
 use int::as_index;
 use line::{Stepped, fetch_in, refused};
 use line_steps::take_each;
 use math::mul14;
 use moves::{
-    Displaced, Displacement, Move, Reference, apply, apply_in, displacement_by, reference_of,
-    zp2_move_of,
+    Displacement, Move, Reference, apply, apply_in, displacement_by, reference_of, zp2_move_of,
 };
-use zone::Fetched;
 
 // ---- points shifted by one move
 fn shift_each(
@@ -35,24 +33,19 @@ fn shift_each(
     xs: &mut [i32],
     ys: &mut [i32],
     flags: &mut [u8],
-) -> Call
+) -> Result<(), Refusal>
     requires { (length ys.old ≡ length xs.old) × (length flags.old ≡ length xs.old) }
     ensures { ended result (points xs.new ys.new flags.new) ≡ each (shift_at m) count operands.now (points xs.old ys.old flags.old) }
 {
     let wanted = count as usize;
-    let mut k = 0;
-    while k < wanted {
+    for k in 0..wanted {
         if operands.len() <= k {
-            return Call::Refused(Refusal::Missing);
+            return Err(Refusal::Missing);
         }
         let at = as_index(operands[k]);
-        let shifted = apply(m, at, xs, ys, flags);
-        match shifted {
-            Call::Refused(why) => return Call::Refused(why),
-            Call::Done => k += 1,
-        }
+        apply(m, at, xs, ys, flags)?;
     }
-    Call::Done
+    Ok(())
 }
 
 // An idle move looks at no point, so a wild index is accepted.
@@ -63,7 +56,7 @@ fn shift_points(
     xs: &mut [i32],
     ys: &mut [i32],
     flags: &mut [u8],
-) -> Call
+) -> Result<(), Refusal>
     requires { (length ys.old ≡ length xs.old) × (length flags.old ≡ length xs.old) }
     ensures { ended result (points xs.new ys.new flags.new) ≡ each (shift_unless_idle m) count operands.now (points xs.old ys.old flags.old) }
 {
@@ -86,7 +79,7 @@ fn shift_in(
     tx: &mut [i32],
     ty: &mut [i32],
     tflags: &mut [u8],
-) -> Call
+) -> Result<(), Refusal>
     requires { (length gy.old ≡ length gx.old) × (length gflags.old ≡ length gx.old) × (length ty.old ≡ length tx.old) × (length tflags.old ≡ length tx.old) }
     ensures { ended result (zones gx.new gy.new gflags.new tx.new ty.new tflags.new) ≡ in_zone (each (shift_unless_idle m) count operands.now) (zones gx.old gy.old gflags.old tx.old ty.old tflags.old) zone }
 {
@@ -107,15 +100,15 @@ fn shift_one_in(
     tx: &mut [i32],
     ty: &mut [i32],
     tflags: &mut [u8],
-) -> Call
+) -> Result<(), Refusal>
     requires { (length gy.old ≡ length gx.old) × (length gflags.old ≡ length gx.old) × (length ty.old ≡ length tx.old) × (length tflags.old ≡ length tx.old) }
     ensures { ended result (zones gx.new gy.new gflags.new tx.new ty.new tflags.new) ≡ in_zone (each (shift_unless_idle m) 1 operands.now) (zones gx.old gy.old gflags.old tx.old ty.old tflags.old) zone }
 {
     if operands.len() == 0 {
-        return Call::Refused(Refusal::Missing);
+        return Err(Refusal::Missing);
     }
     if m.is_idle() {
-        return Call::Done;
+        return Ok(());
     }
     apply_in(
         zone,
@@ -143,40 +136,30 @@ fn displaced(
     toy: &[i32],
     tx: &[i32],
     ty: &[i32],
-) -> Displaced
+) -> Result<Displacement, Refusal>
     requires { (length goy.now ≡ length gox.now) × (length gy.now ≡ length gx.now) × (length toy.now ≡ length tox.now) × (length ty.now ≡ length tx.now) }
     ensures { result ≡ displaced_in v p gox.now goy.now gx.now gy.now tox.now toy.now tx.now ty.now p.zone }
 {
     let zone = p.zone;
     let at = p.at;
-    let here = fetch_in(zone, at, gx, gy, tx, ty);
-    match here {
-        Fetched::Refused(why) => Displaced::Refused(why),
-        Fetched::At(current) => {
-            let there = fetch_in(zone, at, gox, goy, tox, toy);
-            match there {
-                Fetched::Refused(why) => Displaced::Refused(why),
-                Fetched::At(original) => {
-                    let d = displacement_by(
-                        v.projection.x,
-                        v.projection.y,
-                        v.freedom.x,
-                        v.freedom.y,
-                        current.x,
-                        current.y,
-                        original.x,
-                        original.y,
-                    );
-                    Displaced::By(Displacement {
-                        zone,
-                        at,
-                        dx: d.x,
-                        dy: d.y,
-                    })
-                }
-            }
-        }
-    }
+    let current = fetch_in(zone, at, gx, gy, tx, ty)?;
+    let original = fetch_in(zone, at, gox, goy, tox, toy)?;
+    let d = displacement_by(
+        v.projection.x,
+        v.projection.y,
+        v.freedom.x,
+        v.freedom.y,
+        current.x,
+        current.y,
+        original.x,
+        original.y,
+    );
+    Ok(Displacement {
+        zone,
+        at,
+        dx: d.x,
+        dy: d.y,
+    })
 }
 
 pub fn shp(
@@ -204,8 +187,8 @@ pub fn shp(
     let reference = reference_of(s, opcode);
     let by = displaced(vectors, reference, gox, goy, gx, gy, tox, toy, tx, ty);
     match by {
-        Displaced::Refused(why) => refused(s, why),
-        Displaced::By(d) => {
+        Err(why) => refused(s, why),
+        Ok(d) => {
             let m = zp2_move_of(vectors, facts, d.dx, d.dy, true);
             if count == 1 {
                 let call = shift_one_in(zp2, m, operands, gx, gy, gflags, tx, ty, tflags);

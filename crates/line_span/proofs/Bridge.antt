@@ -1,10 +1,11 @@
 -- A span over the zones lent is the span over any world that holds them. Assumes nothing.
+use Rattle.std.specs.Prelude.{⊤, Result, Ok, Err}
+use Rattle.answer.specs.declared.Refusal.{Refusal}
 use Prim.Native.Nat.{ℕ, ◌-◌}
 use mathlib.Core.Bool.{Bool, ◌&&◌, cond, false, true}
 use mathlib.Core.Path.{◌≡◌, ap, refl, sym, ◌∙◌}
 use lib.Dec.{eqb}
 use lib.IntN.{ℤ}
-use Rattle.answer.specs.declared.Call.{Call}
 use Rattle.graphics.specs.declared.ZonePointer.TheVariants.{Glyph, Twilight}
 use Rattle.graphics.specs.declared.ZonePointer.{ZonePointer}
 use Rattle.int.specs.Word.{index_of}
@@ -14,9 +15,6 @@ use Rattle.line_steps.specs.Loop.{Zones, ended, in_zone, pass, shift_unless_idle
 use Rattle.line_steps.specs.Steps.{by_displaced, reference_in, reference_moved, done_in, each_in, shift_point}
 use Rattle.moves.specs.Displacement.{reference_of}
 use Rattle.moves.specs.Move.{zp2_move_of}
-use Rattle.moves.specs.declared.Displaced.TheVariants.{By}
-use Rattle.moves.specs.declared.Displaced.TheVariants.{Refused as RefusedDisplacement}
-use Rattle.moves.specs.declared.Displaced.{Displaced}
 use Rattle.moves.specs.declared.Displacement.{Displacement}
 use Rattle.moves.specs.declared.Move.{Move}
 use Rattle.moves.specs.declared.Reference.{Reference}
@@ -48,15 +46,15 @@ module _ (f : Fixed) (opcode : ℕ) (touches : Bool) (start end : ℕ) (w : Worl
       let m = zp2_move_of w.state.vectors w.state.facts d.dx d.dy touches in
       each_in (shift_but m (same_zone d.zone w.state.pointers.zp2) d.at) (end - start) (points_from start (end - start)) w
 
-  by_displaced_lem : (d : Displaced) → zones_in w (span_by w.state.vectors w.state.facts w.state.pointers.zp2 touches start end (zones_of w) d) ≡ by_displaced w moved d
+  by_displaced_lem : (d : Result Displacement Refusal) → zones_in w (span_by w.state.vectors w.state.facts w.state.pointers.zp2 touches start end (zones_of w) d) ≡ by_displaced w moved d
   unfolding span_by shift_span
-  by_displaced_lem (By d) =
+  by_displaced_lem (Ok d) =
       let m = zp2_move_of w.state.vectors w.state.facts d.dx d.dy touches in
       let keeps = same_zone d.zone w.state.pointers.zp2 in
       sym (zone_each_is (shift_but_at m keeps d.at) (shift_but m keeps d.at) (step_is m keeps d.at) (end - start) (points_from start (end - start)) w)
-  by_displaced_lem (RefusedDisplacement why) = refl
+  by_displaced_lem (Err why) = refl
 
-  pub span_is : {p : Reference} {call : Call} {z : Zones} → p ≡ reference_of w.state opcode
+  pub span_is : {p : Reference} {call : Result ⊤ Refusal} {z : Zones} → p ≡ reference_of w.state opcode
       → ended call z ≡ span_of w.state.vectors w.state.facts w.state.pointers.zp2 p touches start end f.gox f.goy w.tox w.toy (zones_of w)
       → lined (record { call = call; state = w.state }) z.glyph.xs z.glyph.ys z.glyph.flags w.tox w.toy z.twilight.xs z.twilight.ys z.twilight.flags
       ≡ span_in f opcode touches start end w

@@ -1,16 +1,18 @@
 -- Points in a row, beside `each`: where the row ends, where it is cut in two, where two kinds of step do the same, and what it comes to where the points are all there. Assumes nothing.
+use Rattle.std.specs.Prelude.{⊤, Result, Ok, Err}
 use Prim.Native.Nat.{ℕ, ◌+◌, ◌-◌, ◌<◌, ◌≤◌, suc, zero}
 use mathlib.Core.Bool.{Bool, ◌&&◌, cond, false, true}
-use mathlib.Core.List.{List}
+use mathlib.Core.List.{List, ◌++◌}
 use mathlib.Core.Path.{◌≡◌, ap, refl, sym, ◌∙◌}
 use native.Mathlib.Omega.{arith}
 use borrow.Author.Tests.{eq-eqb, eqb-true, le-leb, le-ltb, leb-true, lt-ltb, ltb-true, ne_eqb}
 use lib.Bits.{bit_or}
 use lib.Dec.{eqb, leb, ltb}
 use lib.IntN.{ℤ, pos}
-use lib.ListN.{get_or, length, length-set, set}
-use Rattle.answer.specs.declared.Call.TheVariants.{Done, Refused}
-use Rattle.answer.specs.declared.Call.{Call}
+use borrow.Rule.Slice.PartMut.{post_of, put_mid}
+use lib.ListN.{get_or, length, length-set, set, take}
+use lib.Seq.{length-take-le}
+use Rattle.std.proofs.lemmas.List.{get_or-append_right, get_or_append_left, set-append_left, set-append_right}
 use Rattle.answer.specs.declared.Refusal.TheVariants.{Point}
 use Rattle.answer.specs.declared.Refusal.{Refusal}
 use Rattle.graphics.proofs.Laws.{and_left, and_right}
@@ -47,6 +49,24 @@ module _ {A : Type 0} (f : List A → ℕ → List A) where
   run_still h zero at l = refl
   run_still h (suc n) at l = run_still h n (suc at) l ∙ ap (at_each f n (suc at)) (sym (h l at))
 
+-- a part of a list, put back with one element changed, and one of its elements there
+module _ {A : Type 0} (start k i : ℕ) (l part : List A) (within : start ≤ length l) (there : i < length part) where
+  there_at : start + i - start ≡ i
+  there_at = omega arith
+
+  put_set : (z : A) → put_mid start k l (set part i z) ≡ set (put_mid start k l part) (start + i) z
+  put_set z =
+      sym
+      (set-append_right (take start l) (part ++ post_of start k l) start (start + i) z (length-take-le start l within) (omega arith)
+      ∙ ap (λ (j : ℕ). take start l ++ set (part ++ post_of start k l) j z) there_at
+      ∙ ap (λ (m : List A). take start l ++ m) (set-append_left part (post_of start k l) i z there))
+
+  put_get : (d : A) → get_or (put_mid start k l part) (start + i) d ≡ get_or part i d
+  put_get d =
+      get_or-append_right (take start l) (part ++ post_of start k l) start (start + i) d (length-take-le start l within) (omega arith)
+      ∙ ap (λ (j : ℕ). get_or (part ++ post_of start k l) j d) there_at
+      ∙ get_or_append_left part (post_of start k l) d i there
+
 -- coordinates moved
 module _ (by : ℤ) (end i : ℕ) (l : List ℤ) where
   pub moves_ended : end ≤ i → l ≡ moved_run true by i end l
@@ -55,6 +75,16 @@ module _ (by : ℤ) (end i : ℕ) (l : List ℤ) where
   pub moves_turned : i < end → {z : ℤ} → z ≡ add32 (get_or l i (pos 0)) by → moved_run true by (i + 1) end (set l i z) ≡ moved_run true by i end l
   moves_turned h e = run_turned (λ (m : List ℤ) (at : ℕ). moved_at m at by true) end i l h (ap (set l i) e)
 
+-- the same, the part alone at hand
+module _ (by : ℤ) (start end i : ℕ) (l part : List ℤ) (h : start ≤ end) (g : end ≤ length l) (long : length part ≡ end - start) where
+  pub part_moved : i < length part → {z : ℤ} → z ≡ add32 (get_or part i (pos 0)) by
+      → moved_run true by (start + (i + 1)) end (put_mid start (end - start) l (set part i z)) ≡ moved_run true by (start + i) end (put_mid start (end - start) l part)
+  part_moved there {z} e =
+      let within : start ≤ length l = omega (arith, h, g) in
+      let next : start + (i + 1) ≡ start + i + 1 = omega arith in
+      rw (next, put_set start (end - start) i l part within there z)
+      (moves_turned by end (start + i) (put_mid start (end - start) l part) (omega (arith, there, long)) (e ∙ ap (λ (x : ℤ). add32 x by) (sym (put_get start (end - start) i l part within there (pos 0)))))
+
 -- flags touched
 module _ (bits end i : ℕ) (l : List ℕ) where
   pub touches_ended : end ≤ i → l ≡ touched_run bits i end l
@@ -62,6 +92,16 @@ module _ (bits end i : ℕ) (l : List ℕ) where
 
   pub touches_turned : i < end → {flag : ℕ} → flag ≡ bit_or (get_or l i 0) bits → touched_run bits (i + 1) end (set l i flag) ≡ touched_run bits i end l
   touches_turned h e = run_turned (λ (m : List ℕ) (at : ℕ). or_at m at bits) end i l h (ap (set l i) e)
+
+-- the same, the part alone at hand
+module _ (bits start end i : ℕ) (l part : List ℕ) (h : start ≤ end) (g : end ≤ length l) (long : length part ≡ end - start) where
+  pub part_touched : i < length part → {flag : ℕ} → flag ≡ bit_or (get_or part i 0) bits
+      → touched_run bits (start + (i + 1)) end (put_mid start (end - start) l (set part i flag)) ≡ touched_run bits (start + i) end (put_mid start (end - start) l part)
+  part_touched there {flag} e =
+      let within : start ≤ length l = omega (arith, h, g) in
+      let next : start + (i + 1) ≡ start + i + 1 = omega arith in
+      rw (next, put_set start (end - start) i l part within there flag)
+      (touches_turned bits end (start + i) (put_mid start (end - start) l part) (omega (arith, there, long)) (e ∙ ap (λ (x : ℕ). bit_or x bits) (sym (put_get start (end - start) i l part within there 0))))
 
 -- coordinates that move, and those that don't
 pub all_moved : (by : ℤ) (start end : ℕ) (l : List ℤ) {moves : Bool} {d : ℤ} {r : List ℤ} → moves ≡ true → d ≡ by → r ≡ moved_run true d start end l → r ≡ moved_run moves by start end l
@@ -85,19 +125,19 @@ list_after_list m start end p {xs = xs} {ys = ys} a e b f g =
     (e ∙ ap (λ (d : ℤ). moved_run m.moves_x d start end p.xs) a)
 
 -- ---- steps of any kind
-on_same : {S : Type 0} {a b : S → Ended S} → ((s : S) → a s ≡ b s) → (s : S) (call : Call) → onward a s call ≡ onward b s call
+on_same : {S : Type 0} {a b : S → Ended S} → ((s : S) → a s ≡ b s) → (s : S) (call : Result ⊤ Refusal) → onward a s call ≡ onward b s call
 unfolding onward
-on_same h s Done = h s
-on_same h s (Refused why) = refl
+on_same h s (Ok tt) = h s
+on_same h s (Err why) = refl
 
 module _ {S : Type 0} (f : ℕ → S → Ended S) where
-  none_left : (n at : ℕ) (s : S) → n ≤ 0 → ended Done s ≡ each f n (points_from at n) s
+  none_left : (n at : ℕ) (s : S) → n ≤ 0 → ended (Ok tt) s ≡ each f n (points_from at n) s
   unfolding each
   none_left zero at s h = refl
   none_left (suc n) at s h = absurd (omega arith)
 
   -- steps that look at nothing
-  all_pass : ((at : ℕ) (s : S) → ended Done s ≡ f at s) → (n at : ℕ) (s : S) → ended Done s ≡ each f n (points_from at n) s
+  all_pass : ((at : ℕ) (s : S) → ended (Ok tt) s ≡ f at s) → (n at : ℕ) (s : S) → ended (Ok tt) s ≡ each f n (points_from at n) s
   unfolding each onward
   all_pass h zero at s = refl
   all_pass h (suc n) at s = all_pass h n (suc at) s ∙ ap (λ (e : Ended S). onward (each f n (points_from (suc at) n)) e.left e.call) (h at s)
@@ -112,10 +152,10 @@ module _ {S : Type 0} (f : ℕ → S → Ended S) where
 
   -- a row is its first part and then the others
   on_cut : (a b at next : ℕ) → ((s : S) → onward (each f b (points_from next b)) (each f a (points_from at a) s).left (each f a (points_from at a) s).call ≡ each f (a + b) (points_from at (a + b)) s)
-      → (s : S) (call : Call) → onward (each f b (points_from next b)) (onward (each f a (points_from at a)) s call).left (onward (each f a (points_from at a)) s call).call ≡ onward (each f (a + b) (points_from at (a + b))) s call
+      → (s : S) (call : Result ⊤ Refusal) → onward (each f b (points_from next b)) (onward (each f a (points_from at a)) s call).left (onward (each f a (points_from at a)) s call).call ≡ onward (each f (a + b) (points_from at (a + b))) s call
   unfolding onward
-  on_cut a b at next h s Done = h s
-  on_cut a b at next h s (Refused why) = refl
+  on_cut a b at next h s (Ok tt) = h s
+  on_cut a b at next h s (Err why) = refl
 
   cut : (a b at next : ℕ) → next ≡ at + a → (s : S) → onward (each f b (points_from next b)) (each f a (points_from at a) s).left (each f a (points_from at a) s).call ≡ each f (a + b) (points_from at (a + b)) s
   unfolding each onward
@@ -141,11 +181,11 @@ module _ {S : Type 0} (f : ℕ → S → Ended S) where
         from : (t : S) → in_row f (start + 1) end t ≡ each f (end - start - 1) (points_from (suc start) (end - start - 1)) t
         from t = let p : end - (start + 1) ≡ end - start - 1 = omega arith in let q : start + 1 ≡ suc start = omega arith in rw (p, q)
 
-    first_refused : {why : Refusal} → ended (Refused why) s ≡ f start s → ended (Refused why) s ≡ in_row f start end s
+    first_refused : {why : Refusal} → ended (Err why) s ≡ f start s → ended (Err why) s ≡ in_row f start end s
     unfolding onward
     first_refused e = ap (λ (r : Ended S). onward (in_row f (start + 1) end) r.left r.call) e ∙ stepped
 
-    first_passed : ended Done s ≡ f start s → in_row f (start + 1) end s ≡ in_row f start end s
+    first_passed : ended (Ok tt) s ≡ f start s → in_row f (start + 1) end s ≡ in_row f start end s
     unfolding onward
     first_passed e = ap (λ (r : Ended S). onward (in_row f (start + 1) end) r.left r.call) e ∙ stepped
 
@@ -164,16 +204,16 @@ module _ (m : Move) where
   abbrev moved : ℕ → Points → Points
   moved at p = points (moved_at p.xs at m.dx m.moves_x) (moved_at p.ys at m.dy m.moves_y) (or_at p.flags at m.touch)
 
-  there_is : (at : ℕ) (p : Points) → at < length p.xs → ended Done (moved at p) ≡ shift_at m at p
+  there_is : (at : ℕ) (p : Points) → at < length p.xs → ended (Ok tt) (moved at p) ≡ shift_at m at p
   unfolding apply_of
   there_is at p h = rw (lt-ltb at (length p.xs) h)
 
-  out_is : (at : ℕ) (p : Points) → length p.xs ≤ at → ended (Refused (Point at)) p ≡ shift_at m at p
+  out_is : (at : ℕ) (p : Points) → length p.xs ≤ at → ended (Err (Point at)) p ≡ shift_at m at p
   unfolding apply_of
   out_is at p h = rw (le-ltb at (length p.xs) h)
 
   -- ---- a row
-  all_there : (n at : ℕ) (p : Points) → at + n ≤ length p.xs → ended Done (shifted_from m n at p) ≡ each (shift_at m) n (points_from at n) p
+  all_there : (n at : ℕ) (p : Points) → at + n ≤ length p.xs → ended (Ok tt) (shifted_from m n at p) ≡ each (shift_at m) n (points_from at n) p
   unfolding each onward at_each
   all_there zero at p h = refl
   all_there (suc n) at p h =
@@ -181,17 +221,17 @@ module _ (m : Move) where
       ∙ ap (λ (e : Ended Points). onward (each (shift_at m) n (points_from (suc at) n)) e.left e.call) (there_is at p (omega arith))
 
   module _ (start end : ℕ) (p : Points) where
-    pub no_points : end ≤ start → ended Done p ≡ in_row (shift_at m) start end p
+    pub no_points : end ≤ start → ended (Ok tt) p ≡ in_row (shift_at m) start end p
     no_points h = none_left (shift_at m) (end - start) start p (omega arith)
 
     module _ (h : start < end) where
-      pub there_all : end ≤ length p.xs → ended Done (shifted_run m start end p) ≡ in_row (shift_at m) start end p
+      pub there_all : end ≤ length p.xs → ended (Ok tt) (shifted_run m start end p) ≡ in_row (shift_at m) start end p
       there_all g = all_there (end - start) start p (omega arith)
 
-      pub out_at_once : length p.xs ≤ start → ended (Refused (Point start)) p ≡ in_row (shift_at m) start end p
+      pub out_at_once : length p.xs ≤ start → ended (Err (Point start)) p ≡ in_row (shift_at m) start end p
       out_at_once g = first_refused (shift_at m) start end p h (out_is start p g)
 
-    pub out_later : start < length p.xs → length p.xs < end → ended (Refused (Point (length p.xs))) (shifted_run m start (length p.xs) p) ≡ in_row (shift_at m) start end p
+    pub out_later : start < length p.xs → length p.xs < end → ended (Err (Point (length p.xs))) (shifted_run m start (length p.xs) p) ≡ in_row (shift_at m) start end p
     unfolding onward
     out_later g h =
         let size = length p.xs in let q = shifted_run m start size p in
@@ -205,7 +245,7 @@ kept_below keeps kept start end t = ltb-true kept end (and_right (keeps && leb s
 
 module _ (m : Move) (keeps : Bool) (kept : ℕ) where
   -- the point is the one that is kept
-  kept_is : (at : ℕ) (p : Points) → (keeps && eqb at kept) ≡ true → ended Done p ≡ shift_but_at m keeps kept at p
+  kept_is : (at : ℕ) (p : Points) → (keeps && eqb at kept) ≡ true → ended (Ok tt) p ≡ shift_but_at m keeps kept at p
   kept_is at p e = sym (ap (λ (b : Bool). cond b (pass at p) (shift_unless_idle m at p)) e)
 
   -- it isn't, and the move isn't idle
@@ -213,11 +253,11 @@ module _ (m : Move) (keeps : Bool) (kept : ℕ) where
   shifted_is at p busy e = sym (ap (λ (b : Bool). cond b (pass at p) (shift_unless_idle m at p)) e ∙ ap (λ (idle : Bool). cond idle pass (shift_at m) at p) busy)
 
   -- an idle move passes every point
-  pub idle_is : (start end : ℕ) (p : Points) → is_idle m ≡ true → ended Done p ≡ shift_span m keeps kept start end p
+  pub idle_is : (start end : ℕ) (p : Points) → is_idle m ≡ true → ended (Ok tt) p ≡ shift_span m keeps kept start end p
   unfolding shift_span
   idle_is start end p idle = all_pass (shift_but_at m keeps kept) (λ at q. by at q (keeps && eqb at kept)) (end - start) start p
     where
-      by : (at : ℕ) (q : Points) (b : Bool) → ended Done q ≡ cond b (pass at q) (shift_unless_idle m at q)
+      by : (at : ℕ) (q : Points) (b : Bool) → ended (Ok tt) q ≡ cond b (pass at q) (shift_unless_idle m at q)
       by at q true = refl
       by at q false = sym (ap (λ (idle : Bool). cond idle pass (shift_at m) at q) idle)
 
@@ -238,7 +278,7 @@ module _ (m : Move) (keeps : Bool) (kept : ℕ) where
             let low : leb start kept ≡ true = le-leb start kept (omega arith) in let high : ltb kept end ≡ true = lt-ltb kept end (omega arith) in
             cc
 
-  module _ (busy : is_idle m ≡ false) (start end : ℕ) (p : Points) (t : (keeps && leb start kept && ltb kept end) ≡ true) {call : Call} {left : Points}
+  module _ (busy : is_idle m ≡ false) (start end : ℕ) (p : Points) (t : (keeps && leb start kept && ltb kept end) ≡ true) {call : Result ⊤ Refusal} {left : Points}
       (before : ended call left ≡ in_row (shift_at m) start kept p) where
     from_start : (keeps && leb start kept) ≡ true
     from_start = and_left (keeps && leb start kept) (ltb kept end) t
@@ -272,10 +312,10 @@ module _ (m : Move) (keeps : Bool) (kept : ℕ) where
             ∙ first_passed (shift_but_at m keeps kept) kept end s high (kept_is kept s itself)
 
     -- a point before the one that is kept was refused
-    pub cut_refused : {why : Refusal} → call ≡ Refused why → ended (Refused why) left ≡ shift_span m keeps kept start end p
+    pub cut_refused : {why : Refusal} → call ≡ Err why → ended (Err why) left ≡ shift_span m keeps kept start end p
     unfolding onward
     cut_refused e = ap (onward (in_row (shift_at m) (kept + 1) end) left) (sym e) ∙ cut_out
 
-    pub cut_done : call ≡ Done → {r : Ended Points} → r ≡ in_row (shift_at m) (kept + 1) end left → r ≡ shift_span m keeps kept start end p
+    pub cut_done : call ≡ Ok tt → {r : Ended Points} → r ≡ in_row (shift_at m) (kept + 1) end left → r ≡ shift_span m keeps kept start end p
     unfolding onward
     cut_done e q = q ∙ ap (onward (in_row (shift_at m) (kept + 1) end) left) (sym e) ∙ cut_out

@@ -1,15 +1,13 @@
 -- Points in a row as private functions say it, over the lists lent. Nobody need believe this: Span.antt is what the lines SHC and SHZ are held to. Assumes nothing.
-use Rattle.std.specs.Prelude.{ℕ, ◌-◌, suc, zero, Bool, ◌&&◌, cond, List, eqb, ℤ}
-use Rattle.answer.specs.declared.Call.TheVariants.{Refused}
+use Rattle.answer.specs.declared.Refusal.{Refusal}
+use Rattle.moves.specs.declared.Displacement.{Displacement}
+use Rattle.std.specs.Prelude.{ℕ, ◌-◌, suc, zero, Bool, ◌&&◌, cond, List, eqb, ℤ, Result, Ok, Err}
 use Rattle.graphics.specs.declared.Facts.{Facts}
 use Rattle.graphics.specs.declared.Vectors.{Vectors}
 use Rattle.graphics.specs.declared.ZonePointer.{ZonePointer}
 use Rattle.line_steps.specs.Loop.{Ended, Points, Zones, each, ended, in_zone, pass, points, shift_unless_idle}
 use Rattle.moves.specs.Displacement.{displaced_in}
 use Rattle.moves.specs.Move.{moved_at, zp2_move_of}
-use Rattle.moves.specs.declared.Displaced.TheVariants.{By}
-use Rattle.moves.specs.declared.Displaced.TheVariants.{Refused as RefusedDisplacement}
-use Rattle.moves.specs.declared.Displaced.{Displaced}
 use Rattle.moves.specs.declared.Move.{Move}
 use Rattle.moves.specs.declared.Reference.{Reference}
 use Rattle.zone.specs.Zone.{or_at}
@@ -57,9 +55,9 @@ shifted_run m start end p = shifted_from m (end - start) start p
 
 -- ---- in the zone that a pointer names
 -- as the reference point was, which is kept where it lies in the same zone
-unfoldable pub span_by : Vectors → Facts → ZonePointer → Bool → ℕ → ℕ → Zones → Displaced → Ended Zones
-span_by v f zp2 touches start end z (By d) = in_zone (shift_span (zp2_move_of v f d.dx d.dy touches) (same_zone d.zone zp2) d.at start end) z zp2
-span_by v f zp2 touches start end z (RefusedDisplacement why) = ended (Refused why) z
+unfoldable pub span_by : Vectors → Facts → ZonePointer → Bool → ℕ → ℕ → Zones → Result Displacement Refusal → Ended Zones
+span_by v f zp2 touches start end z (Ok d) = in_zone (shift_span (zp2_move_of v f d.dx d.dy touches) (same_zone d.zone zp2) d.at start end) z zp2
+span_by v f zp2 touches start end z (Err why) = ended (Err why) z
 
 unfoldable pub span_of : Vectors → Facts → ZonePointer → Reference → Bool → ℕ → ℕ → List ℤ → List ℤ → List ℤ → List ℤ → Zones → Ended Zones
 span_of v f zp2 p touches start end gox goy tox toy z =

@@ -11,27 +11,25 @@ ghost use Rattle.moves.specs.Move.{is_idle};
 ghost use Rattle.line_span.specs.Span.{same_zone};
 ghost use Rattle.line_span.specs.Steps.{moved_run, in_row, shift_span, shifted_run, span_of, touched_run};
 
-use answer::{Call, Refusal};
+use answer::Refusal;
 use flags::with_bits;
 use graphics::{Facts, Vectors, ZonePointer};
 use int::wrapping_add;
-use moves::{Displaced, Move, Reference, displaced_in, zp2_move_of};
+use moves::{Move, Reference, displaced_in, zp2_move_of};
 
 // ---- in one zone
 // One axis's coordinates from start up to end, each moved by so much.
 fn add_run(list: &mut [i32], start: usize, end: usize, by: i32)
-    requires { end ≤ length list.old }
+    requires { (start ≤ end) × (end ≤ length list.old) }
     ensures { list.new ≡ moved_run true by start end list.old }
 {
-    let mut i = start;
-    while i < end {
-        list[i] = wrapping_add(list[i], by);
-        i += 1;
+    for x in &mut list[start..end] {
+        *x = wrapping_add(*x, by);
     }
 }
 
 fn move_run(list: &mut [i32], start: usize, end: usize, moves: bool, by: i32)
-    requires { end ≤ length list.old }
+    requires { (start ≤ end) × (end ≤ length list.old) }
     ensures { list.new ≡ moved_run moves by start end list.old }
 {
     if moves {
@@ -40,19 +38,17 @@ fn move_run(list: &mut [i32], start: usize, end: usize, moves: bool, by: i32)
 }
 
 fn touch_run(flags: &mut [u8], start: usize, end: usize, bits: u8)
-    requires { end ≤ length flags.old }
+    requires { (start ≤ end) × (end ≤ length flags.old) }
     ensures { flags.new ≡ touched_run bits start end flags.old }
 {
-    let mut i = start;
-    while i < end {
-        flags[i] = with_bits(flags[i], bits);
-        i += 1;
+    for flag in &mut flags[start..end] {
+        *flag = with_bits(*flag, bits);
     }
 }
 
 // Points that are all there: one list after another, so that no point is tested.
 fn shift_there(m: Move, start: usize, end: usize, xs: &mut [i32], ys: &mut [i32], flags: &mut [u8])
-    requires { (length ys.old ≡ length xs.old) × (length flags.old ≡ length xs.old) × (end ≤ length xs.old) }
+    requires { (length ys.old ≡ length xs.old) × (length flags.old ≡ length xs.old) × (start ≤ end) × (end ≤ length xs.old) }
     ensures { points xs.new ys.new flags.new ≡ shifted_run m start end (points xs.old ys.old flags.old) }
 {
     move_run(xs, start, end, m.moves_x, m.dx);
@@ -68,23 +64,23 @@ fn shift_run(
     xs: &mut [i32],
     ys: &mut [i32],
     flags: &mut [u8],
-) -> Call
+) -> Result<(), Refusal>
     requires { (length ys.old ≡ length xs.old) × (length flags.old ≡ length xs.old) }
     ensures { ended result (points xs.new ys.new flags.new) ≡ in_row (shift_at m) start end (points xs.old ys.old flags.old) }
 {
     let size = xs.len();
     if end <= start {
-        return Call::Done;
+        return Ok(());
     }
     if end <= size {
         shift_there(m, start, end, xs, ys, flags);
-        return Call::Done;
+        return Ok(());
     }
     if size <= start {
-        return Call::Refused(Refusal::Point(start as u64));
+        return Err(Refusal::Point(start as u64));
     }
     shift_there(m, start, size, xs, ys, flags);
-    Call::Refused(Refusal::Point(size as u64))
+    Err(Refusal::Point(size as u64))
 }
 
 // By a move that isn't idle: the points before the one that is kept, and those after it.
@@ -97,17 +93,14 @@ fn shift_busy_span(
     xs: &mut [i32],
     ys: &mut [i32],
     flags: &mut [u8],
-) -> Call
+) -> Result<(), Refusal>
     requires { (length ys.old ≡ length xs.old) × (length flags.old ≡ length xs.old) × (is_idle m ≡ false) }
     ensures { ended result (points xs.new ys.new flags.new) ≡ shift_span m keeps kept start end (points xs.old ys.old flags.old) }
 {
     let at = kept as usize;
     if keeps & (start <= at) & (at < end) {
-        let first = shift_run(m, start, at, xs, ys, flags);
-        match first {
-            Call::Refused(why) => Call::Refused(why),
-            Call::Done => shift_run(m, at + 1, end, xs, ys, flags),
-        }
+        shift_run(m, start, at, xs, ys, flags)?;
+        shift_run(m, at + 1, end, xs, ys, flags)
     } else {
         shift_run(m, start, end, xs, ys, flags)
     }
@@ -123,12 +116,12 @@ fn shift_span(
     xs: &mut [i32],
     ys: &mut [i32],
     flags: &mut [u8],
-) -> Call
+) -> Result<(), Refusal>
     requires { (length ys.old ≡ length xs.old) × (length flags.old ≡ length xs.old) }
     ensures { ended result (points xs.new ys.new flags.new) ≡ shift_span m keeps kept start end (points xs.old ys.old flags.old) }
 {
     if m.is_idle() {
-        Call::Done
+        Ok(())
     } else {
         shift_busy_span(m, keeps, kept, start, end, xs, ys, flags)
     }
@@ -148,7 +141,7 @@ fn shift_span_in(
     tx: &mut [i32],
     ty: &mut [i32],
     tflags: &mut [u8],
-) -> Call
+) -> Result<(), Refusal>
     requires { (length gy.old ≡ length gx.old) × (length gflags.old ≡ length gx.old) × (length ty.old ≡ length tx.old) × (length tflags.old ≡ length tx.old) }
     ensures { ended result (zones gx.new gy.new gflags.new tx.new ty.new tflags.new) ≡ in_zone (shift_span m keeps kept start end) (zones gx.old gy.old gflags.old tx.old ty.old tflags.old) zone }
 {
@@ -186,20 +179,15 @@ pub fn shift_span_of(
     tx: &mut [i32],
     ty: &mut [i32],
     tflags: &mut [u8],
-) -> Call
+) -> Result<(), Refusal>
     requires { (length goy.now ≡ length gox.now) × (length gy.old ≡ length gx.old) × (length gflags.old ≡ length gx.old) × (length toy.now ≡ length tox.now) × (length ty.old ≡ length tx.old) × (length tflags.old ≡ length tx.old) }
     ensures { ended result (zones gx.new gy.new gflags.new tx.new ty.new tflags.new) ≡ span_of v f zp2 reference touches start end gox.now goy.now tox.now toy.now (zones gx.old gy.old gflags.old tx.old ty.old tflags.old) }
 {
-    let displaced = displaced_in(v, reference, gox, goy, gx, gy, tox, toy, tx, ty);
-    match displaced {
-        Displaced::Refused(why) => Call::Refused(why),
-        Displaced::By(d) => {
-            let m = zp2_move_of(v, f, d.dx, d.dy, touches);
-            let zone = d.zone;
-            let keeps = same_zone(zone, zp2);
-            shift_span_in(
-                zp2, m, keeps, d.at, start, end, gx, gy, gflags, tx, ty, tflags,
-            )
-        }
-    }
+    let d = displaced_in(v, reference, gox, goy, gx, gy, tox, toy, tx, ty)?;
+    let m = zp2_move_of(v, f, d.dx, d.dy, touches);
+    let zone = d.zone;
+    let keeps = same_zone(zone, zp2);
+    shift_span_in(
+        zp2, m, keeps, d.at, start, end, gx, gy, gflags, tx, ty, tflags,
+    )
 }

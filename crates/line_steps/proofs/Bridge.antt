@@ -1,10 +1,10 @@
 -- The loop over what a line works on is the loop over any world that holds it: one law over the step, for flags, for one zone and for both. Assumes nothing.
+use Rattle.std.specs.Prelude.{⊤, Result, Ok, Err}
+use Rattle.answer.specs.declared.Refusal.{Refusal}
 use Prim.Native.Nat.{ℕ, suc, zero}
 use mathlib.Core.List.{List, [], ◌∷◌}
 use mathlib.Core.Path.{◌≡◌, ap, refl, sym, ◌∙◌}
 use lib.IntN.{ℤ}
-use Rattle.answer.specs.declared.Call.TheVariants.{Done, Refused}
-use Rattle.answer.specs.declared.Call.{Call}
 use Rattle.answer.specs.declared.Refusal.TheVariants.{Missing}
 use Rattle.graphics.specs.State.{with_loop_counter}
 use Rattle.graphics.specs.declared.GraphicsState.{GraphicsState}
@@ -40,9 +40,9 @@ abbrev pub with_flags : World → List ℕ → World
 with_flags w flags = world w.state w.gx w.gy flags w.tox w.toy w.tx w.ty w.tflags
 
 -- ---- a line that ends with a call
-pub done_or_not : (w : World) (call : Call) → by_call w done_in call ≡ record { call = call; world = w }
-done_or_not w Done = refl
-done_or_not w (Refused why) = refl
+pub done_or_not : (w : World) (call : Result ⊤ Refusal) → by_call w done_in call ≡ record { call = call; world = w }
+done_or_not w (Ok tt) = refl
+done_or_not w (Err why) = refl
 
 -- ---- the law. What is put in is what is found, and nothing else is another; for the pairs above each premise is refl
 module _ {S : Type 0} (of : World → S) (put : World → S → World)
@@ -54,14 +54,14 @@ module _ {S : Type 0} (of : World → S) (put : World → S → World)
   module _ (step : ℤ → World → Lined) (at : GraphicsState → ℕ → S → Ended S)
       (step_is : (z : ℤ) (w : World) → step z w ≡ carried w (at w.state (index_of z) (of w))) where
     carried_on : (n : ℕ) (more : List ℤ) → ((v : World) → each_in step n more v ≡ carried v (each (at v.state) n more (of v)))
-        → (call : Call) (w : World) (s : S) → by_call (put w s) (each_in step n more) call ≡ carried w (onward (each (at w.state) n more) s call)
+        → (call : Result ⊤ Refusal) (w : World) (s : S) → by_call (put w s) (each_in step n more) call ≡ carried w (onward (each (at w.state) n more) s call)
     unfolding onward
-    carried_on n more h Done w s =
+    carried_on n more h (Ok tt) w s =
         h (put w s)
         ∙ ap (λ (g : GraphicsState). carried (put w s) (each (at g) n more (of (put w s)))) (state w s)
         ∙ ap (λ (t : S). carried (put w s) (each (at w.state) n more t)) (found w s)
         ∙ ap (λ (v : World). record { call = (each (at w.state) n more s).call; world = v }) (again w s (each (at w.state) n more s).left)
-    carried_on n more h (Refused why) w s = refl
+    carried_on n more h (Err why) w s = refl
 
     pub each_is : (n : ℕ) (operands : List ℤ) (w : World) → each_in step n operands w ≡ carried w (each (at w.state) n operands (of w))
     unfolding each_in each
@@ -72,7 +72,7 @@ module _ {S : Type 0} (of : World → S) (put : World → S → World)
         ap (λ (l : Lined). by_call l.world (each_in step n more) l.call) (step_is z w) ∙ carried_on n more (each_is n more) e.call w e.left
 
     -- the same of a looped line, whose counter is put back at its end
-    pub looped_is : (operands : List ℤ) (w : World) {r : Stepped} {call : Call} {s : S}
+    pub looped_is : (operands : List ℤ) (w : World) {r : Stepped} {call : Result ⊤ Refusal} {s : S}
         → r ≡ record { call = call; state = with_loop_counter w.state 1 } → ended call s ≡ each (at w.state) w.state.loop_counter operands (of w)
         → record { call = r.call; world = in_state (put w s) r.state } ≡ looped operands w step
     looped_is operands w {call = call} {s = s} p e =

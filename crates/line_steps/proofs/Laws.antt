@@ -1,5 +1,6 @@
 -- What each step says where it goes on and where it doesn't: one law for each, whatever the rest of the line is. A line's proof is a chain of them, in
 -- the order of its steps. Assumes nothing.
+use Rattle.std.specs.Prelude.{⊤, Result, Ok, Err}
 use Prim.Native.Nat.{ℕ, ◌≤◌, ◌<◌}
 use mathlib.Core.Bool.{Bool, cond, true, false}
 use mathlib.Core.List.{List, [], ◌∷◌}
@@ -9,7 +10,6 @@ use borrow.Author.Tests.{le-ltb, lt-ltb}
 use lib.Dec.{ltb}
 use lib.IntN.{ℤ, pos}
 use lib.ListN.{drop, get_or, length}
-use Rattle.answer.specs.declared.Call.{Call}
 use Rattle.answer.specs.declared.Refusal.TheVariants.{ControlValue, Missing}
 use Rattle.answer.specs.declared.Refusal.{Refusal}
 use Rattle.graphics.specs.declared.GraphicsState.{GraphicsState}
@@ -21,18 +21,12 @@ use Rattle.line.specs.declared.Stepped.{Stepped}
 use Rattle.moves.specs.Apply.{BothMoved, apply_in}
 use Rattle.moves.specs.Displacement.{displaced_in, reference_of}
 use Rattle.moves.specs.Move.{move_of}
-use Rattle.moves.specs.declared.Displaced.TheVariants.{By}
-use Rattle.moves.specs.declared.Displaced.TheVariants.{Refused as RefusedDisplacement}
-use Rattle.moves.specs.declared.Displaced.{Displaced}
 use Rattle.moves.specs.declared.Displacement.{Displacement}
 use Rattle.moves.specs.declared.Move.{Move}
 use Rattle.moves.specs.declared.Reference.{Reference}
 use Rattle.line.specs.Places.{Pair, pair, put_at}
 use Rattle.line.specs.Places.{fetch_in}
 use Rattle.line.specs.World.{Fixed, Lined, World, lined, world}
-use Rattle.zone.specs.declared.Fetched.TheVariants.{At}
-use Rattle.zone.specs.declared.Fetched.TheVariants.{Refused as RefusedPlace}
-use Rattle.zone.specs.declared.Fetched.{Fetched}
 use Rattle.line_steps.specs.Steps.{after_move, by_displaced, by_fetched, control_at, reference_in, reference_moved, done_in, first, five, laid_in, made_in, move_in, one, passed_over, point_or, refused_in, rounded_in, rounded_move_in, two}
 use Rattle.round.specs.declared.Tracked.{Tracked}
 
@@ -109,13 +103,13 @@ module _ (w : World) {r : Lined} where
   control_there f entry rest h e = rw (lt-ltb entry (length f.controls) h) e
 
   -- ---- points
-  pub point_out : (zone : ZonePointer) (at : ℕ) (out : Refusal → Lined) (rest : Vector → Lined) {g : Fetched} {why : Refusal}
-      → g ≡ fetch_in at w.gx w.gy w.tx w.ty zone → g ≡ RefusedPlace why → r ≡ out why → r ≡ point_or zone at w out rest
+  pub point_out : (zone : ZonePointer) (at : ℕ) (out : Refusal → Lined) (rest : Vector → Lined) {g : Result Vector Refusal} {why : Refusal}
+      → g ≡ fetch_in at w.gx w.gy w.tx w.ty zone → g ≡ Err why → r ≡ out why → r ≡ point_or zone at w out rest
   unfolding point_or
   point_out zone at out rest e h q = q ∙ ap (by_fetched out rest) (sym h ∙ e)
 
-  pub point_there : (zone : ZonePointer) (at : ℕ) (out : Refusal → Lined) (rest : Vector → Lined) {g : Fetched} {place : Vector}
-      → g ≡ fetch_in at w.gx w.gy w.tx w.ty zone → g ≡ At place → r ≡ rest place → r ≡ point_or zone at w out rest
+  pub point_there : (zone : ZonePointer) (at : ℕ) (out : Refusal → Lined) (rest : Vector → Lined) {g : Result Vector Refusal} {place : Vector}
+      → g ≡ fetch_in at w.gx w.gy w.tx w.ty zone → g ≡ Ok place → r ≡ rest place → r ≡ point_or zone at w out rest
   unfolding point_or
   point_there zone at out rest e h q = q ∙ ap (by_fetched out rest) (sym h ∙ e)
 
@@ -148,18 +142,18 @@ module _ (w : World) {r : Lined} where
   rounded_by zone at rest {d = d} e x m b p = rounded_there zone d at rest x m b p ∙ ap (λ (t : Tracked). rounded_move_in zone t at w rest) e
 
   -- ---- the reference point
-  pub reference_out : (f : Fixed) (opcode : ℕ) (rest : Displacement → Lined) {d : Displaced} {why : Refusal}
-      → d ≡ reference_moved f opcode w → d ≡ RefusedDisplacement why → r ≡ refused_in w why → r ≡ reference_in f opcode w rest
+  pub reference_out : (f : Fixed) (opcode : ℕ) (rest : Displacement → Lined) {d : Result Displacement Refusal} {why : Refusal}
+      → d ≡ reference_moved f opcode w → d ≡ Err why → r ≡ refused_in w why → r ≡ reference_in f opcode w rest
   unfolding reference_in
   reference_out f opcode rest e h q = q ∙ ap (by_displaced w rest) (sym h ∙ e)
 
-  pub reference_there : (f : Fixed) (opcode : ℕ) (rest : Displacement → Lined) {d : Displaced} {by : Displacement}
-      → d ≡ reference_moved f opcode w → d ≡ By by → r ≡ rest by → r ≡ reference_in f opcode w rest
+  pub reference_there : (f : Fixed) (opcode : ℕ) (rest : Displacement → Lined) {d : Result Displacement Refusal} {by : Displacement}
+      → d ≡ reference_moved f opcode w → d ≡ Ok by → r ≡ rest by → r ≡ reference_in f opcode w rest
   unfolding reference_in
   reference_there f opcode rest e h q = q ∙ ap (by_displaced w rest) (sym h ∙ e)
 
 -- how far it was moved, by whatever reads it
-pub reference_is : (w : World) (f : Fixed) (opcode : ℕ) {p : Reference} {d : Displaced} → p ≡ reference_of w.state opcode
+pub reference_is : (w : World) (f : Fixed) (opcode : ℕ) {p : Reference} {d : Result Displacement Refusal} → p ≡ reference_of w.state opcode
     → d ≡ displaced_in w.state.vectors p f.gox f.goy w.gx w.gy w.tox w.toy w.tx w.ty p.zone → d ≡ reference_moved f opcode w
 reference_is w f opcode e q =
     q ∙ ap (λ (p : Reference). displaced_in w.state.vectors p f.gox f.goy w.gx w.gy w.tox w.toy w.tx w.ty p.zone) e
@@ -176,6 +170,6 @@ made_twilight w at {place = place} {tox = tox} {toy = toy} q o p z =
     ∙ ap (made_in at _ w) (sym z)
 
 -- ---- the state that a line hands back, put together by its words
-pub in_words : {call : Call} {s t : GraphicsState} {gx gy : List ℤ} {gflags : List ℕ} {tox toy tx ty : List ℤ} {tflags : List ℕ} {r : Lined} → t ≡ s
+pub in_words : {call : Result ⊤ Refusal} {s t : GraphicsState} {gx gy : List ℤ} {gflags : List ℕ} {tox toy tx ty : List ℤ} {tflags : List ℕ} {r : Lined} → t ≡ s
     → lined (record { call = call; state = s }) gx gy gflags tox toy tx ty tflags ≡ r → lined (record { call = call; state = t }) gx gy gflags tox toy tx ty tflags ≡ r
 in_words e p = rw e p

@@ -1,5 +1,6 @@
--- A `while` loop with an index k over the operands, beside `each`: what is left to do from k on is `each f (count - k) (drop k operands)`, and
+-- A loop with an index k over the operands, beside `each`: what is left to do from k on is `each f (count - k) (drop k operands)`, and
 -- each way on or out of the loop is one case of the definition. Every loop of a line cites these. Assumes nothing.
+use Rattle.std.specs.Prelude.{⊤, Result, Ok, Err}
 use mathlib.Core.Path.{◌≡◌, refl, sym, ap, ◌∙◌}
 use mathlib.Core.Logic.{⊎_elim}
 use mathlib.Core.Bool.{Bool, true, false, cond}
@@ -14,8 +15,6 @@ use lib.ListN.{length, drop, get_or, drop_of_length-le}
 use lib.Seq.{drop-cons}
 use mir.Syntax.{w32}
 use mir.Val.{to_z, of_z}
-use Rattle.answer.specs.declared.Call.{Call}
-use Rattle.answer.specs.declared.Call.TheVariants.{Done, Refused}
 use Rattle.answer.specs.declared.Refusal.{Refusal}
 use Rattle.answer.specs.declared.Refusal.TheVariants.{Missing}
 use Rattle.int.proofs.Ints.{split}
@@ -25,12 +24,12 @@ use Rattle.line_steps.specs.Loop.{Ended, ended, onward, each, pass, take_of}
 
 -- ---- the cases of the definition, the counter any number
 module _ {S : Type 0} (f : ℕ → S → Ended S) where
-  none_left : (n : ℕ) (operands : List ℤ) (s : S) → n ≤ 0 → ended Done s ≡ each f n operands s
+  none_left : (n : ℕ) (operands : List ℤ) (s : S) → n ≤ 0 → ended (Ok tt) s ≡ each f n operands s
   unfolding each
   none_left zero operands s h = refl
   none_left (suc n) operands s h = absurd (omega arith)
 
-  run_out : (n : ℕ) (s : S) → 0 < n → ended (Refused Missing) s ≡ each f n [] s
+  run_out : (n : ℕ) (s : S) → 0 < n → ended (Err Missing) s ≡ each f n [] s
   unfolding each
   run_out zero s h = absurd (omega arith)
   run_out (suc n) s h = refl
@@ -42,12 +41,12 @@ module _ {S : Type 0} (f : ℕ → S → Ended S) where
 
 -- ---- a loop of one step is the step
 module _ {S : Type 0} (f : ℕ → S → Ended S) where
-  last : (rest : List ℤ) (call : Call) (left : S) → onward (each f 0 rest) left call ≡ ended call left
+  last : (rest : List ℤ) (call : Result ⊤ Refusal) (left : S) → onward (each f 0 rest) left call ≡ ended call left
   unfolding onward each
-  last rest Done left = refl
-  last rest (Refused why) left = refl
+  last rest (Ok tt) left = refl
+  last rest (Err why) left = refl
 
-  pub once_missing : (operands : List ℤ) (s : S) → length operands ≡ 0 → ended (Refused Missing) s ≡ each f 1 operands s
+  pub once_missing : (operands : List ℤ) (s : S) → length operands ≡ 0 → ended (Err Missing) s ≡ each f 1 operands s
   unfolding each
   once_missing [] s e = refl
   once_missing (z ∷ rest) s e = absurd (omega arith)
@@ -60,14 +59,14 @@ module _ {S : Type 0} (f : ℕ → S → Ended S) where
 -- ---- the cases of the loop
 module _ {S : Type 0} (f : ℕ → S → Ended S) (count : ℕ) (operands : List ℤ) (k : ℕ) (s : S) where
   -- the counter is used up
-  pub finished : count ≤ k → ended Done s ≡ each f (count - k) (drop k operands) s
+  pub finished : count ≤ k → ended (Ok tt) s ≡ each f (count - k) (drop k operands) s
   finished h = none_left f (count - k) (drop k operands) s (omega arith)
 
   -- an operand is wanted
-  pub missing : k < count → length operands ≤ k → ended (Refused Missing) s ≡ each f (count - k) (drop k operands) s
+  pub missing : k < count → length operands ≤ k → ended (Err Missing) s ≡ each f (count - k) (drop k operands) s
   missing g h = rw (drop_of_length-le operands h) (run_out f (count - k) s (omega arith))
 
-  module _ (g : k < count) (h : k < length operands) {at : ℕ} (here : at ≡ index_of (get_or operands k (pos 0))) {call : Call} {left : S} (step : ended call left ≡ f at s) where
+  module _ (g : k < count) (h : k < length operands) {at : ℕ} (here : at ≡ index_of (get_or operands k (pos 0))) {call : Result ⊤ Refusal} {left : S} (step : ended call left ≡ f at s) where
     stepped : onward (each f (count - k - 1) (drop (suc k) operands)) left call ≡ each f (count - k) (drop k operands) s
     stepped =
         ap (λ (e : Ended S). onward (each f (count - k - 1) (drop (suc k) operands)) e.left e.call) (step ∙ ap (λ (i : ℕ). f i s) here)
@@ -75,12 +74,12 @@ module _ {S : Type 0} (f : ℕ → S → Ended S) (count : ℕ) (operands : List
         ∙ ap (λ (l : List ℤ). each f (count - k) l s) (sym (drop-cons operands k (pos 0) h))
 
     -- the step was refused
-    pub stopped : {why : Refusal} → call ≡ Refused why → ended (Refused why) left ≡ each f (count - k) (drop k operands) s
+    pub stopped : {why : Refusal} → call ≡ Err why → ended (Err why) left ≡ each f (count - k) (drop k operands) s
     unfolding onward
     stopped e = ap (onward (each f (count - k - 1) (drop (suc k) operands)) left) (sym e) ∙ stepped
 
     -- the step was done
-    pub turned : call ≡ Done → each f (count - (k + 1)) (drop (k + 1) operands) left ≡ each f (count - k) (drop k operands) s
+    pub turned : call ≡ Ok tt → each f (count - (k + 1)) (drop (k + 1) operands) left ≡ each f (count - k) (drop k operands) s
     unfolding onward
     turned e =
         let p : count - (k + 1) ≡ count - k - 1 = omega arith in let q : k + 1 ≡ suc k = omega arith in
@@ -109,4 +108,4 @@ pub passed : {S : Type 0} (count : ℕ) (operands : List ℤ) (s : S) → ended 
 unfolding each onward
 passed zero operands s = rw (le-ltb (length operands) 0 (omega arith))
 passed (suc n) [] s = rw (lt-ltb 0 (suc n) (omega arith))
-passed (suc n) (z ∷ rest) s = ap (λ (less : Bool). ended (cond less (Refused Missing) Done) s) (both_less (length rest) n) ∙ passed n rest s
+passed (suc n) (z ∷ rest) s = ap (λ (less : Bool). ended (cond less (Err Missing) (Ok tt)) s) (both_less (length rest) n) ∙ passed n rest s

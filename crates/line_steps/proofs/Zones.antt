@@ -1,12 +1,12 @@
 -- A loop over points of zp2: what it leaves of one zone is what the same loop leaves of any world that holds both. One law over the step, and that of a point
 -- shifted by a move, of which the lines that shift points are made. Assumes nothing.
+use Rattle.std.specs.Prelude.{⊤, Result, Ok, Err}
+use Rattle.answer.specs.declared.Refusal.{Refusal}
 use Prim.Native.Nat.{ℕ, suc, zero}
 use mathlib.Core.Bool.{Bool, cond, false, true}
 use mathlib.Core.List.{List, [], ◌∷◌}
 use mathlib.Core.Path.{◌≡◌, ap, refl, sym, ◌∙◌}
 use lib.IntN.{ℤ}
-use Rattle.answer.specs.declared.Call.TheVariants.{Done, Refused}
-use Rattle.answer.specs.declared.Call.{Call}
 use Rattle.graphics.specs.State.{with_loop_counter}
 use Rattle.graphics.specs.declared.GraphicsState.{GraphicsState}
 use Rattle.graphics.specs.declared.ZonePointer.TheVariants.{Glyph, Twilight}
@@ -31,16 +31,16 @@ module _ (f : ℕ → Points → Ended Points) where
   in_the zone at z = in_zone (f at) z zone
 
   on_in_glyph : (n : ℕ) (more : List ℤ) (t : Points) → ((z : Zones) → each (in_the Glyph) n more z ≡ in_zone (each f n more) z Glyph)
-      → (p : Points) (call : Call) → onward (each (in_the Glyph) n more) (record { glyph = p; twilight = t }) call ≡ glyph_left t (onward (each f n more) p call)
+      → (p : Points) (call : Result ⊤ Refusal) → onward (each (in_the Glyph) n more) (record { glyph = p; twilight = t }) call ≡ glyph_left t (onward (each f n more) p call)
   unfolding onward in_zone
-  on_in_glyph n more t h p Done = h (record { glyph = p; twilight = t })
-  on_in_glyph n more t h p (Refused why) = refl
+  on_in_glyph n more t h p (Ok tt) = h (record { glyph = p; twilight = t })
+  on_in_glyph n more t h p (Err why) = refl
 
   on_in_twilight : (n : ℕ) (more : List ℤ) (g : Points) → ((z : Zones) → each (in_the Twilight) n more z ≡ in_zone (each f n more) z Twilight)
-      → (p : Points) (call : Call) → onward (each (in_the Twilight) n more) (record { glyph = g; twilight = p }) call ≡ twilight_left g (onward (each f n more) p call)
+      → (p : Points) (call : Result ⊤ Refusal) → onward (each (in_the Twilight) n more) (record { glyph = g; twilight = p }) call ≡ twilight_left g (onward (each f n more) p call)
   unfolding onward in_zone
-  on_in_twilight n more g h p Done = h (record { glyph = g; twilight = p })
-  on_in_twilight n more g h p (Refused why) = refl
+  on_in_twilight n more g h p (Ok tt) = h (record { glyph = g; twilight = p })
+  on_in_twilight n more g h p (Err why) = refl
 
   each_in_zone : (zone : ZonePointer) (n : ℕ) (operands : List ℤ) (z : Zones) → each (in_the zone) n operands z ≡ in_zone (each f n operands) z zone
   unfolding each in_zone
@@ -61,7 +61,7 @@ module _ (f : ℕ → Points → Ended Points) where
         each_is zones_of with_zones (λ v z. refl) (λ v. refl) (λ v y z. refl) (λ v z. refl) step in_zp2 step_is n operands w
         ∙ ap (zones_in w) (each_in_zone w.state.pointers.zp2 n operands (zones_of w))
 
-    pub zone_looped_is : (operands : List ℤ) (w : World) {r : Stepped} {call : Call} {z : Zones}
+    pub zone_looped_is : (operands : List ℤ) (w : World) {r : Stepped} {call : Result ⊤ Refusal} {z : Zones}
         → r ≡ record { call = call; state = with_loop_counter w.state 1 }
         → ended call z ≡ in_zone (each f w.state.loop_counter operands) (zones_of w) w.state.pointers.zp2
         → lined r z.glyph.xs z.glyph.ys z.glyph.flags w.tox w.toy z.twilight.xs z.twilight.ys z.twilight.flags ≡ looped operands w step

@@ -1,9 +1,8 @@
 -- The loop of a looped line as private functions say it, over whatever a line works on. Nobody need believe this: `each_in` of Steps.antt is what a line
 -- is held to, and proofs/Bridge.antt says that the two are one. Assumes nothing.
-use Rattle.std.specs.Prelude.{ℕ, zero, suc, cond, List, [], ◌∷◌, ltb, ℤ, length}
+use Rattle.answer.specs.declared.Refusal.{Refusal}
+use Rattle.std.specs.Prelude.{ℕ, zero, suc, cond, List, [], ◌∷◌, ltb, ℤ, length, ⊤, Result, Ok, Err}
 use Rattle.answer.specs.declared.Refusal.TheVariants.{Missing}
-use Rattle.answer.specs.declared.Call.{Call}
-use Rattle.answer.specs.declared.Call.TheVariants.{Done, Refused}
 use Rattle.graphics.specs.declared.ZonePointer.TheVariants.{Glyph, Twilight}
 use Rattle.graphics.specs.declared.ZonePointer.{ZonePointer}
 use Rattle.int.specs.Word.{index_of}
@@ -13,30 +12,30 @@ use Rattle.moves.specs.declared.Move.{Move}
 
 -- what was said, and what is left of the thing worked on
 pub record Ended (S : Type 0) : Type 0 where
-  pub call : Call
+  pub call : Result ⊤ Refusal
   pub left : S
 
-abbrev pub ended : {S : Type 0} → Call → S → Ended S
+abbrev pub ended : {S : Type 0} → Result ⊤ Refusal → S → Ended S
 ended call left = record { call = call; left = left }
 
 -- the rest, unless a step was refused
-unfoldable pub onward : {S : Type 0} → (S → Ended S) → S → Call → Ended S
-onward rest left Done = rest left
-onward rest left (Refused why) = ended (Refused why) left
+unfoldable pub onward : {S : Type 0} → (S → Ended S) → S → Result ⊤ Refusal → Ended S
+onward rest left (Ok tt) = rest left
+onward rest left (Err why) = ended (Err why) left
 
 -- as many steps as the counter says, each on the next operand, widened with its sign
 unfoldable pub each : {S : Type 0} → (ℕ → S → Ended S) → ℕ → List ℤ → S → Ended S
-each f zero operands s = ended Done s
-each f (suc n) [] s = ended (Refused Missing) s
+each f zero operands s = ended (Ok tt) s
+each f (suc n) [] s = ended (Err Missing) s
 each f (suc n) (z ∷ rest) s = onward (each f n rest) (f (index_of z) s).left (f (index_of z) s).call
 
 -- a step that takes its operand and looks at nothing
 abbrev pub pass : {S : Type 0} → ℕ → S → Ended S
-pass at s = ended Done s
+pass at s = ended (Ok tt) s
 
 -- what a line of such steps says: whether the operands suffice
-abbrev pub take_of : ℕ → List ℤ → Call
-take_of count operands = cond (ltb (length operands) count) (Refused Missing) Done
+abbrev pub take_of : ℕ → List ℤ → Result ⊤ Refusal
+take_of count operands = cond (ltb (length operands) count) (Err Missing) (Ok tt)
 
 -- ---- the lists that points are moved in
 pub record Points : Type 0 where

@@ -1,9 +1,7 @@
 -- The steps that a line is made of. A step that can refuse the line is given the rest of it, which it hands what it found: a line's definition
 -- reads downward in the order of its steps, and every refusal leaves the world as it was at that step. Document 01, "A sheet and its lines" (a missing
 -- operand is answer 6), and FreeType 2.13.3, ttinterp.c (Direct_Move). Assumes nothing.
-use Rattle.std.specs.Prelude.{ℕ, suc, zero, Bool, cond, List, [], ◌∷◌, ltb, ℤ, pos, get_or, length, set}
-use Rattle.answer.specs.declared.Call.TheVariants.{Done, Refused}
-use Rattle.answer.specs.declared.Call.{Call}
+use Rattle.std.specs.Prelude.{ℕ, suc, zero, Bool, cond, List, [], ◌∷◌, ltb, ℤ, pos, get_or, length, set, ⊤, Result, Ok, Err}
 use Rattle.answer.specs.declared.Refusal.TheVariants.{ControlValue, Missing}
 use Rattle.answer.specs.declared.Refusal.{Refusal}
 use Rattle.graphics.specs.State.{rp0_at, rp1_at, with_loop_counter, with_references, with_rounding}
@@ -16,25 +14,19 @@ use Rattle.line.specs.declared.Stepped.{Stepped}
 use Rattle.moves.specs.Apply.{BothMoved, apply_in}
 use Rattle.moves.specs.Displacement.{displaced_in, reference_of}
 use Rattle.moves.specs.Move.{is_idle, move_of}
-use Rattle.moves.specs.declared.Displaced.TheVariants.{By}
-use Rattle.moves.specs.declared.Displaced.TheVariants.{Refused as RefusedDisplacement}
-use Rattle.moves.specs.declared.Displaced.{Displaced}
 use Rattle.moves.specs.declared.Displacement.{Displacement}
 use Rattle.moves.specs.declared.Move.{Move}
 use Rattle.line.specs.Places.{fetch_in}
 use Rattle.line.specs.World.{Fixed, Lined, World, lined, world}
 use Rattle.round.specs.declared.Tracked.{Tracked}
 use Rattle.zone.specs.Zone.{Marked}
-use Rattle.zone.specs.declared.Fetched.TheVariants.{At}
-use Rattle.zone.specs.declared.Fetched.TheVariants.{Refused as RefusedPlace}
-use Rattle.zone.specs.declared.Fetched.{Fetched}
 
 -- ---- a line's end
 abbrev pub done_in : World → Lined
-done_in w = record { call = Done; world = w }
+done_in w = record { call = Ok tt; world = w }
 
 abbrev pub refused_in : World → Refusal → Lined
-refused_in w why = record { call = Refused why; world = w }
+refused_in w why = record { call = Err why; world = w }
 
 -- refused if pedantic, else passed over
 unfoldable pub passed_over : World → Refusal → Lined
@@ -87,9 +79,9 @@ control_at f entry w rest =
     cond (ltb entry (length f.controls)) (rest (get_or f.controls entry (pos 0))) (refused_in w (ControlValue entry))
 
 -- ---- points
-abbrev pub by_fetched : (Refusal → Lined) → (Vector → Lined) → Fetched → Lined
-by_fetched out rest (At place) = rest place
-by_fetched out rest (RefusedPlace why) = out why
+abbrev pub by_fetched : (Refusal → Lined) → (Vector → Lined) → Result Vector Refusal → Lined
+by_fetched out rest (Ok place) = rest place
+by_fetched out rest (Err why) = out why
 
 -- a point's place, or what the line does without
 unfoldable pub point_or : ZonePointer → ℕ → World → (Refusal → Lined) → (Vector → Lined) → Lined
@@ -115,9 +107,9 @@ made_in at place w Twilight =
 abbrev pub with_points : World → BothMoved → World
 with_points w m = world w.state m.gx m.gy m.gflags w.tox w.toy m.tx m.ty m.tflags
 
-abbrev pub by_call : World → (World → Lined) → Call → Lined
-by_call w rest Done = rest w
-by_call w rest (Refused why) = refused_in w why
+abbrev pub by_call : World → (World → Lined) → Result ⊤ Refusal → Lined
+by_call w rest (Ok tt) = rest w
+by_call w rest (Err why) = refused_in w why
 
 abbrev pub after_move : World → (World → Lined) → BothMoved → Lined
 after_move w rest m = by_call (with_points w m) rest m.call
@@ -140,12 +132,12 @@ abbrev pub flags_in : World → Marked → Lined
 flags_in w m = record { call = m.call; world = world w.state w.gx w.gy m.flags w.tox w.toy w.tx w.ty w.tflags }
 
 -- ---- the reference point of SHP, SHC and SHZ
-abbrev pub by_displaced : World → (Displacement → Lined) → Displaced → Lined
-by_displaced w rest (By d) = rest d
-by_displaced w rest (RefusedDisplacement why) = refused_in w why
+abbrev pub by_displaced : World → (Displacement → Lined) → Result Displacement Refusal → Lined
+by_displaced w rest (Ok d) = rest d
+by_displaced w rest (Err why) = refused_in w why
 
 -- how far it was moved: an odd opcode's is rp1 in zp0, an even one's rp2 in zp1
-abbrev pub reference_moved : Fixed → ℕ → World → Displaced
+abbrev pub reference_moved : Fixed → ℕ → World → Result Displacement Refusal
 reference_moved f opcode w =
     let p = reference_of w.state opcode in
     displaced_in w.state.vectors p f.gox f.goy w.gx w.gy w.tox w.toy w.tx w.ty p.zone

@@ -10,7 +10,7 @@ ghost use Rattle.line_steps.specs.Loop.{take_of};
 ghost use Rattle.line_steps.specs.Numbers.{from_origin, step_from};
 ghost use Rattle.line_steps.specs.Steps.{both_at, by_call, done_in, in_state, into, on_both, rounded_in};
 
-use answer::{Call, Refusal};
+use answer::Refusal;
 use graphics::{GraphicsState, Vector, Vectors};
 use int::wrapping_sub;
 use line::{Stepped, done, refused};
@@ -42,23 +42,23 @@ pub fn step_from(own: i32, r: Tracked) -> Tracked
 }
 
 // What a line that rounded and moved a point comes to: the rounding counted and rp0 and rp1 set, where the move was made.
-pub fn settle(s: GraphicsState, at: u64, wrapped: bool, call: Call) -> Stepped
+pub fn settle(s: GraphicsState, at: u64, wrapped: bool, call: Result<(), Refusal>) -> Stepped
     ensures { (w : World) → into w result ≡ by_call (in_state w s) (λ (v : World). done_in (on_both at (rounded_in wrapped v))) call }
 {
     match call {
-        Call::Done => done(on_both(s.with_rounding(wrapped), at)),
-        Call::Refused(why) => refused(s, why),
+        Ok(()) => done(on_both(s.with_rounding(wrapped), at)),
+        Err(why) => refused(s, why),
     }
 }
 
 // As many operands as the counter says are taken, and nothing is done with them.
-pub fn take_each(count: u32, operands: &[i32]) -> Call
+pub fn take_each(count: u32, operands: &[i32]) -> Result<(), Refusal>
     ensures { result ≡ take_of count operands.now }
 {
     let wanted = count as usize;
     if operands.len() < wanted {
-        Call::Refused(Refusal::Missing)
+        Err(Refusal::Missing)
     } else {
-        Call::Done
+        Ok(())
     }
 }

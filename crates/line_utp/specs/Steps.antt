@@ -1,17 +1,17 @@
 -- UTP's point as a private function says it, over both zones' flags. Nobody need believe this: Utp.antt is what the line is held to. Assumes nothing.
-use Rattle.std.specs.Prelude.{ℕ, Bool, List}
-use Rattle.answer.specs.declared.Call.{Call}
+use Rattle.answer.specs.declared.Refusal.{Refusal}
+use Rattle.std.specs.Prelude.{ℕ, Bool, List, ⊤, Result}
 use Rattle.graphics.specs.declared.ZonePointer.TheVariants.{Glyph, Twilight}
 use Rattle.graphics.specs.declared.ZonePointer.{ZonePointer}
 use Rattle.zone.specs.Zone.{Marked}
 use Rattle.line_utp.specs.Utp.{untouched_by}
 
 pub record BothMarked : Type 0 where
-  pub call : Call
+  pub call : Result ⊤ Refusal
   pub gflags : List ℕ
   pub tflags : List ℕ
 
-abbrev pub both_marked : Call → List ℕ → List ℕ → BothMarked
+abbrev pub both_marked : Result ⊤ Refusal → List ℕ → List ℕ → BothMarked
 both_marked call gflags tflags = record { call = call; gflags = gflags; tflags = tflags }
 
 abbrev pub marked_glyph : List ℕ → Marked → BothMarked

@@ -1,8 +1,7 @@
 -- UTP[] (0x29): takes the touch marks off a point of zp0, on each axis that the freedom vector has a part in. Pops the point. OpenType's UTP, and
 -- FreeType 2.13.3, ttinterp.c (Ins_UTP). Refusals: a missing operand; then the point outside, pedantic or not, where FreeType lets it pass unless it
 -- is pedantic. The Rust decides that a freedom vector of (0, 0) looks at no point; Ins_UTP looks, and clears nothing. Assumes nothing.
-use Rattle.std.specs.Prelude.{ℕ, Bool, false, true, List, ℤ}
-use Rattle.answer.specs.declared.Call.TheVariants.{Done}
+use Rattle.std.specs.Prelude.{ℕ, Bool, false, true, List, ℤ, Ok}
 use Rattle.flags.specs.declared.CoordAxis.TheVariants.{Both, X, Y}
 use Rattle.graphics.specs.declared.ZonePointer.TheVariants.{Glyph, Twilight}
 use Rattle.graphics.specs.declared.ZonePointer.{ZonePointer}
@@ -17,7 +16,7 @@ unfoldable pub untouched_by : List ℕ → ℕ → Bool → Bool → Marked
 untouched_by flags at true true = untouch_of flags at Both
 untouched_by flags at true false = untouch_of flags at X
 untouched_by flags at false true = untouch_of flags at Y
-untouched_by flags at false false = marked Done flags
+untouched_by flags at false false = marked (Ok tt) flags
 
 -- what a call over the twilight zone's flags said and left
 abbrev pub twilight_flags_in : World → Marked → Lined

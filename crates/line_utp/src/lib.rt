@@ -12,7 +12,7 @@ ghost use Rattle.zone.specs.Zone.{marked};
 ghost use Rattle.line_utp.specs.Utp.{untouched_by, utp_of};
 ghost use Rattle.line_utp.specs.Steps.{both_marked, untouched_in};
 
-use answer::{Call, Refusal};
+use answer::Refusal;
 use flags::CoordAxis;
 use graphics::{GraphicsState, ZonePointer};
 use int::equal;
@@ -20,7 +20,7 @@ use line::{Stepped, index_at, refused};
 use zone::untouch;
 
 // The marks of x and of y, by whether the freedom vector has a part in them.
-fn untouch_by(flags: &mut [u8], at: u64, x: bool, y: bool) -> Call
+fn untouch_by(flags: &mut [u8], at: u64, x: bool, y: bool) -> Result<(), Refusal>
     ensures { marked result flags.new ≡ untouched_by flags.old at x y }
 {
     if x {
@@ -32,7 +32,7 @@ fn untouch_by(flags: &mut [u8], at: u64, x: bool, y: bool) -> Call
     if y {
         return untouch(flags, at, CoordAxis::Y);
     }
-    Call::Done
+    Ok(())
 }
 
 // The same in the zone that a pointer names.
@@ -43,7 +43,7 @@ fn untouch_in(
     y: bool,
     gflags: &mut [u8],
     tflags: &mut [u8],
-) -> Call
+) -> Result<(), Refusal>
     ensures { both_marked result gflags.new tflags.new ≡ untouched_in at x y gflags.old tflags.old zone }
 {
     match zone {

@@ -1,4 +1,5 @@
 -- The lines that turn a vector, in each of their cases, over plain values and a plain world. Assumes nothing.
+use Rattle.std.specs.Prelude.{Result, Ok, Err}
 use Prim.Native.Nat.{ℕ, ◌≤◌, ◌<◌}
 use mathlib.Core.Bool.{Bool, true, false, true≢false, ◌&&◌, ◌||◌}
 use mathlib.Core.List.{List, [], ◌∷◌}
@@ -23,8 +24,6 @@ use Rattle.line.specs.declared.Stepped.{Stepped}
 use Rattle.line_measure.specs.Measure.{original_or}
 use Rattle.line_steps.specs.Steps.{by_fetched, done_in, in_state, into, point_or, refused_in, two}
 use Rattle.normalize.specs.Unit.{unit_of}
-use Rattle.zone.specs.declared.Fetched.TheVariants.{At, Refused}
-use Rattle.zone.specs.declared.Fetched.{Fetched}
 use Rattle.line_vectors.specs.Steps.{dual_by, is_along, line_by, line_found, settled_by}
 use Rattle.line_vectors.specs.Vectors.{along_at, dual_at, followed, from_stack, line_vector, short, stack_at, to_dual_line_of, to_line_of, turn_of, vector_by, vector_of}
 
@@ -46,38 +45,38 @@ module _ (p q : Vector) {px qx py qy a a' b b' : ℤ} {m n : Bool} (epx : px ≡
   along_it e d er = let t = sym same ∙ e in rw (t, d, er, ea', ea, eb', eb, epx, eqx, epy, eqy) refl
 
 -- ---- two places, the first first
-module _ (across : Bool) {first : Fetched} where
-  pub first_out : (second : Fetched) {why : Refusal} → first ≡ Refused why → Refused why ≡ line_by across first second
+module _ (across : Bool) {first : Result Vector Refusal} where
+  pub first_out : (second : Result Vector Refusal) {why : Refusal} → first ≡ Err why → Err why ≡ line_by across first second
   unfolding line_by
   first_out second e = rw e refl
 
-  pub second_out : {second : Fetched} {p : Vector} {why : Refusal} → first ≡ At p → second ≡ Refused why → Refused why ≡ line_by across first second
+  pub second_out : {second : Result Vector Refusal} {p : Vector} {why : Refusal} → first ≡ Ok p → second ≡ Err why → Err why ≡ line_by across first second
   unfolding line_by
   second_out e d = rw (e, d) refl
 
-  pub both_there : {second : Fetched} {p q r : Vector} → first ≡ At p → second ≡ At q → r ≡ line_vector across p q → At r ≡ line_by across first second
+  pub both_there : {second : Result Vector Refusal} {p q r : Vector} → first ≡ Ok p → second ≡ Ok q → r ≡ line_vector across p q → Ok r ≡ line_by across first second
   unfolding line_by
   both_there e d er = rw (e, d, er) refl
 
-module _ (s : GraphicsState) (op : ℕ) {found : Fetched} {r : Stepped} where
-  pub found_out : {why : Refusal} → found ≡ Refused why → r ≡ refused_with s why → r ≡ settled_by s op found
+module _ (s : GraphicsState) (op : ℕ) {found : Result Vector Refusal} {r : Stepped} where
+  pub found_out : {why : Refusal} → found ≡ Err why → r ≡ refused_with s why → r ≡ settled_by s op found
   unfolding settled_by
   found_out e er = rw (e, er) refl
 
-  pub found_there : {v : Vector} {t : GraphicsState} → found ≡ At v → t ≡ along_at s op v → r ≡ done_with t → r ≡ settled_by s op found
+  pub found_there : {v : Vector} {t : GraphicsState} → found ≡ Ok v → t ≡ along_at s op v → r ≡ done_with t → r ≡ settled_by s op found
   unfolding settled_by
   found_there e et er = rw (e, er, et) refl
 
-module _ (s : GraphicsState) {old : Fetched} {r : Stepped} where
-  pub old_out : (now : Fetched) {why : Refusal} → old ≡ Refused why → r ≡ refused_with s why → r ≡ dual_by s old now
+module _ (s : GraphicsState) {old : Result Vector Refusal} {r : Stepped} where
+  pub old_out : (now : Result Vector Refusal) {why : Refusal} → old ≡ Err why → r ≡ refused_with s why → r ≡ dual_by s old now
   unfolding dual_by
   old_out now e er = rw (e, er) refl
 
-  pub now_out : {now : Fetched} {dual : Vector} {why : Refusal} → old ≡ At dual → now ≡ Refused why → r ≡ refused_with s why → r ≡ dual_by s old now
+  pub now_out : {now : Result Vector Refusal} {dual : Vector} {why : Refusal} → old ≡ Ok dual → now ≡ Err why → r ≡ refused_with s why → r ≡ dual_by s old now
   unfolding dual_by
   now_out e d er = rw (e, d, er) refl
 
-  pub dual_there : {now : Fetched} {dual v : Vector} {t : GraphicsState} → old ≡ At dual → now ≡ At v → t ≡ dual_at s dual v → r ≡ done_with t → r ≡ dual_by s old now
+  pub dual_there : {now : Result Vector Refusal} {dual v : Vector} {t : GraphicsState} → old ≡ Ok dual → now ≡ Ok v → t ≡ dual_at s dual v → r ≡ done_with t → r ≡ dual_by s old now
   unfolding dual_by
   dual_there e d et er = rw (e, d, er, et) refl
 
@@ -124,43 +123,43 @@ module _ (s : GraphicsState) (op : ℕ) {r : Stepped} where
 
 -- ---- the vector that a line finds
 module _ (across : Bool) (operands : List ℤ) (zp1 zp2 : ZonePointer) (gx gy tx ty : List ℤ) where
-  pub line_short : length operands < 2 → Refused Missing ≡ line_found across operands zp1 zp2 gx gy tx ty
+  pub line_short : length operands < 2 → Err Missing ≡ line_found across operands zp1 zp2 gx gy tx ty
   unfolding line_found
   line_short h = rw (lt-ltb (length operands) 2 h) refl
 
   pub line_there :
-      {second first : ℕ} {p q r : Fetched} → 2 ≤ length operands → second ≡ index_at operands 0 → first ≡ index_at operands 1 → p ≡ fetch_in first gx gy tx ty zp1 →
+      {second first : ℕ} {p q r : Result Vector Refusal} → 2 ≤ length operands → second ≡ index_at operands 0 → first ≡ index_at operands 1 → p ≡ fetch_in first gx gy tx ty zp1 →
       q ≡ fetch_in second gx gy tx ty zp2 → r ≡ line_by across p q → r ≡ line_found across operands zp1 zp2 gx gy tx ty
   unfolding line_found
   line_there h i j ep eq er = rw (le-ltb (length operands) 2 h, er, ep, eq, i, j) refl
 
 -- ---- the lines
 along_is :
-    (across : Bool) (op : ℕ) (w : World) (g h : Fetched) → into w (settled_by w.state op (line_by across g h))
+    (across : Bool) (op : ℕ) (w : World) (g h : Result Vector Refusal) → into w (settled_by w.state op (line_by across g h))
     ≡ by_fetched (refused_in w) (λ (p : Vector). by_fetched (refused_in w) (λ (q : Vector). done_in (in_state w (along_at w.state op (line_vector across p q)))) h) g
 unfolding settled_by line_by
-along_is across op w (Refused why) h = refl
-along_is across op w (At p) (Refused why) = refl
-along_is across op w (At p) (At q) = refl
+along_is across op w (Err why) h = refl
+along_is across op w (Ok p) (Err why) = refl
+along_is across op w (Ok p) (Ok q) = refl
 
 dual_is :
-    (across : Bool) (w : World) (i j g h : Fetched) → into w (dual_by w.state (line_by across i j) (line_by across g h))
+    (across : Bool) (w : World) (i j g h : Result Vector Refusal) → into w (dual_by w.state (line_by across i j) (line_by across g h))
     ≡ by_fetched (refused_in w) (λ (k : Vector). by_fetched (refused_in w) (λ (l : Vector). by_fetched (refused_in w) (λ (p : Vector). by_fetched (refused_in w) (λ (q : Vector). done_in (in_state w (dual_at w.state (line_vector across k l) (line_vector across p q)))) h) g) j) i
 unfolding dual_by line_by
-dual_is across w (Refused why) j g h = refl
-dual_is across w (At k) (Refused why) g h = refl
-dual_is across w (At k) (At l) (Refused why) h = refl
-dual_is across w (At k) (At l) (At p) (Refused why) = refl
-dual_is across w (At k) (At l) (At p) (At q) = refl
+dual_is across w (Err why) j g h = refl
+dual_is across w (Ok k) (Err why) g h = refl
+dual_is across w (Ok k) (Ok l) (Err why) h = refl
+dual_is across w (Ok k) (Ok l) (Ok p) (Err why) = refl
+dual_is across w (Ok k) (Ok l) (Ok p) (Ok q) = refl
 
 two_or_more : (a b : ℤ) (more : List ℤ) → ltb (length (a ∷ b ∷ more)) 2 ≡ false
 two_or_more a b more = le-ltb (length (a ∷ b ∷ more)) 2 (omega arith)
 
 -- what a line finds among the points where they are now, and among the original ones
-abbrev now_in : ℕ → List ℤ → World → Fetched
+abbrev now_in : ℕ → List ℤ → World → Result Vector Refusal
 now_in op operands w = line_found (is_odd op) operands w.state.pointers.zp1 w.state.pointers.zp2 w.gx w.gy w.tx w.ty
 
-abbrev old_in : Fixed → ℕ → List ℤ → World → Fetched
+abbrev old_in : Fixed → ℕ → List ℤ → World → Result Vector Refusal
 old_in f op operands w = line_found (is_odd op) operands w.state.pointers.zp1 w.state.pointers.zp2 f.gox f.goy w.tox w.toy
 
 module _ (f : Fixed) (op : ℕ) (w : World) where
@@ -195,7 +194,7 @@ module _ (f : Fixed) (op : ℕ) (operands : List ℤ) (w : World) where
   unfolding turn_of vector_of
   turned_none a er = rw (er, lt-ltb op 0x86 (leb-false 0x86 op (or_right (ltb op 0x0A) (leb 0x86 op) a)), or_left (ltb op 0x0A) (leb 0x86 op) a) refl
 
-  module _ {across : Bool} {zp1 zp2 : ZonePointer} {now : Fetched} (a : is_along op ≡ true) (ea : across ≡ is_odd op) (e1 : zp1 ≡ w.state.pointers.zp1) (e2 : zp2 ≡ w.state.pointers.zp2) (en : now ≡ line_found across operands zp1 zp2 w.gx w.gy w.tx w.ty) where
+  module _ {across : Bool} {zp1 zp2 : ZonePointer} {now : Result Vector Refusal} (a : is_along op ≡ true) (ea : across ≡ is_odd op) (e1 : zp1 ≡ w.state.pointers.zp1) (e2 : zp2 ≡ w.state.pointers.zp2) (en : now ≡ line_found across operands zp1 zp2 w.gx w.gy w.tx w.ty) where
     found_now : now ≡ now_in op operands w
     found_now = rw (en, ea, e1, e2) refl
 
@@ -204,7 +203,7 @@ module _ (f : Fixed) (op : ℕ) (operands : List ℤ) (w : World) where
     turned_one k er = rw (er, found_now, lt-ltb op 0x86 k, or_first (ltb op 0x0A) (leb 0x86 op) a (lt-leb 0x86 op k)) (is_line f op w operands)
 
     pub turned_both :
-        {old : Fetched} {r : Stepped} → 0x86 ≤ op → old ≡ line_found across operands zp1 zp2 f.gox f.goy w.tox w.toy → r ≡ dual_by w.state old now →
+        {old : Result Vector Refusal} {r : Stepped} → 0x86 ≤ op → old ≡ line_found across operands zp1 zp2 f.gox f.goy w.tox w.toy → r ≡ dual_by w.state old now →
         into w r ≡ turn_of f op operands w
     unfolding turn_of
     turned_both h eo er = rw (er, found_now, eo, ea, e1, e2, le-ltb op 0x86 h) (is_dual f op w operands)

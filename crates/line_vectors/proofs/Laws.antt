@@ -1,15 +1,16 @@
 -- Whatever vector these lines set, the state test lets it in: a unit vector's components are within 1, and so is a vector that was let in before. Assumes nothing.
+use Rattle.std.specs.Prelude.{Result, Ok, Err}
+use Rattle.answer.specs.declared.Refusal.{Refusal}
 use Prim.Native.Nat.{ℕ}
 use mathlib.Core.Bool.{Bool, true, false, ◌&&◌}
 use mathlib.Core.List.{List, [], ◌∷◌}
-use mathlib.Core.Path.{◌≡◌, refl, sym, ◌∙◌}
+use mathlib.Core.Path.{◌≡◌, refl}
 use lib.Dec.{eqb, ltb}
 use lib.IntN.{ℤ, pos}
-use lib.Signed.{shr_z}
 use mir.Syntax.{w32}
 use mir.Val.{SFits}
 use Rattle.graphics.proofs.Laws.{and_left, freedom_ok, measured_ok, round_ok, usable_freedom_vector, usable_projection_vectors, x_in_range}
-use Rattle.graphics.specs.State.{usable_state, vector_in_range, vectors_in_range, with_vectors, x_axis}
+use Rattle.graphics.specs.State.{usable_state, vector_in_range, vectors_in_range}
 use Rattle.graphics.specs.declared.GraphicsState.{GraphicsState}
 use Rattle.graphics.specs.declared.Vector.{Vector}
 use Rattle.int.proofs.Words.{shr_fits}
@@ -21,9 +22,6 @@ use Rattle.line_measure.specs.Measure.{original_or}
 use Rattle.line.specs.Places.{fetch_in}
 use Rattle.line_steps.specs.Steps.{by_fetched, done_in, in_state, point_or, refused_in, two}
 use Rattle.normalize.proofs.Laws.{unit_in_range}
-use Rattle.normalize.specs.Unit.{unit_of}
-use Rattle.zone.specs.declared.Fetched.TheVariants.{At, Refused}
-use Rattle.zone.specs.declared.Fetched.{Fetched}
 use Rattle.line_vectors.specs.Vectors.{along_at, dual_at, followed, from_stack, line_vector, short, stack_at, to_dual_line_of, to_line_of, vector_by}
 
 -- ---- the vectors
@@ -83,17 +81,17 @@ module _ (s : GraphicsState) (ok : usable_state s ≡ true) where
 
 -- ---- the lines of two points
 module _ (f : Fixed) (op : ℕ) (w : World) (ok : usable_state w.state ≡ true) where
-  found_usable : (g h : Fetched) → usable_state (by_fetched (refused_in w) (λ (p : Vector). by_fetched (refused_in w) (λ (q : Vector). done_in (in_state w (along_at w.state op (line_vector (is_odd op) p q)))) h) g).world.state ≡ true
-  found_usable (Refused why) h = ok
-  found_usable (At p) (Refused why) = ok
-  found_usable (At p) (At q) = along_usable w.state ok op (line_vector (is_odd op) p q) (line_in_range (is_odd op) p q)
+  found_usable : (g h : Result Vector Refusal) → usable_state (by_fetched (refused_in w) (λ (p : Vector). by_fetched (refused_in w) (λ (q : Vector). done_in (in_state w (along_at w.state op (line_vector (is_odd op) p q)))) h) g).world.state ≡ true
+  found_usable (Err why) h = ok
+  found_usable (Ok p) (Err why) = ok
+  found_usable (Ok p) (Ok q) = along_usable w.state ok op (line_vector (is_odd op) p q) (line_in_range (is_odd op) p q)
 
-  dual_found_usable : (i j g h : Fetched) → usable_state (by_fetched (refused_in w) (λ (k : Vector). by_fetched (refused_in w) (λ (l : Vector). by_fetched (refused_in w) (λ (p : Vector). by_fetched (refused_in w) (λ (q : Vector). done_in (in_state w (dual_at w.state (line_vector (is_odd op) k l) (line_vector (is_odd op) p q)))) h) g) j) i).world.state ≡ true
-  dual_found_usable (Refused why) j g h = ok
-  dual_found_usable (At k) (Refused why) g h = ok
-  dual_found_usable (At k) (At l) (Refused why) h = ok
-  dual_found_usable (At k) (At l) (At p) (Refused why) = ok
-  dual_found_usable (At k) (At l) (At p) (At q) = dual_usable w.state ok (line_vector (is_odd op) k l) (line_vector (is_odd op) p q) (line_in_range (is_odd op) k l) (line_in_range (is_odd op) p q)
+  dual_found_usable : (i j g h : Result Vector Refusal) → usable_state (by_fetched (refused_in w) (λ (k : Vector). by_fetched (refused_in w) (λ (l : Vector). by_fetched (refused_in w) (λ (p : Vector). by_fetched (refused_in w) (λ (q : Vector). done_in (in_state w (dual_at w.state (line_vector (is_odd op) k l) (line_vector (is_odd op) p q)))) h) g) j) i).world.state ≡ true
+  dual_found_usable (Err why) j g h = ok
+  dual_found_usable (Ok k) (Err why) g h = ok
+  dual_found_usable (Ok k) (Ok l) (Err why) h = ok
+  dual_found_usable (Ok k) (Ok l) (Ok p) (Err why) = ok
+  dual_found_usable (Ok k) (Ok l) (Ok p) (Ok q) = dual_usable w.state ok (line_vector (is_odd op) k l) (line_vector (is_odd op) p q) (line_in_range (is_odd op) k l) (line_in_range (is_odd op) p q)
 
   -- SPVTL, SFVTL
   pub to_line_usable : (operands : List ℤ) → usable_state (to_line_of f op operands w).world.state ≡ true

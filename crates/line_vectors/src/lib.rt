@@ -22,7 +22,6 @@ use graphics::{GraphicsState, Vector, Vectors, ZonePointer};
 use int::{equal, shift_right, wrapping_mul, wrapping_neg, wrapping_sub};
 use line::{Stepped, done, fetch_in, index_at, is_odd, refused};
 use normalize::normalize;
-use zone::Fetched;
 
 // ---- along a line of two points
 // From q to p, or across; the x axis where they are in one place.
@@ -41,16 +40,16 @@ fn line_vector(across: bool, p: Vector, q: Vector) -> Vector
 }
 
 // The vector of two places, or the first refusal.
-fn line_by(across: bool, first: Fetched, second: Fetched) -> Fetched
+fn line_by(
+    across: bool,
+    first: Result<Vector, Refusal>,
+    second: Result<Vector, Refusal>,
+) -> Result<Vector, Refusal>
     ensures { result ≡ line_by across first second }
 {
-    match first {
-        Fetched::Refused(why) => Fetched::Refused(why),
-        Fetched::At(p) => match second {
-            Fetched::Refused(why) => Fetched::Refused(why),
-            Fetched::At(q) => Fetched::At(line_vector(across, p, q)),
-        },
-    }
+    let p = first?;
+    let q = second?;
+    Ok(line_vector(across, p, q))
 }
 
 // ---- from the stack
@@ -111,12 +110,12 @@ fn line_found(
     gy: &[i32],
     tx: &[i32],
     ty: &[i32],
-) -> Fetched
+) -> Result<Vector, Refusal>
     requires { (length gy.now ≡ length gx.now) × (length ty.now ≡ length tx.now) }
     ensures { result ≡ line_found across operands.now zp1 zp2 gx.now gy.now tx.now ty.now }
 {
     if operands.len() < 2 {
-        return Fetched::Refused(Refusal::Missing);
+        return Err(Refusal::Missing);
     }
     let second = index_at(operands, 0);
     let first = index_at(operands, 1);
@@ -141,14 +140,18 @@ fn set_dual(mut s: GraphicsState, dual: Vector, v: Vector) -> GraphicsState
     s
 }
 
-fn settle_dual(s: GraphicsState, old: Fetched, now: Fetched) -> Stepped
+fn settle_dual(
+    s: GraphicsState,
+    old: Result<Vector, Refusal>,
+    now: Result<Vector, Refusal>,
+) -> Stepped
     ensures { result ≡ dual_by s old now }
 {
     match old {
-        Fetched::Refused(why) => refused(s, why),
-        Fetched::At(dual) => match now {
-            Fetched::Refused(why) => refused(s, why),
-            Fetched::At(v) => done(set_dual(s, dual, v)),
+        Err(why) => refused(s, why),
+        Ok(dual) => match now {
+            Err(why) => refused(s, why),
+            Ok(v) => done(set_dual(s, dual, v)),
         },
     }
 }
@@ -164,12 +167,12 @@ fn set_along(s: GraphicsState, opcode: usize, v: Vector) -> GraphicsState
     }
 }
 
-fn settle_along(s: GraphicsState, opcode: usize, found: Fetched) -> Stepped
+fn settle_along(s: GraphicsState, opcode: usize, found: Result<Vector, Refusal>) -> Stepped
     ensures { result ≡ settled_by s opcode found }
 {
     match found {
-        Fetched::Refused(why) => refused(s, why),
-        Fetched::At(v) => done(set_along(s, opcode, v)),
+        Err(why) => refused(s, why),
+        Ok(v) => done(set_along(s, opcode, v)),
     }
 }
 

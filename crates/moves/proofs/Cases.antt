@@ -1,5 +1,7 @@
 -- What each definition says in each of its cases, over plain lists: the functions' proofs cite these, and each is one or two tests rewritten.
 -- Assumes nothing.
+use Rattle.std.specs.Prelude.{Result, Ok, Err}
+use Rattle.answer.specs.declared.Refusal.{Refusal}
 use mathlib.Core.Path.{◌≡◌, refl, sym, ap, ◌∙◌}
 use mathlib.Core.Bool.{Bool, true, false, not, ◌&&◌}
 use mathlib.Core.List.{List}
@@ -7,7 +9,6 @@ use Prim.Native.Nat.{ℕ, ◌≤◌, ◌<◌}
 use borrow.Author.Tests.{lt-ltb, le-ltb}
 use lib.IntN.{ℤ, pos}
 use lib.ListN.{length, get_or, set}
-use Rattle.answer.specs.declared.Call.TheVariants.{Refused, Done}
 use Rattle.answer.specs.declared.Refusal.TheVariants.{Point}
 use Rattle.graphics.specs.State.{past_both_iups}
 use Rattle.graphics.specs.declared.Facts.{Facts}
@@ -24,7 +25,6 @@ use Rattle.moves.specs.declared.Reference.{Reference}
 use Rattle.projection.specs.Projection.{derived_of, project_of}
 use Rattle.projection.specs.declared.Derived.{Derived}
 use Rattle.zone.specs.Zone.{fetch_of, or_at}
-use Rattle.zone.specs.declared.Fetched.{Fetched}
 
 -- ---- one axis
 -- a sum, as its parts were read
@@ -40,30 +40,30 @@ module _ (l : List ℤ) (at : ℕ) (by : ℤ) {moves : Bool} where
 
 -- ---- one zone
 module _ (m : Move) (at : ℕ) (xs ys : List ℤ) where
-  pub shift_out : length xs ≤ at → shifted (Refused (Point at)) xs ys ≡ shift_of m at xs ys
+  pub shift_out : length xs ≤ at → shifted (Err (Point at)) xs ys ≡ shift_of m at xs ys
   unfolding shift_of
   shift_out h = rw (le-ltb at (length xs) h)
 
-  pub shift_in : at < length xs → {xs2 ys2 : List ℤ} → xs2 ≡ moved_at xs at m.dx m.moves_x → ys2 ≡ moved_at ys at m.dy m.moves_y → shifted Done xs2 ys2 ≡ shift_of m at xs ys
+  pub shift_in : at < length xs → {xs2 ys2 : List ℤ} → xs2 ≡ moved_at xs at m.dx m.moves_x → ys2 ≡ moved_at ys at m.dy m.moves_y → shifted (Ok tt) xs2 ys2 ≡ shift_of m at xs ys
   unfolding shift_of
   shift_in h p q = rw (lt-ltb at (length xs) h, ← p, ← q)
 
-  pub apply_out : (flags : List ℕ) → length xs ≤ at → moved (Refused (Point at)) xs ys flags ≡ apply_of m at xs ys flags
+  pub apply_out : (flags : List ℕ) → length xs ≤ at → moved (Err (Point at)) xs ys flags ≡ apply_of m at xs ys flags
   unfolding apply_of
   apply_out flags h = rw (le-ltb at (length xs) h)
 
-  pub apply_in : (flags : List ℕ) → at < length xs → {xs2 ys2 : List ℤ} {flags2 : List ℕ} → xs2 ≡ moved_at xs at m.dx m.moves_x → ys2 ≡ moved_at ys at m.dy m.moves_y → flags2 ≡ or_at flags at m.touch → moved Done xs2 ys2 flags2 ≡ apply_of m at xs ys flags
+  pub apply_in : (flags : List ℕ) → at < length xs → {xs2 ys2 : List ℤ} {flags2 : List ℕ} → xs2 ≡ moved_at xs at m.dx m.moves_x → ys2 ≡ moved_at ys at m.dy m.moves_y → flags2 ≡ or_at flags at m.touch → moved (Ok tt) xs2 ys2 flags2 ≡ apply_of m at xs ys flags
   unfolding apply_of
   apply_in flags h p q r = rw (lt-ltb at (length xs) h, ← p, ← q, ← r)
 
 -- ---- the reference's two places
 module _ (v : Vectors) (p : Reference) (ox oy cx cy : List ℤ) where
-  pub current_is : {g h : Fetched} → g ≡ fetch_of cx cy p.at → g ≡ h → displaced_from v p (fetch_of ox oy p.at) h ≡ displaced_at v p ox oy cx cy
+  pub current_is : {g h : Result Vector Refusal} → g ≡ fetch_of cx cy p.at → g ≡ h → displaced_from v p (fetch_of ox oy p.at) h ≡ displaced_at v p ox oy cx cy
   unfolding displaced_at
   current_is e q = ap (displaced_from v p (fetch_of ox oy p.at)) (sym q ∙ e)
 
-  pub both_are : {g h k l : Fetched} → g ≡ fetch_of cx cy p.at → g ≡ h → k ≡ fetch_of ox oy p.at → k ≡ l → displaced_from v p l h ≡ displaced_at v p ox oy cx cy
-  both_are {h = h} e q f r = ap (λ (o : Fetched). displaced_from v p o h) (sym r ∙ f) ∙ current_is e q
+  pub both_are : {g h k l : Result Vector Refusal} → g ≡ fetch_of cx cy p.at → g ≡ h → k ≡ fetch_of ox oy p.at → k ≡ l → displaced_from v p l h ≡ displaced_at v p ox oy cx cy
+  both_are {h = h} e q f r = ap (λ (o : Result Vector Refusal). displaced_from v p o h) (sym r ∙ f) ∙ current_is e q
 
 -- ---- what a call works out from `derive` and its kin
 abbrev untouched_by : Move → ℤ → ℤ → Move

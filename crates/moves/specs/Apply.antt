@@ -1,8 +1,7 @@
 -- A move laid on a zone: FreeType 2.13.3, ttinterp.c (Direct_Move, Direct_Move_Orig, Move_Zp2_Point: what they write to zone->cur, zone->org
 -- and zone->tags). The Rust decides what an index outside answers: zone.rs refuses before anything is written. Assumes nothing.
-use Rattle.std.specs.Prelude.{ℕ, cond, List, ltb, ℤ, length}
-use Rattle.answer.specs.declared.Call.{Call}
-use Rattle.answer.specs.declared.Call.TheVariants.{Done, Refused}
+use Rattle.answer.specs.declared.Refusal.{Refusal}
+use Rattle.std.specs.Prelude.{ℕ, cond, List, ltb, ℤ, length, ⊤, Result, Ok, Err}
 use Rattle.answer.specs.declared.Refusal.TheVariants.{Point}
 use Rattle.graphics.specs.declared.ZonePointer.{ZonePointer}
 use Rattle.graphics.specs.declared.ZonePointer.TheVariants.{Twilight, Glyph}
@@ -12,44 +11,44 @@ use Rattle.moves.specs.declared.Move.{Move}
 
 -- ---- coordinates alone
 pub record Shifted : Type 0 where
-  pub call : Call
+  pub call : Result ⊤ Refusal
   pub xs : List ℤ
   pub ys : List ℤ
 
-abbrev pub shifted : Call → List ℤ → List ℤ → Shifted
+abbrev pub shifted : Result ⊤ Refusal → List ℤ → List ℤ → Shifted
 shifted call xs ys = record { call = call; xs = xs; ys = ys }
 
 unfoldable pub shift_of : Move → ℕ → List ℤ → List ℤ → Shifted
 shift_of m at xs ys =
     cond (ltb at (length xs))
-    (shifted Done (moved_at xs at m.dx m.moves_x) (moved_at ys at m.dy m.moves_y))
-    (shifted (Refused (Point at)) xs ys)
+    (shifted (Ok tt) (moved_at xs at m.dx m.moves_x) (moved_at ys at m.dy m.moves_y))
+    (shifted (Err (Point at)) xs ys)
 
 -- ---- coordinates and flags
 pub record Moved : Type 0 where
-  pub call : Call
+  pub call : Result ⊤ Refusal
   pub xs : List ℤ
   pub ys : List ℤ
   pub flags : List ℕ
 
-abbrev pub moved : Call → List ℤ → List ℤ → List ℕ → Moved
+abbrev pub moved : Result ⊤ Refusal → List ℤ → List ℤ → List ℕ → Moved
 moved call xs ys flags = record { call = call; xs = xs; ys = ys; flags = flags }
 
 unfoldable pub apply_of : Move → ℕ → List ℤ → List ℤ → List ℕ → Moved
 apply_of m at xs ys flags =
     cond (ltb at (length xs))
-    (moved Done (moved_at xs at m.dx m.moves_x) (moved_at ys at m.dy m.moves_y) (or_at flags at m.touch))
-    (moved (Refused (Point at)) xs ys flags)
+    (moved (Ok tt) (moved_at xs at m.dx m.moves_x) (moved_at ys at m.dy m.moves_y) (or_at flags at m.touch))
+    (moved (Err (Point at)) xs ys flags)
 
 -- ---- both zones, of which one is chosen
 pub record BothShifted : Type 0 where
-  pub call : Call
+  pub call : Result ⊤ Refusal
   pub gx : List ℤ
   pub gy : List ℤ
   pub tx : List ℤ
   pub ty : List ℤ
 
-abbrev pub both_shifted : Call → List ℤ → List ℤ → List ℤ → List ℤ → BothShifted
+abbrev pub both_shifted : Result ⊤ Refusal → List ℤ → List ℤ → List ℤ → List ℤ → BothShifted
 both_shifted call gx gy tx ty = record { call = call; gx = gx; gy = gy; tx = tx; ty = ty }
 
 abbrev pub shifted_glyph : List ℤ → List ℤ → Shifted → BothShifted
@@ -63,7 +62,7 @@ shift_in m at gx gy tx ty Glyph = shifted_glyph tx ty (shift_of m at gx gy)
 shift_in m at gx gy tx ty Twilight = shifted_twilight gx gy (shift_of m at tx ty)
 
 pub record BothMoved : Type 0 where
-  pub call : Call
+  pub call : Result ⊤ Refusal
   pub gx : List ℤ
   pub gy : List ℤ
   pub gflags : List ℕ
@@ -71,7 +70,7 @@ pub record BothMoved : Type 0 where
   pub ty : List ℤ
   pub tflags : List ℕ
 
-abbrev pub both_moved : Call → List ℤ → List ℤ → List ℕ → List ℤ → List ℤ → List ℕ → BothMoved
+abbrev pub both_moved : Result ⊤ Refusal → List ℤ → List ℤ → List ℕ → List ℤ → List ℤ → List ℕ → BothMoved
 both_moved call gx gy gflags tx ty tflags = record { call = call; gx = gx; gy = gy; gflags = gflags; tx = tx; ty = ty; tflags = tflags }
 
 abbrev pub moved_glyph : List ℤ → List ℤ → List ℕ → Moved → BothMoved

@@ -14,15 +14,15 @@ ghost use Rattle.projection.specs.Projection.{fdotp_of, freedom_axis_of};
 ghost use Rattle.moves.specs.Move.{bits_for, step_by, step_along, held_back, move_of, original_move_of, zp2_move_of, is_idle, moved_at};
 ghost use Rattle.moves.specs.Apply.{shifted, shift_of, moved, apply_of, shift_in, both_shifted, apply_in, both_moved};
 ghost use Rattle.zone.specs.Zone.{or_at};
-ghost use Rattle.moves.specs.Displacement.{reference_of, displacement_of, displaced_at, displaced_in, said_of_displaced};
+ghost use Rattle.moves.specs.Displacement.{reference_of, displacement_of, displaced_at, displaced_in};
 
-use answer::{Call, Refusal};
+use answer::Refusal;
 use flags::{CoordAxis, with_bits};
 use graphics::{Facts, GraphicsState, ONE, Vector, Vectors, ZonePointer};
 use int::{equal, wrapping_add};
 use math::mul_div;
 use projection::{derive, project};
-use zone::{Fetched, fetch};
+use zone::fetch;
 
 // What is done to one point: which coordinates move, by how much, and the bits that its flag is given.
 #[derive(Clone, Copy)]
@@ -232,31 +232,37 @@ fn touch_at(flags: &mut [u8], i: usize, mask: u8)
 }
 
 // The coordinates alone: no flag is touched.
-pub fn apply_coords(m: Move, at: u64, xs: &mut [i32], ys: &mut [i32]) -> Call
+pub fn apply_coords(m: Move, at: u64, xs: &mut [i32], ys: &mut [i32]) -> Result<(), Refusal>
     requires { length ys.old ≡ length xs.old }
     ensures { shifted result xs.new ys.new ≡ shift_of m at xs.old ys.old }
 {
     let i = at as usize;
     if xs.len() <= i {
-        return Call::Refused(Refusal::Point(at));
+        return Err(Refusal::Point(at));
     }
     move_at(xs, i, m.moves_x, m.dx);
     move_at(ys, i, m.moves_y, m.dy);
-    Call::Done
+    Ok(())
 }
 
-pub fn apply(m: Move, at: u64, xs: &mut [i32], ys: &mut [i32], flags: &mut [u8]) -> Call
+pub fn apply(
+    m: Move,
+    at: u64,
+    xs: &mut [i32],
+    ys: &mut [i32],
+    flags: &mut [u8],
+) -> Result<(), Refusal>
     requires { (length ys.old ≡ length xs.old) × (length flags.old ≡ length xs.old) }
     ensures { moved result xs.new ys.new flags.new ≡ apply_of m at xs.old ys.old flags.old }
 {
     let i = at as usize;
     if xs.len() <= i {
-        return Call::Refused(Refusal::Point(at));
+        return Err(Refusal::Point(at));
     }
     move_at(xs, i, m.moves_x, m.dx);
     move_at(ys, i, m.moves_y, m.dy);
     touch_at(flags, i, m.touch);
-    Call::Done
+    Ok(())
 }
 
 // ---- the move, laid on the zone that a pointer names
@@ -268,7 +274,7 @@ pub fn apply_coords_in(
     gy: &mut [i32],
     tx: &mut [i32],
     ty: &mut [i32],
-) -> Call
+) -> Result<(), Refusal>
     requires { (length gy.old ≡ length gx.old) × (length ty.old ≡ length tx.old) }
     ensures { both_shifted result gx.new gy.new tx.new ty.new ≡ shift_in m at gx.old gy.old tx.old ty.old zone }
 {
@@ -288,7 +294,7 @@ pub fn apply_in(
     tx: &mut [i32],
     ty: &mut [i32],
     tflags: &mut [u8],
-) -> Call
+) -> Result<(), Refusal>
     requires { (length gy.old ≡ length gx.old) × (length gflags.old ≡ length gx.old) × (length ty.old ≡ length tx.old) × (length tflags.old ≡ length tx.old) }
     ensures { both_moved result gx.new gy.new gflags.new tx.new ty.new tflags.new ≡ apply_in m at gx.old gy.old gflags.old tx.old ty.old tflags.old zone }
 {
@@ -313,32 +319,6 @@ pub struct Displacement {
     pub at: u64,
     pub dx: i32,
     pub dy: i32,
-}
-
-#[derive(Clone, Copy)]
-pub enum Displaced {
-    By(Displacement),
-    Refused(Refusal),
-}
-
-impl Displaced {
-    pub fn number(self) -> u32
-        ensures { result ≡ (said_of_displaced self).number }
-    {
-        match self {
-            Displaced::By(_) => 0,
-            Displaced::Refused(why) => why.number(),
-        }
-    }
-
-    pub fn detail(self) -> u64
-        ensures { result ≡ (said_of_displaced self).detail }
-    {
-        match self {
-            Displaced::By(_) => 0,
-            Displaced::Refused(why) => why.detail(),
-        }
-    }
 }
 
 // An odd opcode goes by rp1 in zp0, an even one by rp2 in zp1.
@@ -395,40 +375,30 @@ pub fn displaced_at(
     oy: &[i32],
     cx: &[i32],
     cy: &[i32],
-) -> Displaced
+) -> Result<Displacement, Refusal>
     requires { (length oy.now ≡ length ox.now) × (length cy.now ≡ length cx.now) }
     ensures { result ≡ displaced_at v p ox.now oy.now cx.now cy.now }
 {
     let zone = p.zone;
     let at = p.at;
-    let here = fetch(cx, cy, at);
-    match here {
-        Fetched::Refused(why) => Displaced::Refused(why),
-        Fetched::At(current) => {
-            let there = fetch(ox, oy, at);
-            match there {
-                Fetched::Refused(why) => Displaced::Refused(why),
-                Fetched::At(original) => {
-                    let d = displacement_by(
-                        v.projection.x,
-                        v.projection.y,
-                        v.freedom.x,
-                        v.freedom.y,
-                        current.x,
-                        current.y,
-                        original.x,
-                        original.y,
-                    );
-                    Displaced::By(Displacement {
-                        zone,
-                        at,
-                        dx: d.x,
-                        dy: d.y,
-                    })
-                }
-            }
-        }
-    }
+    let current = fetch(cx, cy, at)?;
+    let original = fetch(ox, oy, at)?;
+    let d = displacement_by(
+        v.projection.x,
+        v.projection.y,
+        v.freedom.x,
+        v.freedom.y,
+        current.x,
+        current.y,
+        original.x,
+        original.y,
+    );
+    Ok(Displacement {
+        zone,
+        at,
+        dx: d.x,
+        dy: d.y,
+    })
 }
 
 // point_displacement, in the zone that the reference names.
@@ -443,7 +413,7 @@ pub fn displaced_in(
     toy: &[i32],
     tx: &[i32],
     ty: &[i32],
-) -> Displaced
+) -> Result<Displacement, Refusal>
     requires { (length goy.now ≡ length gox.now) × (length gy.now ≡ length gx.now) × (length toy.now ≡ length tox.now) × (length ty.now ≡ length tx.now) }
     ensures { result ≡ displaced_in v p gox.now goy.now gx.now gy.now tox.now toy.now tx.now ty.now p.zone }
 {

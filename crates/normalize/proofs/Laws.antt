@@ -1,20 +1,19 @@
 -- What is true of every two words: Newton's steps end by their own test, before the steps given are used up; and the vector is one that the state test of
 -- crate graphics lets in. Assumes nothing.
 use mathlib.Core.Path.{◌≡◌, refl, sym, ap, ◌∙◌, subst}
-use mathlib.Core.Logic.{⊎_elim}
-use mathlib.Core.Bool.{Bool, true, false, cond, ◌&&◌, ◌||◌}
-use Prim.Native.Nat.{ℕ, zero, suc, ◌+◌, ◌*◌, ◌/◌, ◌^◌, ◌≤◌, ◌<◌}
+use mathlib.Core.Bool.{Bool, true, false, cond}
+use Prim.Native.Nat.{ℕ, zero, suc, ◌+◌, ◌*◌, ◌/◌, ◌≤◌, ◌<◌}
 use native.Mathlib.Omega.{arith}
 use borrow.Author.Tests.{le-leb}
-use lib.IntN.{ℤ, pos, negsuc, neg_ℤ, nat_abs, sub_ℕ}
-use lib.Signed.{lt_z, le_z, quot_z, nat_abs-le}
+use lib.IntN.{ℤ, pos, negsuc, neg_ℤ, nat_abs}
+use lib.Signed.{lt_z, quot_z, nat_abs-le}
 use mir.Syntax.{w32}
 use mir.Val.{SFits}
 use Rattle.int.specs.Word.{wrap32, neg32, quot32, eq_z, add32}
 use Rattle.graphics.specs.State.{in_range, vector_in_range}
-use Rattle.normalize.specs.Unit.{correction, settled, rounds, start_of, grown, component, aimed, aimed_from, unit_by, unit_of}
+use Rattle.normalize.specs.Unit.{correction, settled, rounds, start_of, component, aimed, aimed_from, unit_by, unit_of}
 use Rattle.normalize.specs.declared.Start.{Start}
-use Rattle.normalize.proofs.Newton.{Near, Held, x_part, y_part, g_lt}
+use Rattle.normalize.proofs.Newton.{x_part, y_part, g_lt}
 use Rattle.normalize.proofs.Settles.{wrap_of, wrap_neg_of, quot_neg, grown_is, comes_to_rest}
 use Rattle.normalize.proofs.Nearness.{Started, starts}
 

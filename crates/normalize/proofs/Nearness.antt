@@ -2,19 +2,19 @@
 -- length gives. The steps of proofs/Settles.antt hold from there. Assumes nothing.
 use mathlib.Core.Path.{◌≡◌, refl, sym, ap, ◌∙◌, subst}
 use mathlib.Core.Logic.{⊎_elim}
-use Prim.Native.Nat.{ℕ, zero, suc, ◌+◌, ◌-◌, ◌*◌, ◌/◌, ◌%◌, ◌^◌, ◌≤◌, ◌<◌}
+use Prim.Native.Nat.{ℕ, suc, ◌+◌, ◌-◌, ◌*◌, ◌/◌, ◌%◌, ◌^◌, ◌≤◌, ◌<◌}
 use native.Mathlib.Omega.{arith}
 use native.Mathlib.Nat.{mul-le-mul, mul-le-mul_left, mul-le-mul_right, div-add-mod', mod-lt}
 use borrow.Author.Tests.{le-leb, lt-leb}
 use lib.Count.{leading_top}
-use lib.IntN.{ℤ, pos, negsuc, sub_ℕ, ◌-ℤ◌}
+use lib.IntN.{pos, negsuc, sub_ℕ}
 use lib.Pow.{pow-add, pow_mono, pow_pos}
 use Rattle.int.proofs.Ints.{split, sub_lo, sub_hi, sub_pos}
 use Rattle.int.proofs.Wraps.{wrap_id}
 use Rattle.int.specs.Word.{wrap32, sub32}
 use Rattle.normalize.specs.Unit.{estimate, zeros, past, shifted, near_length, start_at, start_by, start_of}
 use Rattle.normalize.specs.declared.Start.{Start}
-use Rattle.normalize.proofs.Newton.{Near, Held, bound, mean}
+use Rattle.normalize.proofs.Newton.{Near, Held, mean}
 use Rattle.normalize.proofs.Seen.{first_larger, second_larger, anew, moved_down, estimate_le}
 use Rattle.normalize.proofs.Settles.{wrap_of}
 

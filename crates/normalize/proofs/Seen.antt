@@ -5,9 +5,9 @@ use mathlib.Core.Bool.{Bool, true, false, not, cond, ◌||◌}
 use mathlib.Core.Logic.{⊎_elim}
 use Prim.Native.Nat.{ℕ, zero, suc, ◌+◌, ◌-◌, ◌*◌, ◌/◌, ◌^◌, ◌≤◌, ◌<◌}
 use native.Mathlib.Omega.{arith}
-use native.Mathlib.Nat.{mul-le-mul, div-le_self, le_trans}
+use native.Mathlib.Nat.{mul-le-mul}
 use borrow.Author.Tests.{lt-ltb, le-ltb, not-true, not-false}
-use lib.Dec.{ltb, leb}
+use lib.Dec.{leb}
 use lib.IntN.{ℤ, pos, negsuc, nat_abs}
 use lib.Pow.{pow_mono}
 use lib.Signed.{lt_z, shr_z, nat_abs-le}
@@ -102,12 +102,10 @@ module _ {x x' y y' b b' z z' : ℤ} {t : Bool} (ex : x' ≡ x) (ey : y' ≡ y) 
   rests zero h e = absurd (omega (arith, h))
   rests (suc n) h e = let o : lt_z (pos 0) (correction x y b) ≡ false = sym above ∙ not-true t e in rw (o, eb) refl
 
-  pub goes_on : (n : ℕ) {r r' : ℤ} → 0 < n → not t ≡ false → r' ≡ r → r ≡ add32 b' z' → settled (n - 1) x y r' ≡ settled n x y b
+  pub goes_on : (m n : ℕ) {r r' : ℤ} → n ≡ suc m → not t ≡ false → r' ≡ r → r ≡ add32 b' z' → settled m x y r' ≡ settled n x y b
   unfolding settled
-  goes_on zero h e er' er = absurd (omega (arith, h))
-  goes_on (suc n) h e er' er = let o : lt_z (pos 0) (correction x y b) ≡ true = sym above ∙ not-false t e in
-      let k : suc n - 1 ≡ n = omega arith in
-      rw (o, k, er', er, eb, ez', ez, ex, ey, eb) refl
+  goes_on m n k e er' er = let o : lt_z (pos 0) (correction x y b) ≡ true = sym above ∙ not-false t e in
+      rw (k, o, er', er, eb, ez', ez, ex, ey, eb) refl
 
 pub read_back : (n : ℕ) {x x' y y' b b' : ℤ} → x' ≡ x → y' ≡ y → b' ≡ b → settled n x' y' b' ≡ settled n x y b
 read_back n ex ey eb = rw (ex, ey, eb) refl

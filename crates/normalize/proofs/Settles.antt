@@ -2,8 +2,8 @@
 -- so that the steps given are never used up; and what is at rest is no longer than a unit vector may be. Assumes nothing.
 use mathlib.Core.Path.{◌≡◌, refl, sym, ap, ◌∙◌, subst}
 use mathlib.Core.Logic.{⊎_elim}
-use mathlib.Core.Bool.{Bool, true, false}
-use Prim.Native.Nat.{ℕ, zero, suc, ◌+◌, ◌-◌, ◌*◌, ◌/◌, ◌%◌, ◌^◌, ◌≤◌, ◌<◌}
+use mathlib.Core.Bool.{false}
+use Prim.Native.Nat.{ℕ, zero, suc, ◌+◌, ◌-◌, ◌*◌, ◌/◌, ◌^◌, ◌≤◌, ◌<◌}
 use native.Mathlib.Omega.{arith}
 use native.Mathlib.Nat.{mul-le-mul, div-eq_of_lt}
 use borrow.Author.Tests.{lt-ltb, le-ltb}
@@ -15,7 +15,7 @@ use Rattle.int.proofs.Ints.{split, sub_lo, sub_hi, neg_suc}
 use Rattle.int.proofs.Wraps.{wrap_id, wrap_neg, wrap_unique, wrap_add_l, wrap_add_r, low_negpos}
 use Rattle.int.specs.Word.{wrap32, add32, neg32, mul32, quot32, low}
 use Rattle.normalize.specs.Unit.{grown, lacking, correction, settled}
-use Rattle.normalize.proofs.Newton.{Near, Held, bound, part_le, step_le, x_part, y_part, g_lt, squares_le, over_lt, under_lt}
+use Rattle.normalize.proofs.Newton.{Near, Held, part_le, step_le, x_part, y_part, g_lt, squares_le, over_lt, under_lt}
 
 -- ---- words that are small numbers
 pub wrap_of : (n : ℕ) → n < 2 ^ 31 → wrap32 (pos n) ≡ pos n

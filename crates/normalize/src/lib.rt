@@ -46,13 +46,6 @@ fn past_of(zeros: u32, len: u64) -> u32
     if TWO_THIRDS >> zeros <= len { 16 } else { 15 }
 }
 
-// a - b, or 0.
-fn minus(a: u32, b: u32) -> u32
-    ensures { result ≡ a - b }
-{
-    if a < b { 0 } else { a - b }
-}
-
 // One of the two places is 0.
 fn shift_by(up: u32, down: u32, n: u64) -> u64
     requires { (up ≤ 17) × ((down ≤ 16) × (n < 2 ^ 32)) }
@@ -95,7 +88,9 @@ fn start_of(x: u64, y: u64) -> Start
     let len = estimate_of(x, y);
     let zeros = zeros_of(len);
     let past = past_of(zeros, len);
-    start_at(minus(zeros, past), minus(past, zeros), len, x, y)
+    let up = zeros.saturating_sub(past);
+    let down = past.saturating_sub(zeros);
+    start_at(up, down, len, x, y)
 }
 
 // n (1 + b).
@@ -128,14 +123,12 @@ fn settle(x: i32, y: i32, first: i32) -> i32
     ensures { result ≡ settled rounds x y first }
 {
     let mut b = first;
-    let mut left = ROUNDS;
-    while 0 < left {
+    for _ in 0..ROUNDS {
         let by = correct(x, y, b);
         if !less(0, by) {
             return b;
         }
         b = wrapping_add(b, by);
-        left = left - 1;
     }
     b
 }

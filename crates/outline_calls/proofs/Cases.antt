@@ -1,4 +1,5 @@
 -- Slots written one after the other are all of them; what is known of slots that are a call's; and the cases of both calls, over plain values. Assumes nothing.
+use Rattle.std.specs.Prelude.{Result, Ok, Err, Option, Some, None}
 use mathlib.Core.Path.{◌≡◌, refl, ap, sym, ◌∙◌}
 use mathlib.Core.Bool.{true, false, ◌&&◌}
 use mathlib.Core.List.{List, [], ◌∷◌}
@@ -15,11 +16,7 @@ use Rattle.outline_numbers.specs.declared.Step.{Step}
 use Rattle.outline_steps.specs.Outline.{Glyph}
 use Rattle.outline_steps.specs.Pen.{begin_of, next_of}
 use Rattle.outline_steps.specs.declared.Asked.{Asked}
-use Rattle.outline_steps.specs.declared.Begun.{Begun}
-use Rattle.outline_steps.specs.declared.Begun.TheVariants.{Ready, Refused as NotBegun}
 use Rattle.outline_steps.specs.declared.Pen.{Pen}
-use Rattle.outline_steps.specs.declared.Told.{Told}
-use Rattle.outline_steps.specs.declared.Told.TheVariants.{Step as Drawn, NoMore, Refused}
 use Rattle.outline_calls.specs.Slots.{is_pen, is_call, pen_in, words_of, edges_left, step_number, numbers_of, left, left_by, next_call_of, started, started_by, begin_call_of, bad_word}
 
 -- ---- slots
@@ -76,20 +73,20 @@ module _ (words : List ℕ) (edges : List Float) (step : List ℕ) (numbers : Li
 
 -- ---- what is left
 module _ (words : List ℕ) (edges : List Float) (step : List ℕ) (numbers : List Float) where
-  abbrev leaves : Asked → Told → Type 0
+  abbrev leaves : Asked → Result (Option Step) Refusal → Type 0
   leaves a t = left_by words edges step numbers a.pen t ≡ left_by words edges step numbers a.pen a.told
 
-  told_is : (a : Asked) {t : Told} → a.told ≡ t → leaves a t
+  told_is : (a : Asked) {t : Result (Option Step) Refusal} → a.told ≡ t → leaves a t
   told_is a e = sym (ap (left_by words edges step numbers a.pen) e)
 
-  pub left_none : (a : Asked) {s : List ℕ} → a.told ≡ NoMore → s ≡ 0 ∷ [] → left 0 words edges s numbers ≡ left_by words edges step numbers a.pen a.told
+  pub left_none : (a : Asked) {s : List ℕ} → a.told ≡ Ok None → s ≡ 0 ∷ [] → left 0 words edges s numbers ≡ left_by words edges step numbers a.pen a.told
   left_none a e f = ap (λ (s : List ℕ). left 0 words edges s numbers) f ∙ told_is a e
 
-  pub left_drawn : (a : Asked) {s : Step} {p : List ℕ} {q : List Float} {n : List ℕ} {r : List Float} → a.told ≡ Drawn s → p ≡ words_of a.pen → q ≡ edges_left edges a.pen.bounds
+  pub left_drawn : (a : Asked) {s : Step} {p : List ℕ} {q : List Float} {n : List ℕ} {r : List Float} → a.told ≡ Ok (Some s) → p ≡ words_of a.pen → q ≡ edges_left edges a.pen.bounds
       → n ≡ step_number s ∷ [] → r ≡ numbers_of s → left 0 p q n r ≡ left_by words edges step numbers a.pen a.told
   left_drawn a e f g h k = (λ i. left 0 (f i) (g i) (h i) (k i)) ∙ told_is a e
 
-  pub left_refused : (a : Asked) {why : Refusal} {n : ℕ} → a.told ≡ Refused why → n ≡ number_of why → left n words edges step numbers ≡ left_by words edges step numbers a.pen a.told
+  pub left_refused : (a : Asked) {why : Refusal} {n : ℕ} → a.told ≡ Err why → n ≡ number_of why → left n words edges step numbers ≡ left_by words edges step numbers a.pen a.told
   left_refused a e f = ap (λ (n : ℕ). left n words edges step numbers) f ∙ told_is a e
 
   -- ---- the call
@@ -106,11 +103,11 @@ module _ (words : List ℕ) (edges : List Float) (step : List ℕ) (numbers : Li
 
 -- ---- the start
 module _ (g : Glyph) (words : List ℕ) where
-  pub starts : {b : Begun} {p : Pen} {w : List ℕ} → length words ≡ 9 → b ≡ begin_of g → b ≡ Ready p → w ≡ words_of p → started 0 w ≡ begin_call_of g words
+  pub starts : {b : Result Pen Refusal} {p : Pen} {w : List ℕ} → length words ≡ 9 → b ≡ begin_of g → b ≡ Ok p → w ≡ words_of p → started 0 w ≡ begin_call_of g words
   unfolding begin_call_of
   starts n e f h = ap (started 0) h ∙ sym (ap (started_by words) (sym e ∙ f)) ∙ sym (rw (eq-eqb (length words) 9 n))
 
-  pub refuses : {b : Begun} {why : Refusal} {n : ℕ} → length words ≡ 9 → b ≡ begin_of g → b ≡ NotBegun why → n ≡ number_of why → started n words ≡ begin_call_of g words
+  pub refuses : {b : Result Pen Refusal} {why : Refusal} {n : ℕ} → length words ≡ 9 → b ≡ begin_of g → b ≡ Err why → n ≡ number_of why → started n words ≡ begin_call_of g words
   unfolding begin_call_of
   refuses n e f h = ap (λ (k : ℕ). started k words) h ∙ sym (ap (started_by words) (sym e ∙ f)) ∙ sym (rw (eq-eqb (length words) 9 n))
 

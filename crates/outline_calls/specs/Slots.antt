@@ -1,22 +1,18 @@
 -- A pen, a step and a box in lent slots, and what the calls from C return and leave: document 02, K13, of lists, words and floats alone; 16 is "a word out of its range". Assumes nothing.
-use Rattle.std.specs.Prelude.{ℕ, Bool, cond, ◌&&◌, List, [], ◌∷◌, eqb, leb, Float, length, get_or}
+use Rattle.answer.specs.declared.Refusal.{Refusal}
+use Rattle.outline_numbers.specs.declared.Edges.{Edges}
+use Rattle.std.specs.Prelude.{ℕ, Bool, cond, ◌&&◌, List, [], ◌∷◌, eqb, leb, Float, length, get_or, Result, Ok, Err, Option, Some, None}
 use Rattle.std.specs.Float.{nan, binary32}
 use Rattle.std.specs.Float.Ieee.{of_bits}
 use Rattle.answer.specs.Answer.{number_of}
-use Rattle.outline_numbers.specs.declared.Bounds.{Bounds}
-use Rattle.outline_numbers.specs.declared.Bounds.TheVariants.{Nothing, Around}
 use Rattle.outline_numbers.specs.declared.Step.{Step}
 use Rattle.outline_numbers.specs.declared.Step.TheVariants.{Move, Line, Curve, Close}
 use Rattle.outline_steps.specs.Outline.{Glyph}
 use Rattle.outline_steps.specs.Pen.{begin_of, next_of}
 use Rattle.outline_steps.specs.declared.Asked.{Asked}
-use Rattle.outline_steps.specs.declared.Begun.{Begun}
-use Rattle.outline_steps.specs.declared.Begun.TheVariants.{Ready, Refused as NotBegun}
 use Rattle.outline_steps.specs.declared.Pen.{Pen}
 use Rattle.outline_steps.specs.declared.Stage.{Stage}
 use Rattle.outline_steps.specs.declared.Stage.TheVariants.{Between, Onward, Waiting}
-use Rattle.outline_steps.specs.declared.Told.{Told}
-use Rattle.outline_steps.specs.declared.Told.TheVariants.{Step as Drawn, NoMore, Refused}
 use Rattle.outline_steps.specs.declared.Walk.{Walk}
 
 -- ---- the pen in words: six of the walk, its stage, the point that waits, and whether there is a box
@@ -29,8 +25,8 @@ zero_float = of_bits binary32 0
 abbrev pub edge : List Float → ℕ → Float
 edge l i = get_or l i nan
 
-abbrev pub bounds_in : ℕ → List Float → Bounds
-bounds_in boxed l = cond (eqb boxed 0) Nothing (Around (record { left = edge l 0; bottom = edge l 1; right = edge l 2; top = edge l 3 }))
+abbrev pub bounds_in : ℕ → List Float → Option Edges
+bounds_in boxed l = cond (eqb boxed 0) None (Some (record { left = edge l 0; bottom = edge l 1; right = edge l 2; top = edge l 3 }))
 
 abbrev pub walk_in : List ℕ → Walk
 walk_in l = record { contour = get_or l 0 0; past = get_or l 1 0; at = get_or l 2 0; stop = get_or l 3 0; from = get_or l 4 0; to = get_or l 5 0; stage = stage_in (get_or l 6 0) (get_or l 7 0) }
@@ -51,9 +47,9 @@ waiting_number Between = 0
 waiting_number Onward = 0
 waiting_number (Waiting at) = at
 
-abbrev pub boxed_number : Bounds → ℕ
-boxed_number Nothing = 0
-boxed_number (Around e) = 1
+abbrev pub boxed_number : Option Edges → ℕ
+boxed_number None = 0
+boxed_number (Some e) = 1
 
 abbrev pub words_of : Pen → List ℕ
 words_of p =
@@ -61,9 +57,9 @@ words_of p =
     w.contour ∷ w.past ∷ w.at ∷ w.stop ∷ w.from ∷ w.to ∷ stage_number w.stage ∷ waiting_number w.stage ∷ boxed_number p.bounds ∷ []
 
 -- left, bottom, right and top; as they were where there is no box
-abbrev pub edges_left : List Float → Bounds → List Float
-edges_left old Nothing = old
-edges_left old (Around e) = e.left ∷ e.bottom ∷ e.right ∷ e.top ∷ []
+abbrev pub edges_left : List Float → Option Edges → List Float
+edges_left old None = old
+edges_left old (Some e) = e.left ∷ e.bottom ∷ e.right ∷ e.top ∷ []
 
 -- ---- a step as a number and four floats, those that it hasn't 0
 abbrev pub step_number : Step → ℕ
@@ -97,10 +93,10 @@ unfoldable pub is_call : List ℕ → List Float → List ℕ → List Float →
 is_call words edges step numbers = is_pen words && (eqb (length edges) 4 && (eqb (length step) 1 && eqb (length numbers) 4))
 
 -- the step is 0 where there are no more; a refusal leaves every slot as it was
-abbrev pub left_by : List ℕ → List Float → List ℕ → List Float → Pen → Told → Left
-left_by words edges step numbers p NoMore = left 0 words edges (0 ∷ []) numbers
-left_by words edges step numbers p (Drawn s) = left 0 (words_of p) (edges_left edges p.bounds) (step_number s ∷ []) (numbers_of s)
-left_by words edges step numbers p (Refused why) = left (number_of why) words edges step numbers
+abbrev pub left_by : List ℕ → List Float → List ℕ → List Float → Pen → Result (Option Step) Refusal → Left
+left_by words edges step numbers p (Ok None) = left 0 words edges (0 ∷ []) numbers
+left_by words edges step numbers p (Ok (Some s)) = left 0 (words_of p) (edges_left edges p.bounds) (step_number s ∷ []) (numbers_of s)
+left_by words edges step numbers p (Err why) = left (number_of why) words edges step numbers
 
 unfoldable pub next_call_of : Glyph → List ℕ → List Float → List ℕ → List Float → Left
 next_call_of g words edges step numbers =
@@ -115,9 +111,9 @@ pub record Started : Type 0 where
 abbrev pub started : ℕ → List ℕ → Started
 started number words = record { number = number; words = words }
 
-abbrev pub started_by : List ℕ → Begun → Started
-started_by words (Ready p) = started 0 (words_of p)
-started_by words (NotBegun why) = started (number_of why) words
+abbrev pub started_by : List ℕ → Result Pen Refusal → Started
+started_by words (Ok p) = started 0 (words_of p)
+started_by words (Err why) = started (number_of why) words
 
 unfoldable pub begin_call_of : Glyph → List ℕ → Started
 begin_call_of g words = cond (eqb (length words) 9) (started_by words (begin_of g)) (started bad_word words)

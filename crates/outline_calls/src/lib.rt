@@ -9,9 +9,9 @@ ghost use Rattle.std.specs.Prelude.{◌≡◌, true, [], ◌∷◌, length};
 ghost use Rattle.outline_steps.specs.Outline.{glyph};
 ghost use Rattle.outline_calls.specs.Slots.{begin_call_of, bounds_in, boxed_number, edges_left, is_call, is_pen, left, left_by, next_call_of, numbers_of, pen_in, stage_in, stage_number, started, step_number, waiting_number, walk_in, words_of};
 
-use answer::Refusal;
-use outline_numbers::{Bounds, Edges, Step};
-use outline_steps::{Asked, Begun, Pen, Stage, Told, Walk, begin, next};
+use answer::{Refusal, Says};
+use outline_numbers::{Edges, Step};
+use outline_steps::{Asked, Pen, Stage, Walk, begin, next};
 
 const PEN_WORDS: usize = 9;
 
@@ -35,14 +35,14 @@ fn stage_in(number: u64, waiting: u64) -> Stage
     }
 }
 
-fn bounds_in(boxed: u64, edges: &[f32]) -> Bounds
+fn bounds_in(boxed: u64, edges: &[f32]) -> Option<Edges>
     requires { length edges.now ≡ 4 }
     ensures { result ≡ bounds_in boxed edges.now }
 {
     if boxed == 0 {
-        Bounds::Nothing
+        None
     } else {
-        Bounds::Around(Edges {
+        Some(Edges {
             left: edges[0],
             bottom: edges[1],
             right: edges[2],
@@ -110,12 +110,12 @@ fn waiting_number(stage: Stage) -> u64
     }
 }
 
-fn boxed_number(bounds: Bounds) -> u64
+fn boxed_number(bounds: Option<Edges>) -> u64
     ensures { result ≡ boxed_number bounds }
 {
     match bounds {
-        Bounds::Nothing => 0,
-        Bounds::Around(_) => 1,
+        None => 0,
+        Some(_) => 1,
     }
 }
 
@@ -173,13 +173,13 @@ fn write_four(a: f32, b: f32, c: f32, d: f32, numbers: &mut [f32])
 }
 
 // The edges as they are; nothing where there are none.
-fn write_edges(bounds: Bounds, edges: &mut [f32])
+fn write_edges(bounds: Option<Edges>, edges: &mut [f32])
     requires { length edges.old ≡ 4 }
     ensures { edges.new ≡ edges_left edges.old bounds }
 {
     match bounds {
-        Bounds::Nothing => {}
-        Bounds::Around(e) => write_four(e.left, e.bottom, e.right, e.top, edges),
+        None => {}
+        Some(e) => write_four(e.left, e.bottom, e.right, e.top, edges),
     }
 }
 
@@ -216,20 +216,22 @@ fn leave(
 {
     let told = asked.told;
     match told {
-        Told::NoMore => {
-            step[0] = 0;
-            0
-        }
-        Told::Step(s) => {
-            let pen = asked.pen;
-            let bounds = pen.bounds;
-            write_pen(pen, words);
-            write_edges(bounds, edges);
-            write_step(s, step);
-            write_numbers(s, numbers);
-            0
-        }
-        Told::Refused(why) => why.number(),
+        Err(why) => why.number(),
+        Ok(drawn) => match drawn {
+            None => {
+                step[0] = 0;
+                0
+            }
+            Some(s) => {
+                let pen = asked.pen;
+                let bounds = pen.bounds;
+                write_pen(pen, words);
+                write_edges(bounds, edges);
+                write_step(s, step);
+                write_numbers(s, numbers);
+                0
+            }
+        },
     }
 }
 
@@ -262,11 +264,11 @@ pub fn begin_call(xs: &[i32], ys: &[i32], flags: &[u8], contours: &[u16], words:
     if words.len() == PEN_WORDS {
         let begun = begin(xs, ys, flags, contours);
         match begun {
-            Begun::Ready(pen) => {
+            Ok(pen) => {
                 write_pen(pen, words);
                 0
             }
-            Begun::Refused(why) => why.number(),
+            Err(why) => why.number(),
         }
     } else {
         BAD_WORD

@@ -1,4 +1,5 @@
 -- Edges grown by comparing floats are the floats of edges grown by comparing numbers; and the number of an edge is the least or the greatest of the points'. Assumes nothing.
+use Rattle.std.specs.Prelude.{Some}
 use mathlib.Core.Path.{◌≡◌, refl, ap, ◌∙◌, subst}
 use Prim.Native.Nat.{ℕ, suc, ◌<◌, ◌≤◌}
 use native.Mathlib.Nat.{le_trans as leq-trans, le_of_lt}
@@ -11,7 +12,6 @@ use lib.Signed.{lt_z, le_z, lt_z_no, ≤ℤ_refl}
 use lib.Ieee.{Float, lt}
 use Rattle.outline_numbers.specs.Fraction.{of128}
 use Rattle.outline_numbers.specs.Drawing.{Box, Extent, none, box, near, is_near, step_of, around_by, drawn_by, bounds_of, with_point, with_spots, spots_of, spot, lesser_z, greater_z, Every, Among, Edge, Boxed, at_least, across, upward, handed_out, extent_of}
-use Rattle.outline_numbers.specs.declared.Bounds.TheVariants.{Around}
 use Rattle.outline_numbers.specs.declared.Spot.{Spot}
 use Rattle.outline_numbers.specs.declared.Stroke.{Stroke}
 use Rattle.outline_numbers.specs.declared.Stroke.TheVariants.{Move, Line, Curve, Close}
@@ -57,7 +57,7 @@ point_added x y (box k) h g w =
     let b = lesser_128 y k.bottom g w.1 in
     let c = greater_128 x k.right h w.2 in
     let d = greater_128 y k.top g w.3 in
-    λ i. Around (record { left = a i; bottom = b i; right = c i; top = d i })
+    λ i. Some (record { left = a i; bottom = b i; right = c i; top = d i })
 
 -- ---- a step that is drawn
 -- the numbers of a near curve

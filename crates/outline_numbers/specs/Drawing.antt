@@ -1,11 +1,9 @@
 -- Drawing steps and the box around them, in 128ths of a pixel and as floats: document 02, K13 ("move, line, curve and close, each with its pixel numbers as floats"; "the four edges of
 -- the box, as floats, over all points handed out, controls included"). Assumes nothing.
-use Rattle.std.specs.Prelude.{ℕ, Bool, cond, true, ◌&&◌, List, [], ◌∷◌, ◌++◌, map, ◌⊎◌, ◌≡◌, T, ℤ, pos, negsuc, Float}
+use Rattle.std.specs.Prelude.{ℕ, Bool, cond, true, ◌&&◌, List, [], ◌∷◌, ◌++◌, map, ◌⊎◌, ◌≡◌, T, ℤ, pos, negsuc, Float, Option, Some, None}
 use Rattle.std.specs.Int.Signed.{lt_z, le_z}
 use Rattle.std.specs.Float.Ieee.{lt}
 use Rattle.outline_numbers.specs.Fraction.{of128}
-use Rattle.outline_numbers.specs.declared.Bounds.{Bounds}
-use Rattle.outline_numbers.specs.declared.Bounds.TheVariants.{Nothing, Around}
 use Rattle.outline_numbers.specs.declared.Stroke.{Stroke}
 use Rattle.outline_numbers.specs.declared.Stroke.TheVariants.{Move, Line, Curve, Close}
 use Rattle.outline_numbers.specs.declared.Edges.{Edges}
@@ -40,11 +38,11 @@ grown_by e x y = record {
   top = cond (lt e.top y) y e.top;
 }
 
-abbrev pub around_by : Float → Float → Bounds → Bounds
-around_by x y Nothing = Around (record { left = x; bottom = y; right = x; top = y })
-around_by x y (Around e) = Around (grown_by e x y)
+abbrev pub around_by : Float → Float → Option Edges → Option Edges
+around_by x y None = Some (record { left = x; bottom = y; right = x; top = y })
+around_by x y (Some e) = Some (grown_by e x y)
 
-abbrev pub drawn_by : Bounds → Step → Bounds
+abbrev pub drawn_by : Option Edges → Step → Option Edges
 drawn_by b (Moves x y) = around_by x y b
 drawn_by b (Lines x y) = around_by x y b
 drawn_by b (Curves cx cy x y) = around_by x y (around_by cx cy b)
@@ -97,9 +95,9 @@ extent_of ds = with_spots none (handed_out ds)
 abbrev pub edges_of : Box → Edges
 edges_of k = record { left = of128 k.left; bottom = of128 k.bottom; right = of128 k.right; top = of128 k.top }
 
-abbrev pub bounds_of : Extent → Bounds
-bounds_of none = Nothing
-bounds_of (box k) = Around (edges_of k)
+abbrev pub bounds_of : Extent → Option Edges
+bounds_of none = None
+bounds_of (box k) = Some (edges_of k)
 
 -- ---- what the box of some points is: each edge is one of their numbers, and none lies beyond it
 -- R z x: z is not beyond x

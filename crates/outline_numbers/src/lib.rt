@@ -50,12 +50,6 @@ pub struct Edges {
     pub top: f32,
 }
 
-#[derive(Clone, Copy)]
-pub enum Bounds {
-    Nothing,
-    Around(Edges),
-}
-
 // Whether h / 128 is one of the numbers that a step can have.
 fn within(h: i64) -> bool
     ensures { result ≡ near h }
@@ -125,22 +119,22 @@ fn grow(e: Edges, x: f32, y: f32) -> Edges
     }
 }
 
-fn around(b: Bounds, x: f32, y: f32) -> Bounds
+fn around(b: Option<Edges>, x: f32, y: f32) -> Option<Edges>
     ensures { result ≡ around_by x y b }
 {
     match b {
-        Bounds::Nothing => Bounds::Around(Edges {
+        None => Some(Edges {
             left: x,
             bottom: y,
             right: x,
             top: y,
         }),
-        Bounds::Around(e) => Bounds::Around(grow(e, x, y)),
+        Some(e) => Some(grow(e, x, y)),
     }
 }
 
 // The bounds with the points that a step hands out, a curve's control among them.
-pub fn drawn(b: Bounds, s: Step) -> Bounds
+pub fn drawn(b: Option<Edges>, s: Step) -> Option<Edges>
     ensures { result ≡ drawn_by b s }
 {
     match s {

@@ -1,4 +1,6 @@
 -- The answer's line and the outline are the whole text, and there is room for them. Assumes nothing.
+use Rattle.std.specs.Prelude.{Result, Ok, Err}
+use Rattle.record_read.specs.declared.Damage.{Damage}
 use mathlib.Core.Bool.{Bool, cond, true, false}
 use mathlib.Core.List.{List, [], ◌++◌, append-nil}
 use mathlib.Core.Path.{◌∙◌, ◌≡◌, ap, refl, subst, sym}
@@ -17,8 +19,6 @@ use Rattle.record_print.specs.Print.{Front, answer_line, blank, room}
 use Rattle.record_print.specs.Steps.{Put}
 use Rattle.record_read.proofs.Whole.{layout_kept}
 use Rattle.record_read.specs.Read.{open_of, read_as}
-use Rattle.record_read.specs.declared.Opened.{Opened}
-use Rattle.record_read.specs.declared.Opened.TheVariants.{Damaged, Whole}
 use Rattle.record_replay.proofs.Cases.{within}
 use Rattle.record_replay.specs.Shelf.{on_read, shelf_within}
 use Rattle.record_run.specs.After.{Shelved, shelved}
@@ -34,9 +34,9 @@ contours_few : (rules : Rules) (most : ℕ) (bytes out : List ℕ) → (shelf_wi
 unfolding shelf_within on_read
 contours_few rules most bytes out = by_verdict (open_of bytes) refl
   where
-    by_verdict : (o : Opened) → open_of bytes ≡ o → (on_read rules most out (read_as bytes o)).said.layout.contours ≤ 6110
-    by_verdict (Whole l) e = subst (λ (n : ℕ). n ≤ 6110) (sym (ap (λ (k : Layout). k.contours) (layout_kept bytes l))) (within bytes l e).1.0
-    by_verdict (Damaged why) e = omega arith
+    by_verdict : (o : Result Layout Damage) → open_of bytes ≡ o → (on_read rules most out (read_as bytes o)).said.layout.contours ≤ 6110
+    by_verdict (Ok l) e = subst (λ (n : ℕ). n ≤ 6110) (sym (ap (λ (k : Layout). k.contours) (layout_kept bytes l))) (within bytes l e).1.0
+    by_verdict (Err why) e = omega arith
 
 module _ (rules : Rules) (bytes : List ℕ) {r : Replayed} {out : List ℕ} (e : shelved r out ≡ shelf_within rules room bytes blank) where
   pub few_points : r.layout.points ≤ 872

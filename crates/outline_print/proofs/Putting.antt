@@ -1,4 +1,5 @@
 -- A loop that puts a text piece by piece: what is left to put, put where the loop stands, makes the whole. Assumes nothing.
+use Rattle.std.specs.Prelude.{Option, Some, None}
 use mathlib.Core.List.{List, [], ◌∷◌, ◌++◌}
 use mathlib.Core.Path.{◌≡◌, refl, sym, ap, ◌∙◌, subst}
 use Prim.Native.Nat.{ℕ, zero, suc, ◌+◌, ◌*◌, ◌/◌, ◌%◌, ◌^◌, ◌≤◌, ◌<◌}
@@ -24,8 +25,6 @@ use Rattle.record_print.proofs.Puts.{sets_join}
 use Rattle.record_print.specs.Steps.{Put}
 use Rattle.outline_print.specs.Lines.{box_line, ended, extent_in, fraction, place_text, places_text, pointed, size_text, stroke_line, tail_by, tail_of}
 use Rattle.outline_print.specs.declared.Frame.{Frame}
-use Rattle.outline_print.specs.declared.Framed.{Framed}
-use Rattle.outline_print.specs.declared.Framed.TheVariants.{Nothing, Around}
 
 pub record Putting (whole : List ℕ) (at : ℕ) (before now : List ℕ) (next : ℕ) (rest : List ℕ) : Type 0 where
   pub there : sets now next rest ≡ sets before at whole
@@ -136,13 +135,13 @@ pub close_long : {d : Stroke} → d ≡ Close → length (stroke_line d) ≡ 6
 unfolding stroke_line
 close_long e = ap (λ (s : Stroke). length (stroke_line s)) e
 
-pub around_long : {f : Framed} {e : Frame} → f ≡ Around e → length (box_line (extent_in f)) ≡ 4 + length (places_text e.left e.bottom e.right e.top)
+pub around_long : {f : Option Frame} {e : Frame} → f ≡ Some e → length (box_line (extent_in f)) ≡ 4 + length (places_text e.left e.bottom e.right e.top)
 unfolding box_line
-around_long {f} {e} h = ap (λ (g : Framed). length (box_line (extent_in g))) h ∙ length-append (98 ∷ 111 ∷ 120 ∷ 32 ∷ []) (places_text e.left e.bottom e.right e.top)
+around_long {f} {e} h = ap (λ (g : Option Frame). length (box_line (extent_in g))) h ∙ length-append (98 ∷ 111 ∷ 120 ∷ 32 ∷ []) (places_text e.left e.bottom e.right e.top)
 
-pub none_long : {f : Framed} → f ≡ Nothing → length (box_line (extent_in f)) ≡ 9
+pub none_long : {f : Option Frame} → f ≡ None → length (box_line (extent_in f)) ≡ 9
 unfolding box_line
-none_long h = ap (λ (g : Framed). length (box_line (extent_in g))) h
+none_long h = ap (λ (g : Option Frame). length (box_line (extent_in g))) h
 
 -- ---- numbers as they are read back
 abbrev pub again : ℤ → ℤ

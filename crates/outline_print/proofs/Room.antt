@@ -1,4 +1,6 @@
 -- No outline of a record's points is longer than the room for it: a line has at most 66 bytes, and there are at most three steps to a point. Assumes nothing.
+use Rattle.std.specs.Prelude.{Result, Ok, Err, Option, Some, None}
+use Rattle.outline_steps.specs.declared.Stroked.{Stroked}
 use mathlib.Core.Bool.{Bool, true, false, cond, ◌&&◌}
 use mathlib.Core.List.{List, [], ◌∷◌, ◌++◌}
 use mathlib.Core.Path.{◌≡◌, refl, sym, ap, ◌∙◌, subst}
@@ -22,12 +24,8 @@ use Rattle.outline_steps.proofs.OneByOne.{Close-by, Goes, NearWalk, close_of, fr
 use Rattle.outline_steps.specs.Outline.{Glyph, on, between, own, line_to, curve_to, Waits, off, visit, begun, contour_of, contours_of, steps_of, sizes_fit, all_close, Entry, entry_of, drawable, refused}
 use Rattle.outline_steps.specs.Outline.{none as still}
 use Rattle.outline_steps.specs.Pen.{begin_of, begun_by, fresh, walk_of}
-use Rattle.outline_steps.specs.declared.Begun.{Begun}
-use Rattle.outline_steps.specs.declared.Begun.TheVariants.{Ready, Refused as NotBegun}
 use Rattle.outline_steps.specs.declared.Pen.{Pen}
 use Rattle.outline_steps.specs.declared.Walk.{Walk}
-use Rattle.outline_steps.specs.declared.Walked.{Walked}
-use Rattle.outline_steps.specs.declared.Walked.TheVariants.{Ended, Went}
 use Rattle.record_print.proofs.Decimal.{digits_most}
 use Rattle.record_print.specs.Text.{decimal}
 use Rattle.outline_print.specs.Lines.{AllNear, box_line, ended, fraction, glyph_text, outline_text, place_text, places_text, pointed, refusal_line, size_text, stroke_line, stroke_lines, tail_by, tail_of, text_by}
@@ -146,12 +144,12 @@ contours_most g first n (last ∷ ends) e =
 
 -- ---- the whole
 -- of a walk with at most n steps before it
-lines_from : (g : Glyph) (n : ℕ) (w : Walk) (x : Walked) → Goes g (remaining g w) x → NearWalk x → ((v : Walk) → length (remaining g v) ≤ n → length (stroke_lines (remaining g v)) ≤ 70 * length (remaining g v))
+lines_from : (g : Glyph) (n : ℕ) (w : Walk) (x : Option Stroked) → Goes g (remaining g w) x → NearWalk x → ((v : Walk) → length (remaining g v) ≤ n → length (stroke_lines (remaining g v)) ≤ 70 * length (remaining g v))
     → length (remaining g w) ≤ suc n → length (stroke_lines (remaining g w)) ≤ 70 * length (remaining g w)
-lines_from g n w (Went s) goes near more h =
+lines_from g n w (Some s) goes near more h =
     let few : length (remaining g s.walk) ≤ n = omega (arith, ap length goes) in
     omega (arith, ap length goes, ap (λ (l : List Stroke). length (stroke_lines l)) goes, length-append (stroke_line s.stroke) (stroke_lines (remaining g s.walk)), stroke_most s.stroke near, more s.walk few)
-lines_from g n w Ended goes near more h = omega (arith, ap (λ (l : List Stroke). length (stroke_lines l)) goes)
+lines_from g n w None goes near more h = omega (arith, ap (λ (l : List Stroke). length (stroke_lines l)) goes)
 
 lines_most : (g : Glyph) → Close-by g → (n : ℕ) (w : Walk) → length (remaining g w) ≤ n → length (stroke_lines (remaining g w)) ≤ 70 * length (remaining g w)
 lines_most g close zero w h = none_left (remaining g w) h
@@ -170,12 +168,12 @@ box_near g close zero w k h a = none_left (remaining g w) h
     none_left (d ∷ l) m = absurd (omega arith)
 box_near g close (suc n) w k h a = go (walk_of g w) (walk_law g w) (near_by g close w w.stage) (box_near g close n)
   where
-    go : (x : Walked) → Goes g (remaining g w) x → NearWalk x → ((v : Walk) (j : Extent) → length (remaining g v) ≤ n → AllNear j → AllNear (with_spots j (handed_out (remaining g v)))) → AllNear (with_spots k (handed_out (remaining g w)))
-    go (Went s) goes near more =
+    go : (x : Option Stroked) → Goes g (remaining g w) x → NearWalk x → ((v : Walk) (j : Extent) → length (remaining g v) ≤ n → AllNear j → AllNear (with_spots j (handed_out (remaining g v)))) → AllNear (with_spots k (handed_out (remaining g w)))
+    go (Some s) goes near more =
         let few : length (remaining g s.walk) ≤ n = omega (arith, ap length goes) in
         subst (λ (l : List Stroke). AllNear (with_spots k (handed_out l))) (sym goes)
         (subst AllNear (sym (spots_joined k (spots_of s.stroke) (handed_out (remaining g s.walk)))) (more s.walk (with_spots k (spots_of s.stroke)) few (step_within k s.stroke near a)))
-    go Ended goes near more = subst (λ (l : List Stroke). AllNear (with_spots k (handed_out l))) (sym goes) a
+    go None goes near more = subst (λ (l : List Stroke). AllNear (with_spots k (handed_out l))) (sym goes) a
 
 -- three steps to a point, and 70 bytes to a line
 pub outline_most : (g : Glyph) → entry_of g ≡ drawable → ends_rise (length g.xs) g.contours ≡ true → length (outline_text g) ≤ 210 * length g.xs + 70
@@ -189,22 +187,22 @@ outline_most g e rise =
     omega (arith, length-append (stroke_lines (contours_of g 0 g.contours)) (box_line (extent_of (contours_of g 0 g.contours))))
 
 -- ---- a glyph that is drawn or refused
-begun_by_lem : (e : Entry) {p : Pen} → begun_by e ≡ Ready p → e ≡ drawable
+begun_by_lem : (e : Entry) {p : Pen} → begun_by e ≡ Ok p → e ≡ drawable
 begun_by_lem drawable h = refl
 begun_by_lem (refused why) h = cc h
 
-refused_by : (e : Entry) {why : Refusal} → begun_by e ≡ NotBegun why → e ≡ refused why
+refused_by : (e : Entry) {why : Refusal} → begun_by e ≡ Err why → e ≡ refused why
 refused_by drawable h = cc h
 refused_by (refused why) h = cc h
 
-pub begun_drawable : (g : Glyph) {b : Begun} {p : Pen} → b ≡ begin_of g → b ≡ Ready p → entry_of g ≡ drawable
+pub begun_drawable : (g : Glyph) {b : Result Pen Refusal} {p : Pen} → b ≡ begin_of g → b ≡ Ok p → entry_of g ≡ drawable
 begun_drawable g e h = begun_by_lem (entry_of g) (sym e ∙ h)
 
-pub drawn_text : (g : Glyph) {b : Begun} {p : Pen} → b ≡ begin_of g → b ≡ Ready p → glyph_text g ≡ outline_text g
+pub drawn_text : (g : Glyph) {b : Result Pen Refusal} {p : Pen} → b ≡ begin_of g → b ≡ Ok p → glyph_text g ≡ outline_text g
 unfolding glyph_text
 drawn_text g e h = ap (text_by g) (begun_drawable g e h)
 
-pub refused_text : (g : Glyph) {b : Begun} {why : Refusal} {n : ℕ} → b ≡ begin_of g → b ≡ NotBegun why → n ≡ number_of why → glyph_text g ≡ refusal_line n
+pub refused_text : (g : Glyph) {b : Result Pen Refusal} {why : Refusal} {n : ℕ} → b ≡ begin_of g → b ≡ Err why → n ≡ number_of why → glyph_text g ≡ refusal_line n
 unfolding glyph_text
 refused_text g e h k = ap (text_by g) (refused_by (entry_of g) (sym e ∙ h)) ∙ ap refusal_line (sym k)
 

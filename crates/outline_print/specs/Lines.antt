@@ -1,12 +1,10 @@
 -- An outline as text, in ASCII: a step a line, its numbers as exact decimals of pixels, and the box on the last line; or why there is none. Assumes nothing.
-use Rattle.std.specs.Prelude.{ℕ, zero, suc, ◌+◌, ◌*◌, ◌/◌, ◌%◌, cond, true, ◌≡◌, List, [], ◌∷◌, ◌++◌, eqb, ℤ, pos, negsuc, nat_abs}
+use Rattle.std.specs.Prelude.{ℕ, zero, suc, ◌+◌, ◌*◌, ◌/◌, ◌%◌, cond, true, ◌≡◌, List, [], ◌∷◌, ◌++◌, eqb, ℤ, pos, negsuc, nat_abs, Option, Some, None}
 use Rattle.answer.specs.Answer.{number_of}
 use Rattle.outline_numbers.specs.Drawing.{Box, Extent, none, box, extent_of, lesser_z, greater_z, near}
 use Rattle.outline_numbers.specs.declared.Stroke.{Stroke}
 use Rattle.outline_numbers.specs.declared.Stroke.TheVariants.{Move, Line, Curve, Close}
 use Rattle.outline_print.specs.declared.Frame.{Frame}
-use Rattle.outline_print.specs.declared.Framed.{Framed}
-use Rattle.outline_print.specs.declared.Framed.TheVariants.{Nothing, Around}
 use Rattle.outline_steps.specs.Outline.{Glyph, Entry, drawable, refused, entry_of, steps_of}
 use Rattle.record_print.specs.Text.{decimal, sign_of}
 
@@ -55,9 +53,9 @@ stroke_lines (d ∷ ds) = stroke_line d ++ stroke_lines ds
 abbrev pub frame_box : Frame → Box
 frame_box e = record { left = e.left; bottom = e.bottom; right = e.right; top = e.top }
 
-abbrev pub extent_in : Framed → Extent
-extent_in Nothing = none
-extent_in (Around e) = box (frame_box e)
+abbrev pub extent_in : Option Frame → Extent
+extent_in None = none
+extent_in (Some e) = box (frame_box e)
 
 abbrev pub grown_to : Frame → ℤ → ℤ → Frame
 grown_to e x y = record { left = lesser_z x e.left; bottom = lesser_z y e.bottom; right = greater_z x e.right; top = greater_z y e.top }

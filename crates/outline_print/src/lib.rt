@@ -14,9 +14,10 @@ ghost use Rattle.record_print.specs.Steps.{Put, ended_by};
 ghost use Rattle.outline_print.specs.Lines.{AllNear, box_line, extent_in, fraction, glyph_text, grown_to, outline_text, place_text, places_text, pointed, refusal_line, size_text, stroke_line, tail_of};
 ghost use Rattle.outline_print.specs.Print.{glyph_in, outline_of};
 
+use answer::Says;
 use int::{low32, magnitude, non_negative};
 use outline_numbers::Stroke;
-use outline_steps::{Begun, Walked, begin, first_walk, walk_on};
+use outline_steps::{begin, first_walk, walk_on};
 use record_layout::{CURRENT_X, CURRENT_Y, ENDS, FLAGS, Layout, wide};
 use record_load::{ends_in, flags_in, numbers_in};
 use record_print::{put_answer, put_digits};
@@ -40,13 +41,8 @@ fn put_word(word: &[u8], text: &mut [u8], at: usize) -> usize
     requires { at + length word.now ≤ length text.old }
     ensures { Put word.now at result text.old text.new }
 {
-    let mut next = at;
-    let mut i = 0;
-    while i < word.len() {
-        text[next] = word[i];
-        next += 1;
-        i += 1;
-    }
+    let next = at + word.len();
+    text[at..next].copy_from_slice(word);
     next
 }
 
@@ -66,15 +62,13 @@ fn put_tail(r: u64, text: &mut [u8], at: usize) -> usize
 {
     let mut rest = r;
     let mut next = at;
-    let mut left = 7u64;
-    while left > 0 {
+    for _ in 0..7u32 {
         if rest == 0 {
             return next;
         }
         text[next] = digit_of(rest * 10 / 128);
         rest = rest * 10 % 128;
         next += 1;
-        left -= 1;
     }
     next
 }
@@ -171,22 +165,16 @@ pub struct Frame {
     pub top: i64,
 }
 
-#[derive(Clone, Copy)]
-pub enum Framed {
-    Nothing,
-    Around(Frame),
-}
-
 fn lesser(a: i64, b: i64) -> i64
     ensures { result ≡ lesser_z a b }
 {
-    if a < b { a } else { b }
+    a.min(b)
 }
 
 fn greater(a: i64, b: i64) -> i64
     ensures { result ≡ greater_z a b }
 {
-    if b < a { a } else { b }
+    a.max(b)
 }
 
 fn grow(e: Frame, x: i64, y: i64) -> Frame
@@ -200,22 +188,22 @@ fn grow(e: Frame, x: i64, y: i64) -> Frame
     }
 }
 
-fn with_spot(f: Framed, x: i64, y: i64) -> Framed
+fn with_spot(f: Option<Frame>, x: i64, y: i64) -> Option<Frame>
     ensures { extent_in result ≡ with_point x y (extent_in f) }
 {
     match f {
-        Framed::Nothing => Framed::Around(Frame {
+        None => Some(Frame {
             left: x,
             bottom: y,
             right: x,
             top: y,
         }),
-        Framed::Around(e) => Framed::Around(grow(e, x, y)),
+        Some(e) => Some(grow(e, x, y)),
     }
 }
 
 // The box with the points of a step, a curve's control among them.
-fn with_stroke(f: Framed, d: Stroke) -> Framed
+fn with_stroke(f: Option<Frame>, d: Stroke) -> Option<Frame>
     ensures { extent_in result ≡ with_spots (extent_in f) (spots_of d) }
 {
     match d {
@@ -226,14 +214,14 @@ fn with_stroke(f: Framed, d: Stroke) -> Framed
     }
 }
 
-fn put_box(f: Framed, text: &mut [u8], at: usize) -> usize
+fn put_box(f: Option<Frame>, text: &mut [u8], at: usize) -> usize
     requires all_near { AllNear (extent_in f) }
     requires f_in_bounds { at + length (box_line (extent_in f)) ≤ length text.old }
     ensures { Put (box_line (extent_in f)) at result text.old text.new }
 {
     match f {
-        Framed::Nothing => put_word(b"box none\n", text, at),
-        Framed::Around(e) => {
+        None => put_word(b"box none\n", text, at),
+        Some(e) => {
             let next = put_word(b"box ", text, at);
             put_places(e.left, e.bottom, e.right, e.top, text, next)
         }
@@ -255,18 +243,18 @@ fn put_outline(
     ensures { Put (outline_text (glyph xs.now ys.now flags.now contours.now)) at result text.old text.new }
 {
     let mut walk = first_walk();
-    let mut framed = Framed::Nothing;
+    let mut framed = None;
     let mut next = at;
     loop {
         let walked = walk_on(walk, xs, ys, flags, contours);
         match walked {
-            Walked::Went(s) => {
+            Some(s) => {
                 let stroke = s.stroke;
                 next = put_stroke(stroke, text, next);
                 framed = with_stroke(framed, stroke);
                 walk = s.walk;
             }
-            Walked::Ended => {
+            None => {
                 return put_box(framed, text, next);
             }
         }
@@ -298,8 +286,8 @@ fn put_glyph(
 {
     let begun = begin(xs, ys, flags, contours);
     match begun {
-        Begun::Ready(_) => put_outline(xs, ys, flags, contours, text, at),
-        Begun::Refused(why) => put_refusal(why.number(), text, at),
+        Ok(_) => put_outline(xs, ys, flags, contours, text, at),
+        Err(why) => put_refusal(why.number(), text, at),
     }
 }
 

@@ -10,7 +10,7 @@ use outline_print::{TEXT_ROOM, print_outline};
 use record_io::{
     INPUT_ROOM, chosen_rules, read_input, say_no_such_rules, say_unread, write_output,
 };
-use rules::{Named, Rules};
+use rules::Rules;
 use std::io::Stdin;
 
 fn print_record(rt: &(impl Print + Eprint), rules: Rules, bytes: &[u8]) {
@@ -33,7 +33,7 @@ fn print_input(rt: &(impl Print + Eprint), stdin: Stdin, rules: Rules) {
 fn main(rt: HostRuntime) {
     let named = chosen_rules(&rt);
     match named {
-        Named::Known(rules) => print_input(&rt, rt.stdin(), rules),
-        Named::Unknown => say_no_such_rules(&rt),
+        Some(rules) => print_input(&rt, rt.stdin(), rules),
+        None => say_no_such_rules(&rt),
     }
 }

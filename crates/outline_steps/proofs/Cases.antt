@@ -1,4 +1,6 @@
 -- Each case of the walk, over plain values: what the tests say, and what the calls gave. Assumes nothing.
+use Rattle.std.specs.Prelude.{Ok, Err, Option, Some, None}
+use Rattle.outline_numbers.specs.declared.Edges.{Edges}
 use mathlib.Core.Path.{◌≡◌, refl, sym, ap, ◌∙◌, subst}
 use Prim.Native.Nat.{ℕ, ◌+◌, ◌≤◌, ◌<◌, ◌^◌}
 use mathlib.Core.Bool.{Bool, true, false, ◌&&◌}
@@ -13,20 +15,16 @@ use Rattle.int.proofs.Words.{back32, read64, sum_fits}
 use Rattle.answer.specs.declared.Refusal.TheVariants.{Ends, Far, Sizes}
 use Rattle.contour_ends.specs.Ends.{ends_rise}
 use Rattle.outline_numbers.specs.Drawing.{is_near, step_of, drawn_by}
-use Rattle.outline_numbers.specs.declared.Bounds.{Bounds}
 use Rattle.outline_numbers.specs.declared.Spot.{Spot}
 use Rattle.outline_numbers.specs.declared.Step.{Step}
 use Rattle.outline_numbers.specs.declared.Stroke.{Stroke}
 use Rattle.outline_numbers.specs.declared.Stroke.TheVariants.{Close}
 use Rattle.outline_steps.specs.Outline.{Glyph, on, between, own, move_to, line_to, curve_to, sizes_fit, all_close, entry_of}
 use Rattle.outline_steps.specs.Pen.{stroked, on_to, curve_from, onward_from, begun_at, start_from, next_contour, asked, handed, fresh, begin_of}
-use Rattle.outline_steps.specs.declared.Begun.TheVariants.{Ready, Refused}
 use Rattle.outline_steps.specs.declared.Pen.{Pen}
 use Rattle.outline_steps.specs.declared.Stage.TheVariants.{Between, Onward, Waiting}
 use Rattle.outline_steps.specs.declared.Stroked.{Stroked}
-use Rattle.outline_steps.specs.declared.Told.TheVariants.{Step as Steps, Refused as RefusedStep}
 use Rattle.outline_steps.specs.declared.Walk.{Walk}
-use Rattle.outline_steps.specs.declared.Walked.TheVariants.{Went, Ended}
 
 -- ---- two words add up at 64 bits
 module _ (a b : ℤ) (f : mag a < 2 ^ 31) (g : mag b < 2 ^ 31) {p q : ℤ} (x : p ≡ to_z w32 (of_z w32 a)) (y : q ≡ to_z w32 (of_z w32 b)) where
@@ -73,11 +71,11 @@ module _ (g : Glyph) (w : Walk) where
     unfolding start_from
     start_midway h e f = sym (rw (lt-leb last w.past h, e, f))
 
-  pub contour_next : {s : Stroked} {last : ℕ} → w.contour < length g.contours → last ≡ get_or g.contours w.contour 0 → s ≡ start_from g w last → Went s ≡ next_contour g w
+  pub contour_next : {s : Stroked} {last : ℕ} → w.contour < length g.contours → last ≡ get_or g.contours w.contour 0 → s ≡ start_from g w last → Some s ≡ next_contour g w
   unfolding next_contour
-  contour_next h e f = ap Went (f ∙ ap (start_from g w) e) ∙ sym (rw (lt-ltb w.contour (length g.contours) h))
+  contour_next h e f = ap Some (f ∙ ap (start_from g w) e) ∙ sym (rw (lt-ltb w.contour (length g.contours) h))
 
-  pub contour_none : length g.contours ≤ w.contour → Ended ≡ next_contour g w
+  pub contour_none : length g.contours ≤ w.contour → None ≡ next_contour g w
   unfolding next_contour
   contour_none h = sym (rw (le-ltb w.contour (length g.contours) h))
 
@@ -113,29 +111,29 @@ module _ (g : Glyph) (w : Walk) where
 
 -- ---- the pen
 module _ (p : Pen) (s : Stroked) where
-  pub handed_over : {step : Step} {bounds : Bounds} → is_near s.stroke ≡ true → step ≡ step_of s.stroke → bounds ≡ drawn_by p.bounds step
-      → asked (Steps step) (record { walk = s.walk; bounds = bounds }) ≡ handed p (Went s)
+  pub handed_over : {step : Step} {bounds : Option Edges} → is_near s.stroke ≡ true → step ≡ step_of s.stroke → bounds ≡ drawn_by p.bounds step
+      → asked (Ok (Some step)) (record { walk = s.walk; bounds = bounds }) ≡ handed p (Some s)
   handed_over t e f =
       let b = f ∙ ap (drawn_by p.bounds) e in
-      (λ i. asked (Steps (e i)) (record { walk = s.walk; bounds = b i })) ∙ sym (rw t)
+      (λ i. asked (Ok (Some (e i))) (record { walk = s.walk; bounds = b i })) ∙ sym (rw t)
 
-  pub held_back : is_near s.stroke ≡ false → asked (RefusedStep Far) p ≡ handed p (Went s)
+  pub held_back : is_near s.stroke ≡ false → asked (Err Far) p ≡ handed p (Some s)
   held_back t = sym (rw t)
 
 -- ---- the start
 module _ (g : Glyph) where
-  pub begun_sizes : sizes_fit g ≡ false → Refused Sizes ≡ begin_of g
+  pub begun_sizes : sizes_fit g ≡ false → Err Sizes ≡ begin_of g
   unfolding entry_of
   begun_sizes e = sym (rw e)
 
-  pub begun_ends : sizes_fit g ≡ true → ends_rise (length g.xs) g.contours ≡ false → Refused Ends ≡ begin_of g
+  pub begun_ends : sizes_fit g ≡ true → ends_rise (length g.xs) g.contours ≡ false → Err Ends ≡ begin_of g
   unfolding entry_of
   begun_ends e f = sym (rw (e, f))
 
-  pub begun_ready : {p : Pen} → p ≡ fresh → sizes_fit g ≡ true → ends_rise (length g.xs) g.contours ≡ true → all_close g.xs && all_close g.ys ≡ true → Ready p ≡ begin_of g
+  pub begun_ready : {p : Pen} → p ≡ fresh → sizes_fit g ≡ true → ends_rise (length g.xs) g.contours ≡ true → all_close g.xs && all_close g.ys ≡ true → Ok p ≡ begin_of g
   unfolding entry_of
-  begun_ready is e f h = ap Ready is ∙ sym (rw (e, f, h))
+  begun_ready is e f h = ap Ok is ∙ sym (rw (e, f, h))
 
-  pub begun_far : sizes_fit g ≡ true → ends_rise (length g.xs) g.contours ≡ true → all_close g.xs && all_close g.ys ≡ false → Refused Far ≡ begin_of g
+  pub begun_far : sizes_fit g ≡ true → ends_rise (length g.xs) g.contours ≡ true → all_close g.xs && all_close g.ys ≡ false → Err Far ≡ begin_of g
   unfolding entry_of
   begun_far e f h = sym (rw (e, f, h))

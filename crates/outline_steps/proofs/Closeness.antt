@@ -1,35 +1,17 @@
--- What a test of coordinates says of the next one, and of those behind it: over plain lists; and what is known where all are close. Assumes nothing.
+-- What is known where all coordinates are close: over plain lists. Assumes nothing.
 use Prim.Native.Nat.{ℕ, suc, zero, ◌+◌, ◌-◌, ◌≤◌, ◌<◌, ◌^◌}
-use mathlib.Core.Bool.{Bool, ◌&&◌, cond, false, true}
+use mathlib.Core.Bool.{Bool, cond, false, true}
 use mathlib.Core.List.{List, [], ◌∷◌}
-use mathlib.Core.Path.{◌≡◌, ap, refl, sym, ◌∙◌}
-use native.Mathlib.Numerals.{add-one}
+use mathlib.Core.Path.{◌≡◌, refl}
 use native.Mathlib.Omega.{arith}
 use borrow.Author.Tests.{leb-true, ltb-true}
 use lib.Dec.{leb, ltb}
 use lib.IntN.{ℤ, pos, negsuc, nat_abs, sub_ℕ, ◌+ℤ◌}
-use lib.ListN.{drop, drop_of_length-le, get_or, length}
-use lib.Seq.{drop-cons}
+use lib.ListN.{get_or}
 use Rattle.outline_numbers.specs.Drawing.{near}
 use Rattle.outline_numbers.proofs.Near.{left_of, right_of, small_near}
 use Rattle.outline_steps.specs.Outline.{is_close, all_close, midway}
 
-module _ (l : List ℤ) (i : ℕ) (h : i < length l) {t : Bool} (is : t ≡ is_close (get_or l i (pos 0))) where
-  next_is : all_close (drop i l) ≡ is_close (get_or l i (pos 0)) && all_close (drop (i + 1) l)
-  unfolding all_close
-  next_is = rw (drop-cons l i (pos 0) h, add-one i)
-
-  pub one_far : t ≡ false → false ≡ all_close (drop i l)
-  one_far e = sym (next_is ∙ ap (λ (b : Bool). b && all_close (drop (i + 1) l)) (sym is ∙ e))
-
-  pub goes_on : t ≡ true → all_close (drop (i + 1) l) ≡ all_close (drop i l)
-  goes_on e = sym (next_is ∙ ap (λ (b : Bool). b && all_close (drop (i + 1) l)) (sym is ∙ e))
-
-pub all_seen : (l : List ℤ) (i : ℕ) → length l ≤ i → true ≡ all_close (drop i l)
-unfolding all_close
-all_seen l i h = sym (ap all_close (drop_of_length-le l {i = i} h))
-
--- ---- where all are close
 pub close_at : (l : List ℤ) → all_close l ≡ true → (i : ℕ) → is_close (get_or l i (pos 0)) ≡ true
 unfolding all_close
 close_at [] e i = refl

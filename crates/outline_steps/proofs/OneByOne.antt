@@ -1,5 +1,9 @@
 -- The steps asked for one by one are the glyph's list, then there are no more, for ever; every step of a glyph that may be drawn is near; and the box is the one around the points handed
 -- out so far. Assumes nothing.
+use Rattle.std.specs.Prelude.{Result, Ok, Option, Some, None}
+use Rattle.answer.specs.declared.Refusal.{Refusal}
+use Rattle.outline_numbers.specs.declared.Edges.{Edges}
+use Rattle.outline_numbers.specs.declared.Step.{Step}
 use mathlib.Core.Path.{◌≡◌, refl, sym, ap, ◌∙◌, subst}
 use Prim.Native.Nat.{ℕ, zero, suc, ◌+◌, ◌-◌, ◌≤◌, ◌<◌}
 use native.Mathlib.Numerals.{add-one}
@@ -15,7 +19,6 @@ use Rattle.answer.specs.declared.Refusal.TheVariants.{Ends, Far, Sizes}
 use Rattle.contour_ends.specs.Ends.{ends_rise}
 use Rattle.outline_numbers.specs.Drawing.{Box, Extent, Boxed, near, is_near, step_of, drawn_by, spots_of, handed_out, with_spots, extent_of, bounds_of}
 use Rattle.outline_numbers.specs.Drawing.{none as nothing, box}
-use Rattle.outline_numbers.specs.declared.Bounds.{Bounds}
 use Rattle.outline_numbers.specs.declared.Spot.{Spot}
 use Rattle.outline_numbers.specs.declared.Stroke.{Stroke}
 use Rattle.outline_numbers.specs.declared.Stroke.TheVariants.{Move, Line, Curve, Close}
@@ -28,11 +31,7 @@ use Rattle.outline_steps.specs.declared.Pen.{Pen}
 use Rattle.outline_steps.specs.declared.Stage.{Stage}
 use Rattle.outline_steps.specs.declared.Stage.TheVariants.{Between, Onward, Waiting}
 use Rattle.outline_steps.specs.declared.Stroked.{Stroked}
-use Rattle.outline_steps.specs.declared.Told.{Told}
-use Rattle.outline_steps.specs.declared.Told.TheVariants.{Step as Steps, NoMore}
 use Rattle.outline_steps.specs.declared.Walk.{Walk}
-use Rattle.outline_steps.specs.declared.Walked.{Walked}
-use Rattle.outline_steps.specs.declared.Walked.TheVariants.{Went, Ended}
 use Rattle.outline_steps.proofs.Cases.{start_single, start_first, start_last, start_midway, contour_next, contour_none, curve_on, curve_off, curve_back, line_on, line_off, line_none}
 use Rattle.outline_steps.proofs.Closeness.{midway_near}
 
@@ -166,9 +165,9 @@ module _ (g : Glyph) (w : Walk) where
 
 -- ---- the walk
 -- the next step, then what is before the walk behind it; nothing where it ended
-abbrev pub Goes : Glyph → List Stroke → Walked → Type 0
-Goes g l (Went s) = Continues g l s
-Goes g l Ended = l ≡ []
+abbrev pub Goes : Glyph → List Stroke → Option Stroked → Type 0
+Goes g l (Some s) = Continues g l s
+Goes g l None = l ≡ []
 
 abbrev last_of : Glyph → Walk → ℕ
 last_of g w = get_or g.contours w.contour 0
@@ -203,9 +202,9 @@ Close-by g = (all_close g.xs ≡ true) × (all_close g.ys ≡ true)
 abbrev pub NearStep : Stroked → Type 0
 NearStep s = is_near s.stroke ≡ true
 
-abbrev pub NearWalk : Walked → Type 0
-NearWalk (Went s) = NearStep s
-NearWalk Ended = Unit {0}
+abbrev pub NearWalk : Option Stroked → Type 0
+NearWalk (Some s) = NearStep s
+NearWalk None = Unit {0}
 
 both : {s t : Bool} → s ≡ true → t ≡ true → s && t ≡ true
 both e f = λ i. e i && f i
@@ -249,7 +248,7 @@ module _ (g : Glyph) (close : Close-by g) where
 
   next_near : (w : Walk) → NearWalk (next_contour g w)
   unfolding next_contour
-  next_near w = either NearWalk (ltb w.contour (length g.contours)) (Went (start_from g w (last_of g w))) Ended (start_near w (last_of g w)) tt
+  next_near w = either NearWalk (ltb w.contour (length g.contours)) (Some (start_from g w (last_of g w))) None (start_near w (last_of g w)) tt
 
   pub near_by : (w : Walk) (s : Stage) → NearWalk (walk_by g w s)
   near_by w Between = next_near w
@@ -261,16 +260,16 @@ module _ (g : Glyph) (close : Close-by g) where
   abbrev moved : Pen → Stroked → Pen
   moved p s = record { walk = s.walk; bounds = drawn_by p.bounds (step_of s.stroke) }
 
-  went : (p : Pen) (s : Stroked) → NearStep s → handed p (Went s) ≡ asked (Steps (step_of s.stroke)) (moved p s)
+  went : (p : Pen) (s : Stroked) → NearStep s → handed p (Some s) ≡ asked (Ok (Some (step_of s.stroke))) (moved p s)
   went p s e = rw e
 
-  asks_one : (n : ℕ) (p : Pen) (l : List Stroke) (x : Walked) → ((q : Pen) (m : List Stroke) → remaining g q.walk ≡ m → asks g q n ≡ first_of n m)
+  asks_one : (n : ℕ) (p : Pen) (l : List Stroke) (x : Option Stroked) → ((q : Pen) (m : List Stroke) → remaining g q.walk ≡ m → asks g q n ≡ first_of n m)
       → remaining g p.walk ≡ l → Goes g l x → NearWalk x → (handed p x).told ∷ asks g (handed p x).pen n ≡ first_of (suc n) l
-  asks_one n p l (Went s) again e goes h =
+  asks_one n p l (Some s) again e goes h =
       ap (λ (a : Asked). a.told ∷ asks g a.pen n) (went p s h)
-      ∙ ap (λ (m : List Told). Steps (step_of s.stroke) ∷ m) (again (moved p s) (remaining g s.walk) refl)
+      ∙ ap (λ (m : List (Result (Option Step) Refusal)). Ok (Some (step_of s.stroke)) ∷ m) (again (moved p s) (remaining g s.walk) refl)
       ∙ sym (ap (first_of (suc n)) goes)
-  asks_one n p l Ended again e goes h = ap (λ (m : List Told). NoMore ∷ m) (again p [] (e ∙ goes)) ∙ sym (ap (first_of (suc n)) goes)
+  asks_one n p l None again e goes h = ap (λ (m : List (Result (Option Step) Refusal)). (Ok None) ∷ m) (again p [] (e ∙ goes)) ∙ sym (ap (first_of (suc n)) goes)
 
   -- what the walk of a pen comes to, of the steps before it
   goes_on : (p : Pen) (l : List Stroke) → remaining g p.walk ≡ l → Goes g l (walk_of g p.walk)
@@ -286,15 +285,15 @@ module _ (g : Glyph) (close : Close-by g) where
   abbrev Bounding : ℕ → Type 0
   Bounding n = (q : Pen) (m : List Stroke) (k : Extent) → remaining g q.walk ≡ m → q.bounds ≡ bounds_of k → Within k → (pen_after g q n).bounds ≡ bounds_of (with_spots k (handed_out (take n m)))
 
-  box_one : (n : ℕ) (p : Pen) (l : List Stroke) (k : Extent) (x : Walked) → Bounding n → remaining g p.walk ≡ l → p.bounds ≡ bounds_of k → Within k → Goes g l x → NearWalk x
+  box_one : (n : ℕ) (p : Pen) (l : List Stroke) (k : Extent) (x : Option Stroked) → Bounding n → remaining g p.walk ≡ l → p.bounds ≡ bounds_of k → Within k → Goes g l x → NearWalk x
       → (pen_after g (handed p x).pen n).bounds ≡ bounds_of (with_spots k (handed_out (take (suc n) l)))
-  box_one n p l k (Went s) again e b w goes h =
+  box_one n p l k (Some s) again e b w goes h =
       ap (λ (a : Asked). (pen_after g a.pen n).bounds) (went p s h)
       ∙ again (moved p s) (remaining g s.walk) (with_spots k (spots_of s.stroke)) refl
-      (ap (λ (c : Bounds). drawn_by c (step_of s.stroke)) b ∙ step_added k s.stroke h w) (step_within k s.stroke h w)
+      (ap (λ (c : Option Edges). drawn_by c (step_of s.stroke)) b ∙ step_added k s.stroke h w) (step_within k s.stroke h w)
       ∙ ap bounds_of (sym (spots_joined k (spots_of s.stroke) (handed_out (take n (remaining g s.walk)))))
       ∙ ap (λ (m : List Stroke). bounds_of (with_spots k (handed_out (take (suc n) m)))) (sym goes)
-  box_one n p l k Ended again e b w goes h =
+  box_one n p l k None again e b w goes h =
       again p [] k (e ∙ goes) b w
       ∙ ap (λ (m : List Stroke). bounds_of (with_spots k (handed_out m))) (take_none n)
       ∙ ap (λ (m : List Stroke). bounds_of (with_spots k (handed_out (take (suc n) m)))) (sym goes)

@@ -10,7 +10,6 @@
 #![tactic(auto)]
 
 ghost use Rattle.std.specs.Prelude.{◌≡◌, List, ℕ, ◌<◌, ◌^◌};
-ghost use Rattle.outline_steps.specs.declared.Walked.TheVariants.{Went};
 ghost use Rattle.outline_steps.specs.Outline.{all_close, curve_to, glyph, is_on, line_to, midway, move_to, sizes_fit, spot_of};
 ghost use Rattle.outline_steps.specs.Pen.{begin_of, begun_at, curve_from, fresh as freshPen, handed, next_contour, next_of, on_to, onward_from, start_from, walk_of};
 
@@ -19,7 +18,7 @@ use contour_ends::ends_rise;
 use flags::{ON_CURVE, has_any};
 use int::{widen, within};
 use limits::contours_fit;
-use outline_numbers::{Bounds, Spot, Step, Stroke, drawn, is_near, step_of};
+use outline_numbers::{Edges, Spot, Step, Stroke, drawn, is_near, step_of};
 use zone::{coordinate_or_0, placed_fits};
 
 // How far from 0 a coordinate may be, in 64ths: 65,536 pixels.
@@ -55,7 +54,7 @@ pub struct Walk {
 pub struct Pen {
     pub walk: Walk,
     // Around the points handed out so far.
-    pub bounds: Bounds,
+    pub bounds: Option<Edges>,
 }
 
 // A step in 128ths, and where the pen is behind it.
@@ -66,28 +65,9 @@ pub struct Stroked {
 }
 
 #[derive(Clone, Copy)]
-pub enum Walked {
-    Went(Stroked),
-    Ended,
-}
-
-#[derive(Clone, Copy)]
-pub enum Told {
-    Step(Step),
-    NoMore,
-    Refused(Refusal),
-}
-
-#[derive(Clone, Copy)]
 pub struct Asked {
-    pub told: Told,
+    pub told: Result<Option<Step>, Refusal>,
     pub pen: Pen,
-}
-
-#[derive(Clone, Copy)]
-pub enum Begun {
-    Ready(Pen),
-    Refused(Refusal),
 }
 
 // ---- a point's place
@@ -257,33 +237,33 @@ fn number_of(end: u16) -> u64
 }
 
 // The next contour, where there is one.
-fn next_contour(w: Walk, xs: &[i32], ys: &[i32], flags: &[u8], contours: &[u16]) -> Walked
+fn next_contour(w: Walk, xs: &[i32], ys: &[i32], flags: &[u8], contours: &[u16]) -> Option<Stroked>
     ensures { result ≡ next_contour (glyph xs.now ys.now flags.now contours.now) w }
 {
     let k = w.contour as usize;
     if k < contours.len() {
-        Walked::Went(start_from(w, number_of(contours[k]), xs, ys, flags))
+        Some(start_from(w, number_of(contours[k]), xs, ys, flags))
     } else {
-        Walked::Ended
+        None
     }
 }
 
 // The next step in whole 128ths, for whoever wants no floats: `next` is this, and what it says of exact numbers.
-pub fn walk_on(w: Walk, xs: &[i32], ys: &[i32], flags: &[u8], contours: &[u16]) -> Walked
+pub fn walk_on(w: Walk, xs: &[i32], ys: &[i32], flags: &[u8], contours: &[u16]) -> Option<Stroked>
     ensures { result ≡ walk_of (glyph xs.now ys.now flags.now contours.now) w }
 {
     let stage = w.stage;
     match stage {
         Stage::Between => next_contour(w, xs, ys, flags, contours),
-        Stage::Onward => Walked::Went(onward(w, xs, ys, flags)),
-        Stage::Waiting(c) => Walked::Went(curve_from(w, c, w.at, xs, ys, flags)),
+        Stage::Onward => Some(onward(w, xs, ys, flags)),
+        Stage::Waiting(c) => Some(curve_from(w, c, w.at, xs, ys, flags)),
     }
 }
 
 // ---- the pen
 // A step whose numbers are exact is handed out, and its points are in the box then; else the pen stays.
 fn hand_over(pen: Pen, s: Stroked) -> Asked
-    ensures { result ≡ handed pen (Went s) }
+    ensures { result ≡ handed pen (Some s) }
 {
     let stroke = s.stroke;
     if is_near(stroke) {
@@ -292,12 +272,12 @@ fn hand_over(pen: Pen, s: Stroked) -> Asked
         let bounds = drawn(before, step);
         let walk = s.walk;
         Asked {
-            told: Told::Step(step),
+            told: Ok(Some(step)),
             pen: Pen { walk, bounds },
         }
     } else {
         Asked {
-            told: Told::Refused(Refusal::Far),
+            told: Err(Refusal::Far),
             pen,
         }
     }
@@ -310,9 +290,9 @@ pub fn next(pen: Pen, xs: &[i32], ys: &[i32], flags: &[u8], contours: &[u16]) ->
     let walk = pen.walk;
     let walked = walk_on(walk, xs, ys, flags, contours);
     match walked {
-        Walked::Went(s) => hand_over(pen, s),
-        Walked::Ended => Asked {
-            told: Told::NoMore,
+        Some(s) => hand_over(pen, s),
+        None => Asked {
+            told: Ok(None),
             pen,
         },
     }
@@ -322,14 +302,7 @@ pub fn next(pen: Pen, xs: &[i32], ys: &[i32], flags: &[u8], contours: &[u16]) ->
 fn all_close(list: &[i32]) -> bool
     ensures { result ≡ all_close list.now }
 {
-    let mut i = 0;
-    while i < list.len() {
-        if !within(list[i], NEAREST, FARTHEST) {
-            return false;
-        }
-        i += 1;
-    }
-    true
+    list.iter().all(|place| within(*place, NEAREST, FARTHEST))
 }
 
 // The test of answer 2.
@@ -360,23 +333,23 @@ fn fresh() -> Pen
 {
     Pen {
         walk: first_walk(),
-        bounds: Bounds::Nothing,
+        bounds: None,
     }
 }
 
 // A pen for a glyph that can be drawn: the sizes are tested, then the ends, then every coordinate.
-pub fn begin(xs: &[i32], ys: &[i32], flags: &[u8], contours: &[u16]) -> Begun
+pub fn begin(xs: &[i32], ys: &[i32], flags: &[u8], contours: &[u16]) -> Result<Pen, Refusal>
     ensures { result ≡ begin_of (glyph xs.now ys.now flags.now contours.now) }
 {
     if !sizes_fit(xs, ys, flags, contours) {
-        return Begun::Refused(Refusal::Sizes);
+        return Err(Refusal::Sizes);
     }
     if !ends_rise(contours, xs.len()) {
-        return Begun::Refused(Refusal::Ends);
+        return Err(Refusal::Ends);
     }
     if all_close(xs) & all_close(ys) {
-        Begun::Ready(fresh())
+        Ok(fresh())
     } else {
-        Begun::Refused(Refusal::Far)
+        Err(Refusal::Far)
     }
 }

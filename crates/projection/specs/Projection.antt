@@ -1,11 +1,11 @@
 -- What is worked out from the vectors: FreeType 2.13.3, ttinterp.c (Compute_Funcs, Project, Dual_Project, Project_x, Project_y), on words that
 -- wrap. FreeType works fdotp out in a C long and docs/src at 32 bits: they agree wherever no component lies outside -16,384..16,384
 -- (`fdotp_exact` of proofs/Laws.antt), and every entry refuses the rest. Distances wrap at 32 bits as document 01 says. Assumes nothing.
-use Rattle.std.specs.Prelude.{◌^◌, Bool, cond, ℤ, pos}
+use Rattle.answer.specs.declared.Refusal.{Refusal}
+use Rattle.std.specs.Prelude.{◌^◌, Bool, cond, ℤ, pos, Result, Ok, Err}
 use Rattle.std.specs.Int.Signed.{lt_z, shr_z}
 use Rattle.int.specs.Word.{add32, sub32, abs32, mul32, eq_z}
 use Rattle.math.specs.Fixed.{dot_fix14}
-use Rattle.answer.specs.Answer.{Said, said_by, said_done}
 use Rattle.answer.specs.declared.Refusal.TheVariants.{State}
 use Rattle.flags.specs.declared.CoordAxis.{CoordAxis}
 use Rattle.flags.specs.declared.CoordAxis.TheVariants.{Both, X, Y}
@@ -14,11 +14,6 @@ use Rattle.graphics.specs.declared.Vector.{Vector}
 use Rattle.graphics.specs.declared.Vectors.{Vectors}
 use Rattle.graphics.specs.declared.GraphicsState.{GraphicsState}
 use Rattle.projection.specs.declared.Derived.{Derived}
-use Rattle.projection.specs.declared.Measured.{Measured}
-use Rattle.projection.specs.declared.Measured.TheVariants.{Distance, Refused}
-use Rattle.projection.specs.declared.Deduced.{Deduced}
-use Rattle.projection.specs.declared.Deduced.TheVariants.{Numbers}
-use Rattle.projection.specs.declared.Deduced.TheVariants.{Refused as RefusedNumbers}
 
 -- ---- Compute_Funcs
 -- the axis that a vector lies on; x first
@@ -67,23 +62,16 @@ abbrev pub dual_project_of : Vectors → Vector → Vector → ℤ
 dual_project_of v a b = along_of v.dual a b
 
 -- ---- the direct calls: an unusable state is refused before anything is measured
-abbrev pub measured_by : Bool → ℤ → Measured
-measured_by usable d = cond usable (Distance d) (Refused State)
+abbrev pub measured_by : Bool → ℤ → Result ℤ Refusal
+measured_by usable d = cond usable (Ok d) (Err State)
 
-abbrev pub deduced_by : Bool → Derived → Deduced
-deduced_by usable d = cond usable (Numbers d) (RefusedNumbers State)
+abbrev pub deduced_by : Bool → Derived → Result Derived Refusal
+deduced_by usable d = cond usable (Ok d) (Err State)
 
-abbrev pub measured_of : GraphicsState → ℤ → Measured
+abbrev pub measured_of : GraphicsState → ℤ → Result ℤ Refusal
 measured_of s d = measured_by (usable_state s) d
 
-abbrev pub deduced_of : GraphicsState → Deduced
+abbrev pub deduced_of : GraphicsState → Result Derived Refusal
 deduced_of s = deduced_by (usable_state s) (derived_of s.vectors)
 
 -- what they say
-abbrev pub said_of_measured : Measured → Said
-said_of_measured (Distance d) = said_done
-said_of_measured (Refused why) = said_by why
-
-abbrev pub said_of_deduced : Deduced → Said
-said_of_deduced (Numbers d) = said_done
-said_of_deduced (RefusedNumbers why) = said_by why

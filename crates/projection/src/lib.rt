@@ -7,7 +7,7 @@
 #![tactic(auto)]
 
 ghost use Rattle.std.specs.Prelude.{◌≡◌};
-ghost use Rattle.projection.specs.Projection.{axis_of, freedom_axis_by, raw_fdotp, not_small, derived_of, along_of, project_of, dual_project_of, measured_by, deduced_by, measured_of, deduced_of, said_of_measured, said_of_deduced};
+ghost use Rattle.projection.specs.Projection.{axis_of, freedom_axis_by, raw_fdotp, not_small, derived_of, along_of, project_of, dual_project_of, measured_by, deduced_by, measured_of, deduced_of};
 
 use answer::Refusal;
 use flags::CoordAxis;
@@ -23,60 +23,6 @@ pub struct Derived {
     pub freedom_axis: CoordAxis,
     // The projection of the freedom vector on the projection vector, 2.14.
     pub fdotp: i32,
-}
-
-// What a direct call of a projection says.
-#[derive(Clone, Copy)]
-pub enum Measured {
-    Distance(i32),
-    Refused(Refusal),
-}
-
-impl Measured {
-    pub fn number(self) -> u32
-        ensures { result ≡ (said_of_measured self).number }
-    {
-        match self {
-            Measured::Distance(_) => 0,
-            Measured::Refused(why) => why.number(),
-        }
-    }
-
-    pub fn detail(self) -> u64
-        ensures { result ≡ (said_of_measured self).detail }
-    {
-        match self {
-            Measured::Distance(_) => 0,
-            Measured::Refused(why) => why.detail(),
-        }
-    }
-}
-
-// What the direct call for the derived numbers says.
-#[derive(Clone, Copy)]
-pub enum Deduced {
-    Numbers(Derived),
-    Refused(Refusal),
-}
-
-impl Deduced {
-    pub fn number(self) -> u32
-        ensures { result ≡ (said_of_deduced self).number }
-    {
-        match self {
-            Deduced::Numbers(_) => 0,
-            Deduced::Refused(why) => why.number(),
-        }
-    }
-
-    pub fn detail(self) -> u64
-        ensures { result ≡ (said_of_deduced self).detail }
-    {
-        match self {
-            Deduced::Numbers(_) => 0,
-            Deduced::Refused(why) => why.detail(),
-        }
-    }
 }
 
 // The axis that a vector lies on: one component that is 1 decides, whatever the other is.
@@ -189,45 +135,45 @@ pub fn dual_project_unscaled(v: Vectors, a: Vector, b: Vector) -> i32
 }
 
 // A distance, or the refusal of a state that is not usable.
-fn distance_if(usable: bool, distance: i32) -> Measured
+fn distance_if(usable: bool, distance: i32) -> Result<i32, Refusal>
     ensures { result ≡ measured_by usable distance }
 {
     if usable {
-        Measured::Distance(distance)
+        Ok(distance)
     } else {
-        Measured::Refused(Refusal::State)
+        Err(Refusal::State)
     }
 }
 
-fn numbers_if(usable: bool, numbers: Derived) -> Deduced
+fn numbers_if(usable: bool, numbers: Derived) -> Result<Derived, Refusal>
     ensures { result ≡ deduced_by usable numbers }
 {
     if usable {
-        Deduced::Numbers(numbers)
+        Ok(numbers)
     } else {
-        Deduced::Refused(Refusal::State)
+        Err(Refusal::State)
     }
 }
 
-pub fn try_derive(s: GraphicsState) -> Deduced
+pub fn try_derive(s: GraphicsState) -> Result<Derived, Refusal>
     ensures { result ≡ deduced_of s }
 {
     numbers_if(s.is_usable(), derive(s.vectors))
 }
 
-pub fn try_project(s: GraphicsState, a: Vector, b: Vector) -> Measured
+pub fn try_project(s: GraphicsState, a: Vector, b: Vector) -> Result<i32, Refusal>
     ensures { result ≡ measured_of s (project_of s.vectors a b) }
 {
     distance_if(s.is_usable(), project(s.vectors, a, b))
 }
 
-pub fn try_dual_project(s: GraphicsState, a: Vector, b: Vector) -> Measured
+pub fn try_dual_project(s: GraphicsState, a: Vector, b: Vector) -> Result<i32, Refusal>
     ensures { result ≡ measured_of s (dual_project_of s.vectors a b) }
 {
     distance_if(s.is_usable(), dual_project(s.vectors, a, b))
 }
 
-pub fn try_dual_project_unscaled(s: GraphicsState, a: Vector, b: Vector) -> Measured
+pub fn try_dual_project_unscaled(s: GraphicsState, a: Vector, b: Vector) -> Result<i32, Refusal>
     ensures { result ≡ measured_of s (dual_project_of s.vectors a b) }
 {
     distance_if(s.is_usable(), dual_project_unscaled(s.vectors, a, b))

@@ -1,5 +1,6 @@
 -- A stream of frames: answers one after the other are the answers of all, a frame is read as it was made, and what is kept of a record answers for it.
 -- Assumes nothing.
+use Rattle.std.specs.Prelude.{Err}
 use mathlib.Core.Bool.{Bool, false, true}
 use mathlib.Core.List.{List, [], ◌++◌, ◌∷◌, append_assoc, append-nil}
 use mathlib.Core.Path.{◌∙◌, ◌≡◌, ap, refl, sym}
@@ -17,7 +18,6 @@ use Rattle.record_layout.specs.Order.{most_bytes}
 use Rattle.record_read.specs.Read.{Read, open_of, read_as, read_of}
 use Rattle.record_read.specs.Read.Read.{Refused}
 use Rattle.record_read.specs.declared.Damage.TheVariants.{TooLong}
-use Rattle.record_read.specs.declared.Opened.TheVariants.{Damaged}
 use Rattle.record_replay.specs.Shelf.{on_read, shelf_within}
 use Rattle.record_print.specs.Print.{blank, print_of, room, text_of}
 use Rattle.record_frames.specs.Frames.{Put, answers_of, framed, record_room}
@@ -51,7 +51,7 @@ frame_read text rest h =
 too_long : (bytes : List ℕ) → most_bytes < length bytes → read_of bytes ≡ Refused 17
 unfolding open_of
 too_long bytes h =
-    let refused : open_of bytes ≡ Damaged TooLong = rw (lt-leb (length bytes) most_bytes h) refl in
+    let refused : open_of bytes ≡ Err TooLong = rw (lt-leb (length bytes) most_bytes h) refl in
     ap (read_as bytes) refused
 
 -- the bytes that are kept of a record answer as all of it: of one that is too long they are too long

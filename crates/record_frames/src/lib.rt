@@ -13,7 +13,7 @@ ghost use Rattle.record_frames.specs.Frames.{framed, record_room, frame_room, Pu
 
 use record_print::{TEXT_ROOM, print};
 use rules::Rules;
-use words::{store_words, word_at};
+use words::word_at;
 
 // The bytes of a frame's length.
 pub const LENGTH_SIZE: usize = 4;
@@ -36,8 +36,7 @@ pub fn length_in(frame: &[u8]) -> u32
 pub fn kept_of(size: u32) -> usize
     ensures { result ≡ min size record_room }
 {
-    let all = size as usize;
-    if all < RECORD_ROOM { all } else { RECORD_ROOM }
+    (size as usize).min(RECORD_ROOM)
 }
 
 // ---- pieces, one behind the other
@@ -46,22 +45,16 @@ pub fn append(piece: &[u8], out: &mut [u8], at: usize) -> usize
     requires { at + length piece.now ≤ length out.old }
     ensures { Put piece.now at result out.old out.new }
 {
-    let mut i = 0;
-    while i < piece.len() {
-        out[at + i] = piece[i];
-        i += 1;
-    }
-    at + i
+    let end = at + piece.len();
+    out[at..end].copy_from_slice(piece);
+    end
 }
 
 fn put_length(size: u32, out: &mut [u8], at: usize) -> usize
     requires { at + 4 ≤ length out.old }
     ensures { Put (bytes_of_word size) at result out.old out.new }
 {
-    let word = [size; 1];
-    let mut spelled = [0u8; LENGTH_SIZE];
-    store_words(&word, 0, &mut spelled);
-    append(&spelled, out, at)
+    append(&size.to_le_bytes(), out, at)
 }
 
 // The frame of a text's first bytes.

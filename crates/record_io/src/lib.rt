@@ -6,7 +6,7 @@
 
 ghost use Rattle.std.specs.Prelude.{◌≡◌, ◌≤◌, length, take};
 
-use rules::{Named, Rules, by_name};
+use rules::{Rules, by_name};
 use std::env::FillError;
 use std::io::{Read, Stdin};
 use std::rt::Env;
@@ -18,25 +18,22 @@ pub const INPUT_ROOM: usize = 24577;
 const NAME_ROOM: usize = 32;
 
 // The rules that the program's one argument names; FreeType's, the newest, where it has none.
-pub fn chosen_rules(rt: &impl Env) -> Named {
+pub fn chosen_rules(rt: &impl Env) -> Option<Rules> {
     if has_arg(rt, 2) {
-        return Named::Unknown;
+        return None;
     }
     let mut name = [0u8; NAME_ROOM];
     match rt.arg(1, &mut name) {
         Ok(size) => by_name(&name[..size]),
-        Err(FillError::NotPresent) => Named::Known(Rules::FreeType),
-        Err(FillError::TooLong) => Named::Unknown,
+        Err(FillError::NotPresent) => Some(Rules::FreeType),
+        Err(FillError::TooLong) => None,
     }
 }
 
 // Whether the program was started with an argument at this place, however long.
 fn has_arg(rt: &impl Env, i: usize) -> bool {
     let mut word = [0u8; NAME_ROOM];
-    match rt.arg(i, &mut word) {
-        Err(FillError::NotPresent) => false,
-        _ => true,
-    }
+    !matches!(rt.arg(i, &mut word), Err(FillError::NotPresent))
 }
 
 pub fn say_no_such_rules(rt: &impl Eprint) {
@@ -58,21 +55,16 @@ pub fn read_input(mut stdin: Stdin, bytes: &mut [u8]) -> Input
     ensures prefix { result.size ≡ length (take result.size bytes.new) }
 {
     let mut size = 0;
+    // Counted by hand: a read brings any number of bytes.
     while size < bytes.len() {
-        let more = match stdin.read(&mut bytes[size..]) {
-            Ok(more) => more,
-            Err(_) => {
-                return Input {
-                    size: 0,
-                    failed: true,
-                };
-            }
+        let Ok(more) = stdin.read(&mut bytes[size..]) else {
+            return Input {
+                size: 0,
+                failed: true,
+            };
         };
         if more == 0 {
-            return Input {
-                size,
-                failed: false,
-            };
+            break;
         }
         size += more;
     }

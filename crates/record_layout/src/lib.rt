@@ -94,7 +94,7 @@ pub fn count(l: Layout, k: usize) -> u32
 fn lists_before(k: usize) -> usize
     ensures { result ≡ capped k }
 {
-    if k < LISTS { k } else { LISTS }
+    k.min(LISTS)
 }
 
 // The first word of list k: it stands behind the state and the lists before it.
@@ -103,10 +103,8 @@ pub fn place(l: Layout, k: usize) -> usize
 {
     let end = lists_before(k);
     let mut at = wide(l.state);
-    let mut i = 0;
-    while i < end {
+    for i in 0..end {
         at += wide(count(l, i));
-        i += 1;
     }
     at
 }

@@ -1,12 +1,14 @@
 -- What the decimal digits of a number are: one digit below 10, else those of its tenth and its last one; and how many there are. Assumes nothing.
 use mathlib.Core.Bool.{Bool, cond, false, true}
 use mathlib.Core.List.{List, [], ◌++◌, ◌∷◌}
-use mathlib.Core.Path.{◌∙◌, ◌≡◌, ap, ap₂, refl, sym}
-use Prim.Native.Nat.{◌+◌, ◌*◌, ◌/◌, ◌<◌, ◌≤◌, suc, zero, ℕ}
+use mathlib.Core.Path.{◌∙◌, ◌≡◌, ap, refl, sym}
+use Prim.Native.Nat.{◌+◌, ◌*◌, ◌/◌, ◌%◌, ◌^◌, ◌<◌, ◌≤◌, suc, zero, ℕ}
 use native.Mathlib.Omega.{arith}
 use borrow.Author.Tests.{le-ltb, lt-ltb, ltb-false, ltb-true}
 use lib.Dec.{ltb}
 use lib.ListN.{length, length-append}
+use Rattle.std.proofs.lemmas.Fmt.{decimal_by_steps}
+use Rattle.std.specs.Fmt.{decimal as library's}
 use Rattle.record_print.specs.Text.{decimal, digits_by, last_digit}
 
 -- ---- steps enough are as good as more
@@ -39,13 +41,6 @@ one_long n h = ap length (one_digit n h)
 pub one_longer : (n : ℕ) → 10 ≤ n → length (decimal n) ≡ length (decimal (n / 10)) + 1
 one_longer n h = ap length (more_digits n h) ∙ length-append (decimal (n / 10)) (last_digit n ∷ [])
 
-pub some_digit : (n : ℕ) → 1 ≤ length (decimal n)
-some_digit n = by_test (ltb n 10) refl
-  where
-    by_test : (t : Bool) → ltb n 10 ≡ t → 1 ≤ length (decimal n)
-    by_test true e = omega (arith, one_long n (ltb-true n 10 e))
-    by_test false e = omega (arith, one_longer n (ltb-false n 10 e))
-
 -- the least number with more than suc k digits
 abbrev pub tens : ℕ → ℕ
 tens zero = 10
@@ -58,3 +53,11 @@ digits_most (suc k) n h = by_test (ltb n 10) refl (digits_most k (n / 10) (omega
     by_test : (t : Bool) → ltb n 10 ≡ t → length (decimal (n / 10)) ≤ suc k → length (decimal n) ≤ suc (suc k)
     by_test true e m = omega (arith, one_long n (ltb-true n 10 e))
     by_test false e m = omega (arith, one_longer n (ltb-false n 10 e))
+
+-- ---- the library's digits are these
+pub as_library : (n : ℕ) → n < 2 ^ 64 → library's n ≡ decimal n
+as_library n h = decimal_by_steps
+    (λ m ds. ds ≡ decimal m)
+    (λ m l. let e : m ≡ m % 10 = omega arith in ap (λ (d : ℕ). (48 + d) ∷ []) e ∙ sym (one_digit m l))
+    (λ m ds l e. ap (λ (t : List ℕ). t ++ (last_digit m ∷ [])) e ∙ sym (more_digits m l))
+    n h

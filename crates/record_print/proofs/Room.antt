@@ -1,4 +1,6 @@
 -- No record's text is longer than the room for it. Assumes nothing.
+use Rattle.std.specs.Prelude.{Result, Ok, Err}
+use Rattle.record_read.specs.declared.Damage.{Damage}
 use mathlib.Core.Bool.{Bool, false, true}
 use mathlib.Core.List.{List, [], ◌++◌, ◌∷◌}
 use mathlib.Core.Path.{◌∙◌, ◌≡◌, ap, refl, subst, sym}
@@ -17,8 +19,6 @@ use Rattle.record_layout.specs.declared.Layout.{Layout}
 use Rattle.record_read.proofs.Editions.{kept_some}
 use Rattle.record_read.proofs.Whole.{layout_is, layout_kept, sound}
 use Rattle.record_read.specs.Read.{layout_of, open_of, read_as, trailer_word}
-use Rattle.record_read.specs.declared.Opened.{Opened}
-use Rattle.record_read.specs.declared.Opened.TheVariants.{Damaged, Whole}
 use Rattle.record_run.specs.After.{Shelved, shelved}
 use Rattle.record_run.specs.declared.Replayed.{Replayed}
 use Rattle.rules.specs.declared.Rules.{Rules}
@@ -84,13 +84,13 @@ pub few_points : (rules : Rules) (most : ℕ) (bytes out : List ℕ) → (shelf_
 unfolding shelf_within on_read
 few_points rules most bytes out = by_verdict (open_of bytes) refl
   where
-    by_verdict : (o : Opened) → open_of bytes ≡ o → (on_read rules most out (read_as bytes o)).said.layout.points ≤ 872
-    by_verdict (Whole l) e =
+    by_verdict : (o : Result Layout Damage) → open_of bytes ≡ o → (on_read rules most out (read_as bytes o)).said.layout.points ≤ 872
+    by_verdict (Ok l) e =
         let s = sound bytes l e in
         let m = layout_of bytes in
         let few : m.points ≤ 872 = omega (arith, s.adds_up, s.size_is, kept_some (trailer_word bytes 5) s.kept_is) in
         subst (λ (n : ℕ). n ≤ 872) (ap (λ (k : Layout). k.points) (layout_is bytes l e) ∙ sym (ap (λ (k : Layout). k.points) (layout_kept bytes l))) few
-    by_verdict (Damaged why) e = omega arith
+    by_verdict (Err why) e = omega arith
 
 -- ---- the text
 -- TEXT_ROOM

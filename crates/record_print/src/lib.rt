@@ -9,10 +9,11 @@ ghost use Rattle.words.specs.Lists.{word, flag_of};
 ghost use Rattle.int.specs.Word.{of_bits};
 ghost use Rattle.record_layout.specs.Order.{list_place};
 ghost use Rattle.record_print.specs.Print.{answer_line, point_line, glyph_lines, print_of, Front};
-ghost use Rattle.record_print.specs.Text.{last_digit, decimal, signed_decimal};
+ghost use Rattle.record_print.specs.Text.{decimal, signed_decimal};
 ghost use Rattle.record_print.specs.Steps.{ended_by, Put};
 
 use int::{from_bits, magnitude, non_negative};
+use itoa::Buffer;
 use record_layout::{CURRENT_X, CURRENT_Y, FLAGS, Layout, place, wide};
 use record_replay::replay_within;
 use record_run::Replayed;
@@ -27,38 +28,14 @@ pub const RECORD_ROOM: usize = 24608;
 
 // ---- a number
 // Below, `at` is the place where a piece of the text begins, and the answer the place behind it.
-fn last_digit(n: u64) -> u8
-    ensures { result ≡ last_digit n }
-{
-    48 + (n % 10) as u8
-}
-
-fn count_digits(n: u64) -> usize
-    ensures { result ≡ length (decimal n) }
-{
-    let mut count = 1;
-    let mut rest = n;
-    while rest >= 10 {
-        rest /= 10;
-        count += 1;
-    }
-    count
-}
-
-// From the last digit to the first; the place behind them.
 pub fn put_digits(n: u64, text: &mut [u8], at: usize) -> usize
     requires { at + length (decimal n) ≤ length text.old }
     ensures { Put (decimal n) at result text.old text.new }
 {
-    let next = at + count_digits(n);
-    let mut i = next - 1;
-    let mut rest = n;
-    while rest >= 10 {
-        text[i] = last_digit(rest);
-        rest /= 10;
-        i -= 1;
-    }
-    text[i] = last_digit(rest);
+    let mut buffer = Buffer::new();
+    let digits = buffer.format(n).as_bytes();
+    let next = at + digits.len();
+    text[at..next].copy_from_slice(digits);
     next
 }
 
@@ -120,10 +97,8 @@ pub fn put_points(out: &[u8], l: Layout, text: &mut [u8], at: usize) -> usize
 {
     let points = wide(l.points);
     let mut next = at;
-    let mut i = 0;
-    while i < points {
+    for i in 0..points {
         next = put_point(out, l, i, text, next);
-        i += 1;
     }
     next
 }

@@ -1,4 +1,6 @@
 -- What `open_of` says by its four tests. Assumes nothing.
+use Rattle.std.specs.Prelude.{Result, Ok, Err}
+use Rattle.record_read.specs.declared.Damage.{Damage}
 use mathlib.Core.Bool.{Bool, true, false, cond, ◌&&◌}
 use mathlib.Core.List.{List}
 use mathlib.Core.Path.{◌∙◌, ◌≡◌, ap, refl, sym}
@@ -10,14 +12,12 @@ use Rattle.record_read.specs.Read.{framed, layout_of, open_of, sum_fits, words_f
 use Rattle.record_layout.specs.Order.{most_bytes}
 use Rattle.record_layout.specs.declared.Layout.{Layout}
 use Rattle.record_read.specs.declared.Damage.TheVariants.{TooLong, Form, Sum}
-use Rattle.record_read.specs.declared.Opened.{Opened}
-use Rattle.record_read.specs.declared.Opened.TheVariants.{Whole, Damaged}
 
 pub all_three : {a a' b b' c c' : Bool} → a ≡ a' → b ≡ b' → c ≡ c' → a && b && c ≡ a' && b' && c'
 all_three {a} {a'} {b} {b'} {c} {c'} p q r = ap (λ (x : Bool). x && b && c) p ∙ ap (λ (x : Bool). a' && x && c) q ∙ ap (λ (x : Bool). a' && b' && x) r
 
-abbrev verdict : Layout → Bool → Bool → Bool → Bool → Opened
-verdict l short frame fit sum = cond short (cond (frame && fit) (cond sum (Whole l) (Damaged Sum)) (Damaged Form)) (Damaged TooLong)
+abbrev verdict : Layout → Bool → Bool → Bool → Bool → Result Layout Damage
+verdict l short frame fit sum = cond short (cond (frame && fit) (cond sum (Ok l) (Err Sum)) (Err Form)) (Err TooLong)
 
 module _ (bytes : List ℕ) where
   abbrev fit : Bool
@@ -27,29 +27,29 @@ module _ (bytes : List ℕ) where
   unfolding open_of
   by_tests = refl
 
-  pub too_long : most_bytes < length bytes → Damaged TooLong ≡ open_of bytes
+  pub too_long : most_bytes < length bytes → Err TooLong ≡ open_of bytes
   too_long h = sym (by_tests ∙ ap (λ (x : Bool). verdict (layout_of bytes) x (framed bytes) fit (sum_fits bytes)) (lt-leb (length bytes) most_bytes h))
 
   module _ (h : length bytes ≤ most_bytes) where
     short : open_of bytes ≡ verdict (layout_of bytes) true (framed bytes) fit (sum_fits bytes)
     short = by_tests ∙ ap (λ (x : Bool). verdict (layout_of bytes) x (framed bytes) fit (sum_fits bytes)) (le-leb (length bytes) most_bytes h)
 
-    pub no_frame : framed bytes ≡ false → Damaged Form ≡ open_of bytes
+    pub no_frame : framed bytes ≡ false → Err Form ≡ open_of bytes
     no_frame e = sym (short ∙ ap (λ (x : Bool). verdict (layout_of bytes) true x fit (sum_fits bytes)) e)
 
     module _ (f : framed bytes ≡ true) where
       in_frame : open_of bytes ≡ verdict (layout_of bytes) true true fit (sum_fits bytes)
       in_frame = short ∙ ap (λ (x : Bool). verdict (layout_of bytes) true x fit (sum_fits bytes)) f
 
-      pub no_fit : fit ≡ false → Damaged Form ≡ open_of bytes
+      pub no_fit : fit ≡ false → Err Form ≡ open_of bytes
       no_fit e = sym (in_frame ∙ ap (λ (x : Bool). verdict (layout_of bytes) true true x (sum_fits bytes)) e)
 
       module _ (g : fit ≡ true) where
         fits : open_of bytes ≡ verdict (layout_of bytes) true true true (sum_fits bytes)
         fits = in_frame ∙ ap (λ (x : Bool). verdict (layout_of bytes) true true x (sum_fits bytes)) g
 
-        pub no_sum : sum_fits bytes ≡ false → Damaged Sum ≡ open_of bytes
+        pub no_sum : sum_fits bytes ≡ false → Err Sum ≡ open_of bytes
         no_sum e = sym (fits ∙ ap (λ (x : Bool). verdict (layout_of bytes) true true true x) e)
 
-        pub whole : sum_fits bytes ≡ true → Whole (layout_of bytes) ≡ open_of bytes
+        pub whole : sum_fits bytes ≡ true → Ok (layout_of bytes) ≡ open_of bytes
         whole e = sym (fits ∙ ap (λ (x : Bool). verdict (layout_of bytes) true true true x) e)

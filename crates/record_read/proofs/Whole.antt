@@ -1,4 +1,6 @@
 -- What is known of a byte string that `open_of` finds whole. Assumes nothing.
+use Rattle.std.specs.Prelude.{Result, Ok, Err}
+use Rattle.record_read.specs.declared.Damage.{Damage}
 use mathlib.Core.Bool.{Bool, true, false, cond, ◌&&◌}
 use mathlib.Core.List.{List}
 use mathlib.Core.Path.{◌∙◌, ◌≡◌, ap, refl, sym}
@@ -17,11 +19,9 @@ use Rattle.record_read.specs.Read.{counts_fit, framed, held_in, layout_of, lengt
 use Rattle.record_layout.specs.declared.Layout.{Layout}
 use Rattle.record_read.specs.Format.{layout, layout_for}
 use Rattle.record_read.specs.declared.Damage.TheVariants.{TooLong, Form, Sum}
-use Rattle.record_read.specs.declared.Opened.{Opened}
-use Rattle.record_read.specs.declared.Opened.TheVariants.{Whole, Damaged}
 
-abbrev pub verdict : Layout → Bool → Bool → Bool → Opened
-verdict l short frame sum = cond short (cond frame (cond sum (Whole l) (Damaged Sum)) (Damaged Form)) (Damaged TooLong)
+abbrev pub verdict : Layout → Bool → Bool → Bool → Result Layout Damage
+verdict l short frame sum = cond short (cond frame (cond sum (Ok l) (Err Sum)) (Err Form)) (Err TooLong)
 
 pub record Passed (found l : Layout) (short frame sum : Bool) : Type 0 where
   pub short_enough : short ≡ true
@@ -29,7 +29,7 @@ pub record Passed (found l : Layout) (short frame sum : Bool) : Type 0 where
   pub sums : sum ≡ true
   pub same : found ≡ l
 
-passed : (found l : Layout) (short frame sum : Bool) → verdict found short frame sum ≡ Whole l → Passed found l short frame sum
+passed : (found l : Layout) (short frame sum : Bool) → verdict found short frame sum ≡ Ok l → Passed found l short frame sum
 passed found l true true true e = record { short_enough = refl; fits = refl; sums = refl; same = cc e }
 passed found l true true false e = record { short_enough = cc e; fits = cc e; sums = cc e; same = cc e }
 passed found l true false sum e = record { short_enough = cc e; fits = cc e; sums = cc e; same = cc e }
@@ -59,8 +59,8 @@ and4 {a} {b} {c} {d} e =
 and3 : {a b c : Bool} → a && b && c ≡ true → (a ≡ true) × (b ≡ true) × (c ≡ true)
 and3 {a} {b} {c} e = let ab = and_left (a && b) c e in (and_left a b ab, and_right a b ab, and_right (a && b) c e)
 
-module _ (bytes : List ℕ) (l : Layout) (e : open_of bytes ≡ Whole l) where
-  by_tests : verdict (layout_of bytes) (leb (length bytes) most_bytes) (framed bytes && words_fit bytes (layout_of bytes)) (sum_fits bytes) ≡ Whole l
+module _ (bytes : List ℕ) (l : Layout) (e : open_of bytes ≡ Ok l) where
+  by_tests : verdict (layout_of bytes) (leb (length bytes) most_bytes) (framed bytes && words_fit bytes (layout_of bytes)) (sum_fits bytes) ≡ Ok l
   unfolding open_of
   by_tests = e
 

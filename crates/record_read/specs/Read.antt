@@ -1,5 +1,5 @@
 -- What a byte string holds, or why it is refused: document 02, K4, K5 and K7. `read_of` answers for every byte string. Assumes nothing.
-use Rattle.std.specs.Prelude.{ℕ, ◌+◌, ◌-◌, ◌*◌, ◌/◌, ◌%◌, Bool, cond, ◌&&◌, List, [], ◌∷◌, ◌++◌, eqb, leb, ltb, ℤ, drop, get_or, length}
+use Rattle.std.specs.Prelude.{ℕ, ◌+◌, ◌-◌, ◌*◌, ◌/◌, ◌%◌, Bool, cond, ◌&&◌, List, [], ◌∷◌, ◌++◌, eqb, leb, ltb, ℤ, drop, get_or, length, Result, Ok, Err}
 use Rattle.limits.specs.Limits.{most_points, most_contours, most_control_values, most_words}
 use Rattle.state_words.specs.Words.{state_of, state_words, is_state}
 use Rattle.graphics.specs.State.{fresh_state}
@@ -10,8 +10,6 @@ use Rattle.record_layout.specs.declared.Layout.{Layout}
 use Rattle.record_layout.specs.Order.{at_trailer, list_in, most_bytes, trailer_size}
 use Rattle.record_read.specs.declared.Damage.{Damage}
 use Rattle.record_read.specs.declared.Damage.TheVariants.{TooLong, Form, Sum}
-use Rattle.record_read.specs.declared.Opened.{Opened}
-use Rattle.record_read.specs.declared.Opened.TheVariants.{Whole, Damaged}
 use Rattle.record_read.specs.Format.{Held, held, layout}
 
 -- ---- the trailer, read from the end
@@ -69,11 +67,11 @@ sum_fits bytes = eqb (wrapping_sum (part bytes 0 (word_count bytes - 1))) (trail
 
 -- ---- reading
 -- the refusals, in order: too long, then form, then sum
-unfoldable pub open_of : List ℕ → Opened
+unfoldable pub open_of : List ℕ → Result Layout Damage
 open_of bytes =
     cond (leb (length bytes) most_bytes)
-    (cond (framed bytes && words_fit bytes (layout_of bytes)) (cond (sum_fits bytes) (Whole (layout_of bytes)) (Damaged Sum)) (Damaged Form))
-    (Damaged TooLong)
+    (cond (framed bytes && words_fit bytes (layout_of bytes)) (cond (sum_fits bytes) (Ok (layout_of bytes)) (Err Sum)) (Err Form))
+    (Err TooLong)
 
 abbrev pub damage_number : Damage → ℕ
 damage_number TooLong = 17
@@ -101,9 +99,9 @@ pub data Read : Type 0 where
   Kept : Held → Read
   Refused : ℕ → Read
 
-abbrev pub read_as : List ℕ → Opened → Read
-read_as bytes (Whole l) = Kept (held_in bytes l)
-read_as bytes (Damaged why) = Refused (damage_number why)
+abbrev pub read_as : List ℕ → Result Layout Damage → Read
+read_as bytes (Ok l) = Kept (held_in bytes l)
+read_as bytes (Err why) = Refused (damage_number why)
 
 abbrev pub read_of : List ℕ → Read
 read_of bytes = read_as bytes (open_of bytes)

@@ -20,7 +20,7 @@ use record_layout::{
     at_trailer, count, place, wide,
 };
 use state_words::{STATE_WORDS, is_state, read_state, write_state};
-use words::{all_at_most, load_words, sum, word};
+use words::{all_at_most, load, sum, word};
 
 // Why a byte string is refused.
 #[derive(Clone, Copy)]
@@ -31,12 +31,6 @@ pub enum Damage {
     Form,
     // Another sum than the trailer's.
     Sum,
-}
-
-#[derive(Clone, Copy)]
-pub enum Opened {
-    Whole(Layout),
-    Damaged(Damage),
 }
 
 impl Damage {
@@ -172,7 +166,7 @@ fn load_state_words(bytes: &[u8], words: &mut [u32])
 {
     write_state(GraphicsState::fresh(), words);
     let kept = wide(kept_in(bytes));
-    load_words(bytes, 0, &mut words[..kept]);
+    load(bytes, 0, &mut words[..kept]);
 }
 
 fn state_fits(bytes: &[u8]) -> bool
@@ -207,23 +201,23 @@ fn sum_fits(bytes: &[u8]) -> bool
 
 // ---- reading
 // Counts are tested before any list is walked, so that a damaged count costs nothing.
-pub fn open(bytes: &[u8]) -> Opened
+pub fn open(bytes: &[u8]) -> Result<Layout, Damage>
     ensures { result ≡ open_of bytes.now }
 {
     if bytes.len() > MOST_BYTES {
-        return Opened::Damaged(Damage::TooLong);
+        return Err(Damage::TooLong);
     }
     if !is_framed(bytes) {
-        return Opened::Damaged(Damage::Form);
+        return Err(Damage::Form);
     }
     let l = layout_of(bytes);
     if !words_fit_layout(bytes, l) {
-        return Opened::Damaged(Damage::Form);
+        return Err(Damage::Form);
     }
     if !sum_fits(bytes) {
-        return Opened::Damaged(Damage::Sum);
+        return Err(Damage::Sum);
     }
-    Opened::Whole(l)
+    Ok(l)
 }
 
 // The state of a record.

@@ -1,4 +1,5 @@
 -- A replay of a record by its parts: the lists that were loaded, and the verdict on the bytes. Assumes nothing.
+use Rattle.std.specs.Prelude.{Ok, Err}
 use mathlib.Core.List.{List, ◌++◌}
 use mathlib.Core.Path.{◌∙◌, ◌≡◌, ap, ap₂, refl, subst, sym}
 use Prim.Native.Nat.{◌≤◌, ℕ}
@@ -20,7 +21,6 @@ use Rattle.record_read.proofs.Whole.{layout_is, layout_kept, sound}
 use Rattle.record_read.specs.Format.{held, layout_for}
 use Rattle.record_read.specs.Read.{fixed_in, held_in, layout_of, damage_number, open_of, read_as, trailer_word}
 use Rattle.record_read.specs.declared.Damage.{Damage}
-use Rattle.record_read.specs.declared.Opened.TheVariants.{Damaged, Whole}
 use Rattle.record_run.specs.After.{shelved, shelved_for}
 use Rattle.record_replay.specs.Steps.{list_room, newest, point_room, twilight_room}
 use Rattle.record_replay.specs.Shelf.{on_read, refused_as, shelf_within}
@@ -54,16 +54,16 @@ whole_held rules most l bytes w out e g h = ap (λ k. shelved_for rules most (ne
 
 -- ---- the verdict
 module _ (rules : Rules) (most : ℕ) (bytes out : List ℕ) where
-  pub damaged : (why : Damage) → open_of bytes ≡ Damaged why → shelved (refused_as (damage_number why)) out ≡ shelf_within rules most bytes out
+  pub damaged : (why : Damage) → open_of bytes ≡ Err why → shelved (refused_as (damage_number why)) out ≡ shelf_within rules most bytes out
   unfolding shelf_within on_read
   damaged why e = sym (ap (λ o. on_read rules most out (read_as bytes o)) e)
 
-  pub opened : (l : Layout) → open_of bytes ≡ Whole l → shelved_for rules most (newest l) (held_in bytes l) out ≡ shelf_within rules most bytes out
+  pub opened : (l : Layout) → open_of bytes ≡ Ok l → shelved_for rules most (newest l) (held_in bytes l) out ≡ shelf_within rules most bytes out
   unfolding shelf_within on_read
   opened l e = sym (ap (λ o. on_read rules most out (read_as bytes o)) e ∙ ap (λ m. shelved_for rules most m (held_in bytes l) out) (layout_kept bytes l))
 
 -- a record's lists have no more words together than are between its state and its trailer
-pub within : (bytes : List ℕ) (l : Layout) → open_of bytes ≡ Whole l → (l.points ≤ point_room) × ((l.contours ≤ list_room) × ((l.twilight ≤ twilight_room) × ((l.controls ≤ list_room) × (l.words ≤ list_room))))
+pub within : (bytes : List ℕ) (l : Layout) → open_of bytes ≡ Ok l → (l.points ≤ point_room) × ((l.contours ≤ list_room) × ((l.twilight ≤ twilight_room) × ((l.controls ≤ list_room) × (l.words ≤ list_room))))
 within bytes l e =
     let s = sound bytes l e in
     let u = s.adds_up in

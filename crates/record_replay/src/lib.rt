@@ -20,7 +20,7 @@ use record_layout::{
     UNSCALED_Y, wide,
 };
 use record_load::{ends_in, flags_in, numbers_in};
-use record_read::{Opened, lay_out, load_state, open};
+use record_read::{lay_out, load_state, open};
 use record_run::{Replayed, run_and_write};
 use rules::Rules;
 
@@ -164,8 +164,8 @@ pub fn replay_within(rules: Rules, most: usize, bytes: &[u8], out: &mut [u8]) ->
 {
     let opened = open(bytes);
     match opened {
-        Opened::Damaged(why) => refuse(why.number()),
-        Opened::Whole(l) => replay_whole(rules, most, bytes, l, out),
+        Err(why) => refuse(why.number()),
+        Ok(l) => replay_whole(rules, most, bytes, l, out),
     }
 }
 

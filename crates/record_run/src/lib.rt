@@ -10,6 +10,7 @@ ghost use Rattle.line.specs.World.{fixed, world};
 ghost use Rattle.record_read.specs.Format.{held};
 ghost use Rattle.record_run.specs.After.{ran_from, left_with, shelved, shelved_for, told};
 
+use answer::Says;
 use graphics::GraphicsState;
 use record_layout::Layout;
 use record_write::write;

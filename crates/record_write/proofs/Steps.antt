@@ -1,7 +1,8 @@
 -- What one store leaves, by what its calls ensure, over plain values: the functions' proofs cite these. Assumes nothing.
-use mathlib.Core.Path.{◌≡◌, refl, ap₂, ◌∙◌}
-use mathlib.Core.List.{List, [], ◌∷◌}
+use mathlib.Core.Path.{◌≡◌, refl, ap, ap₂, ◌∙◌}
+use mathlib.Core.List.{List, [], ◌∷◌, map}
 use Prim.Native.Nat.{ℕ, ◌*◌, ◌%◌, ◌^◌}
+use Rattle.std.proofs.lemmas.List.{map-id}
 use Rattle.record_layout.specs.Order.{at_trailer, edition}
 use Rattle.record_layout.specs.declared.Layout.{Layout}
 use Rattle.words.specs.Lists.{part, placed, wrapping_sum}
@@ -10,6 +11,10 @@ use Rattle.record_write.specs.Steps.{sum_place, with_counts, with_sum}
 -- words at a place, over what was left before
 pub stored : (words : List ℕ) {at at' : ℕ} {before before' after : List ℕ} → at' ≡ at → after ≡ placed at' words before' → before' ≡ before → after ≡ placed at words before
 stored words ea e eb = e ∙ ap₂ (λ (n : ℕ) (l : List ℕ). placed n words l) ea eb
+
+-- the same of words that are written as they are
+pub stored_as_is : (words : List ℕ) {at at' : ℕ} {before before' after : List ℕ} → at' ≡ at → after ≡ placed at' (map (λ (w : ℕ). w) words) before' → before' ≡ before → after ≡ placed at words before
+stored_as_is words {at' = at'} {before' = before'} ea e eb = stored words ea (e ∙ ap (λ (ws : List ℕ). placed at' ws before') (map-id words)) eb
 
 module _ (l : Layout) (bytes : List ℕ) {at : ℕ} {after : List ℕ} where
   pub counts_stored :

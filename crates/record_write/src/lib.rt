@@ -22,7 +22,7 @@ use record_layout::{
 };
 use record_read::lay_out;
 use state_words::{STATE_WORDS, write_state};
-use words::{store_ends, store_flags, store_numbers, store_words, sum};
+use words::sum;
 
 // The state of a record, over its first words.
 fn store_state(s: GraphicsState, out: &mut [u8])
@@ -30,14 +30,14 @@ fn store_state(s: GraphicsState, out: &mut [u8])
 {
     let mut words = [0u32; STATE_WORDS];
     write_state(s, &mut words);
-    store_words(&words, 0, out);
+    words::store(&words, 0, out);
 }
 
 fn store_sources(l: Layout, controls: &[i32], sheet: &[i32], out: &mut [u8])
     ensures { out.new ≡ with_sources l controls.now sheet.now out.old }
 {
-    store_numbers(controls, place(l, CONTROLS), out);
-    store_numbers(sheet, place(l, SHEET), out);
+    words::store(controls, place(l, CONTROLS), out);
+    words::store(sheet, place(l, SHEET), out);
 }
 
 fn store_twilight(
@@ -51,29 +51,29 @@ fn store_twilight(
 )
     ensures { out.new ≡ with_twilight l ox.now oy.now x.now y.now flags.now out.old }
 {
-    store_numbers(ox, place(l, TWILIGHT_ORIGINAL_X), out);
-    store_numbers(oy, place(l, TWILIGHT_ORIGINAL_Y), out);
-    store_numbers(x, place(l, TWILIGHT_X), out);
-    store_numbers(y, place(l, TWILIGHT_Y), out);
-    store_flags(flags, place(l, TWILIGHT_FLAGS), out);
+    words::store(ox, place(l, TWILIGHT_ORIGINAL_X), out);
+    words::store(oy, place(l, TWILIGHT_ORIGINAL_Y), out);
+    words::store(x, place(l, TWILIGHT_X), out);
+    words::store(y, place(l, TWILIGHT_Y), out);
+    words::store(flags, place(l, TWILIGHT_FLAGS), out);
 }
 
 fn store_originals(l: Layout, ux: &[i32], uy: &[i32], ox: &[i32], oy: &[i32], out: &mut [u8])
     ensures { out.new ≡ with_originals l ux.now uy.now ox.now oy.now out.old }
 {
-    store_numbers(ux, place(l, UNSCALED_X), out);
-    store_numbers(uy, place(l, UNSCALED_Y), out);
-    store_numbers(ox, place(l, ORIGINAL_X), out);
-    store_numbers(oy, place(l, ORIGINAL_Y), out);
+    words::store(ux, place(l, UNSCALED_X), out);
+    words::store(uy, place(l, UNSCALED_Y), out);
+    words::store(ox, place(l, ORIGINAL_X), out);
+    words::store(oy, place(l, ORIGINAL_Y), out);
 }
 
 fn store_currents(l: Layout, x: &[i32], y: &[i32], flags: &[u8], ends: &[u16], out: &mut [u8])
     ensures { out.new ≡ with_currents l x.now y.now flags.now ends.now out.old }
 {
-    store_numbers(x, place(l, CURRENT_X), out);
-    store_numbers(y, place(l, CURRENT_Y), out);
-    store_flags(flags, place(l, FLAGS), out);
-    store_ends(ends, place(l, ENDS), out);
+    words::store(x, place(l, CURRENT_X), out);
+    words::store(y, place(l, CURRENT_Y), out);
+    words::store(flags, place(l, FLAGS), out);
+    words::store(ends, place(l, ENDS), out);
 }
 
 // The bytes back from the trailer to the record's first.
@@ -90,7 +90,7 @@ fn store_counts(l: Layout, out: &mut [u8])
     let words = [
         l.points, l.contours, l.twilight, l.controls, l.words, EDITION, back,
     ];
-    store_words(&words, at_trailer(l), out);
+    words::store(&words, at_trailer(l), out);
 }
 
 fn sum_place(l: Layout) -> usize
@@ -104,7 +104,7 @@ fn store_sum(l: Layout, out: &mut [u8])
 {
     let at = sum_place(l);
     let words = [sum(out, at)];
-    store_words(&words, at, out);
+    words::store(&words, at, out);
 }
 
 // The trailer, its sum last.

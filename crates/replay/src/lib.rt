@@ -24,28 +24,27 @@ ghost use Rattle.line.specs.World.{fixed, world};
 ghost use Rattle.run_lines.specs.Onward.{ran};
 ghost use Rattle.replay.specs.Run.{entry_of, entry_refused, run_of};
 
-use answer::{Call, Refusal};
+use answer::Refusal;
 use contour_ends::ends_rise;
 use graphics::GraphicsState;
 use line::sizes_fit;
-use opcodes::needs_table;
 use rules::Rules;
 use run_lines::{Answer, Outcome, onward};
 
 // The tests before the first line, in their order.
-pub fn enter(sized: bool, rising: bool, usable: bool, starts: bool) -> Call
+pub fn enter(sized: bool, rising: bool, usable: bool, starts: bool) -> Result<(), Refusal>
     ensures { result ≡ entry_of sized rising usable starts }
 {
     if !sized {
-        Call::Refused(Refusal::Sizes)
+        Err(Refusal::Sizes)
     } else if !rising {
-        Call::Refused(Refusal::Ends)
+        Err(Refusal::Ends)
     } else if !usable {
-        Call::Refused(Refusal::State)
+        Err(Refusal::State)
     } else if !starts {
-        Call::Refused(Refusal::Line)
+        Err(Refusal::Line)
     } else {
-        Call::Done
+        Ok(())
     }
 }
 
@@ -91,12 +90,11 @@ pub fn run(
     let rising = ends_rise(contours, gx.len());
     let begun = enter(sized, rising, s.is_usable(), start <= sheet.len());
     match begun {
-        Call::Refused(why) => at_entry(why, start, s),
-        Call::Done => {
-            let needs = needs_table();
+        Err(why) => at_entry(why, start, s),
+        Ok(()) => {
             onward(
-                start, budget, s, rules, sheet, &needs, controls, gux, guy, gox, goy, gx, gy,
-                gflags, contours, tox, toy, tx, ty, tflags,
+                start, budget, s, rules, sheet, controls, gux, guy, gox, goy, gx, gy, gflags,
+                contours, tox, toy, tx, ty, tflags,
             )
         }
     }

@@ -15,7 +15,7 @@ use record_frames::{
     FRAME_ROOM, LENGTH_SIZE, RECORD_ROOM, answer_frame, append, kept_of, length_in,
 };
 use record_io::{chosen_rules, say_no_such_rules};
-use rules::{Named, Rules};
+use rules::Rules;
 use std::io::{Read, Stdin};
 
 // So much is read at once.
@@ -41,13 +41,6 @@ struct Reader {
 struct Part {
     reader: Reader,
     size: usize,
-}
-
-fn least(a: usize, b: usize) -> usize
-    ensures upper_bound { result ≤ a }
-    ensures upper_bound_2 { result ≤ b }
-{
-    if a < b { a } else { b }
 }
 
 // The next block, where all of this one is used.
@@ -82,7 +75,7 @@ fn take_some(block: &[u8; BLOCK_ROOM], reader: Reader, piece: &mut [u8], size: u
 {
     let bytes: &[u8] = block;
     let at = reader.at;
-    let here = least(reader.end - at, piece.len() - size);
+    let here = (reader.end - at).min(piece.len() - size);
     let end = at + here;
     append(&bytes[at..end], piece, size);
     here
@@ -96,6 +89,7 @@ fn read_part(stdin: Stdin, block: &mut [u8; BLOCK_ROOM], from: Reader, piece: &m
 {
     let mut reader = from;
     let mut size = 0;
+    // Counted by hand: each turn takes what the block has, any number of bytes.
     while size < piece.len() {
         reader = refill(stdin, block, reader);
         let here = take_some(block, reader, piece, size);
@@ -115,9 +109,10 @@ fn pass_over(stdin: Stdin, block: &mut [u8; BLOCK_ROOM], from: Reader, count: us
 {
     let mut reader = from;
     let mut size = 0;
+    // Counted by hand: each turn takes what the block has, any number of bytes.
     while size < count {
         reader = refill(stdin, block, reader);
-        let here = least(reader.end - reader.at, count - size);
+        let here = (reader.end - reader.at).min(count - size);
         if here == 0 {
             return Part { reader, size };
         }
@@ -349,9 +344,7 @@ fn answer_all(rt: &(impl Print + Eprint), stdin: Stdin, rules: Rules) {
         waiting: 0,
         open: true,
     };
-    let mut number = 0u64;
-    while number < u64::MAX && stream.open {
-        number += 1;
+    for number in 1..=u64::MAX {
         stream = answer_next(
             rt,
             stdin,
@@ -362,13 +355,16 @@ fn answer_all(rt: &(impl Print + Eprint), stdin: Stdin, rules: Rules) {
             &mut answers,
             stream,
         );
+        if !stream.open {
+            break;
+        }
     }
 }
 
 fn main(rt: HostRuntime) {
     let named = chosen_rules(&rt);
     match named {
-        Named::Known(rules) => answer_all(&rt, rt.stdin(), rules),
-        Named::Unknown => say_no_such_rules(&rt),
+        Some(rules) => answer_all(&rt, rt.stdin(), rules),
+        None => say_no_such_rules(&rt),
     }
 }

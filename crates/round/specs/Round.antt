@@ -4,18 +4,16 @@
 -- alone that the mode and the distance's sign use. Where a mirrored result would cross 0, docs/src gives 0; so does FreeType, but for HalfGrid, where it
 -- gives 32 or -32: that happens within 63 of 2 ^ 31 alone. Super45 of -2 ^ 31 by -1 is undefined in FreeType's C and wraps in the Rust; by period 0 the
 -- Rust panics, and document 01 refuses that. Assumes nothing.
-use Rattle.std.specs.Prelude.{Bool, true, false, not, cond, ℤ, pos}
+use Rattle.answer.specs.declared.Refusal.{Refusal}
+use Rattle.std.specs.Prelude.{Bool, true, false, not, cond, ℤ, pos, Result, Ok, Err}
 use Rattle.std.specs.Int.Signed.{non_neg, lt_z}
 use Rattle.int.specs.Word.{and32, eq_z, min_z, max_z}
 use Rattle.math.specs.Fixed.{pix_floor, pad_floor}
-use Rattle.answer.specs.Answer.{Said, said_by, said_done}
 use Rattle.answer.specs.declared.Refusal.TheVariants.{State}
 use Rattle.round.specs.Tracked.{given, instead_of, joined, minus, negated, on, over, plus, times}
 use Rattle.round.specs.declared.RoundMode.{RoundMode}
 use Rattle.round.specs.declared.RoundMode.TheVariants.{Grid, HalfGrid, DoubleGrid, DownToGrid, UpToGrid, Off, Super, Super45}
 use Rattle.round.specs.declared.RoundState.{RoundState}
-use Rattle.round.specs.declared.Rounded.{Rounded}
-use Rattle.round.specs.declared.Rounded.TheVariants.{To, Refused}
 use Rattle.round.specs.declared.Tracked.{Tracked}
 
 -- ---- the modes that go by the grid
@@ -100,13 +98,8 @@ abbrev pub usable : RoundState → Bool
 usable s = usable_by s.period s.mode
 
 -- the direct call
-abbrev pub rounded_of : RoundState → ℤ → Rounded
-rounded_of s d = cond (usable s) (To (rounding s d)) (Refused State)
-
--- what it says
-abbrev pub said_of_rounded : Rounded → Said
-said_of_rounded (To d) = said_done
-said_of_rounded (Refused why) = said_by why
+abbrev pub rounded_of : RoundState → ℤ → Result Tracked Refusal
+rounded_of s d = cond (usable s) (Ok (rounding s d)) (Err State)
 
 -- the state that a glyph starts with
 abbrev pub fresh : RoundState

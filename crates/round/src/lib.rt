@@ -8,7 +8,7 @@
 
 ghost use Rattle.std.specs.Prelude.{◌≡◌};
 ghost use Rattle.round.specs.Tracked.{given as Tracked·given, cut as Tracked·cut, plus as Tracked·plus, minus as Tracked·minus, times as Tracked·times, over as Tracked·over, negated as Tracked·negated};
-ghost use Rattle.round.specs.Round.{mirrored, grid, half_grid, double_grid, down_to_grid, up_to_grid, period_floor, keep_up, keep_down, super_by, rounding, usable, rounded_of, said_of_rounded};
+ghost use Rattle.round.specs.Round.{mirrored, grid, half_grid, double_grid, down_to_grid, up_to_grid, period_floor, keep_up, keep_down, super_by, rounding, usable, rounded_of};
 ghost use Rattle.round.specs.Round.{fresh as Round·fresh, outward as Round·outward, inward as Round·inward};
 
 use answer::Refusal;
@@ -50,33 +50,6 @@ pub struct RoundState {
 pub struct Tracked {
     pub word: i32,
     pub wrapped: bool,
-}
-
-// What a direct call of rounding says: the distance rounded and whether an operation went past 32 bits, or the refusal.
-#[derive(Clone, Copy)]
-pub enum Rounded {
-    To(Tracked),
-    Refused(Refusal),
-}
-
-impl Rounded {
-    pub fn number(self) -> u32
-        ensures { result ≡ (said_of_rounded self).number }
-    {
-        match self {
-            Rounded::To(_) => 0,
-            Rounded::Refused(why) => why.number(),
-        }
-    }
-
-    pub fn detail(self) -> u64
-        ensures { result ≡ (said_of_rounded self).detail }
-    {
-        match self {
-            Rounded::To(_) => 0,
-            Rounded::Refused(why) => why.detail(),
-        }
-    }
 }
 
 // ---- the operations of round.rs, on exact numbers cut to words
@@ -153,13 +126,13 @@ fn inward(d: i32, r: Tracked) -> Tracked
     if non_negative(d) {
         Tracked {
             word: max(r.word, 0),
-            wrapped: r.wrapped,
+            ..r
         }
     } else {
         let back = negated(r);
         Tracked {
             word: min(back.word, 0),
-            wrapped: back.wrapped,
+            ..back
         }
     }
 }
@@ -170,7 +143,7 @@ fn floored(x: Tracked) -> Tracked
 {
     Tracked {
         word: floor(x.word),
-        wrapped: x.wrapped,
+        ..x
     }
 }
 
@@ -192,7 +165,7 @@ fn to_double_grid(d: i32) -> Tracked
     let sum = plus(outward(d), given(16));
     let half = Tracked {
         word: floor_pad(sum.word, 32),
-        wrapped: sum.wrapped,
+        ..sum
     };
     inward(d, half)
 }
@@ -232,10 +205,7 @@ fn keep_up(phase: i32, v: Tracked) -> Tracked
     if non_negative(v.word) {
         v
     } else {
-        Tracked {
-            word: phase,
-            wrapped: v.wrapped,
-        }
+        Tracked { word: phase, ..v }
     }
 }
 
@@ -301,48 +271,34 @@ impl RoundState {
     pub fn with_mode(self, mode: RoundMode) -> RoundState
         ensures { result ≡ record { mode = mode; threshold = self.threshold; phase = self.phase; period = self.period } }
     {
-        RoundState {
-            mode,
-            threshold: self.threshold,
-            phase: self.phase,
-            period: self.period,
-        }
+        RoundState { mode, ..self }
     }
 
     // A distance rounded. With Super45 and period 0, which every entry refuses, the quotient counts as 0.
     pub fn round(self, d: i32) -> Tracked
         ensures { result ≡ rounding self d }
     {
-        let mode = self.mode;
-        round_by(mode, self.threshold, self.phase, self.period, d)
+        round_by(self.mode, self.threshold, self.phase, self.period, d)
     }
 
     // Whether the state can be rounded by: not Super45 with period 0.
     pub fn is_usable(self) -> bool
         ensures { result ≡ usable self }
     {
-        let mode = self.mode;
-        let period = self.period;
-        match mode {
-            RoundMode::Grid => true,
-            RoundMode::HalfGrid => true,
-            RoundMode::DoubleGrid => true,
-            RoundMode::DownToGrid => true,
-            RoundMode::UpToGrid => true,
-            RoundMode::Off => true,
-            RoundMode::Super => true,
-            RoundMode::Super45 => !equal(period, 0),
+        match self.mode {
+            RoundMode::Super45 => !equal(self.period, 0),
+            _ => true,
         }
     }
 
     // The direct call: a distance rounded, or the refusal of a state that cannot round.
-    pub fn try_round(self, d: i32) -> Rounded
+    pub fn try_round(self, d: i32) -> Result<Tracked, Refusal>
         ensures { result ≡ rounded_of self d }
     {
         if self.is_usable() {
-            Rounded::To(self.round(d))
+            Ok(self.round(d))
         } else {
-            Rounded::Refused(Refusal::State)
+            Err(Refusal::State)
         }
     }
 }

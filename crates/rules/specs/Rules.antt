@@ -1,7 +1,5 @@
 -- The rules that a run can be given, by their numbers and by their names: document 02, K9. What each changes stands in docs/RULE-EDITIONS.md. Assumes nothing.
-use Rattle.std.specs.Prelude.{ℕ, Bool, cond, false, true, ◌&&◌, List, [], ◌∷◌, eqb}
-use Rattle.rules.specs.declared.Named.{Named}
-use Rattle.rules.specs.declared.Named.TheVariants.{Known, Unknown}
+use Rattle.std.specs.Prelude.{ℕ, Bool, cond, false, true, ◌&&◌, List, [], ◌∷◌, eqb, Option, Some, None}
 use Rattle.rules.specs.declared.Rules.TheVariants.{FreeType, Skrifa}
 use Rattle.rules.specs.declared.Rules.{Rules}
 
@@ -22,11 +20,11 @@ same_bytes [] (y ∷ ys) = false
 same_bytes (x ∷ xs) [] = false
 same_bytes (x ∷ xs) (y ∷ ys) = eqb x y && same_bytes xs ys
 
-abbrev pub by_test : (Rules → Bool) → Named
-by_test is = cond (is Skrifa) (Known Skrifa) (cond (is FreeType) (Known FreeType) Unknown)
+abbrev pub by_test : (Rules → Bool) → Option Rules
+by_test is = cond (is Skrifa) (Some Skrifa) (cond (is FreeType) (Some FreeType) None)
 
-unfoldable pub by_number : ℕ → Named
+unfoldable pub by_number : ℕ → Option Rules
 by_number number = by_test λ rules. eqb number (number_of_rules rules)
 
-unfoldable pub by_name : List ℕ → Named
+unfoldable pub by_name : List ℕ → Option Rules
 by_name name = by_test λ rules. same_bytes name (name_of_rules rules)

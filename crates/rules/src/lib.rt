@@ -15,47 +15,31 @@ pub enum Rules {
     FreeType,
 }
 
-// What a number or a name stands for.
-#[derive(Clone, Copy)]
-pub enum Named {
-    Known(Rules),
-    Unknown,
-}
-
-pub fn by_number(number: u32) -> Named
+pub fn by_number(number: u32) -> Option<Rules>
     ensures { result ≡ by_number number }
 {
     match number {
-        0 => Named::Known(Rules::Skrifa),
-        1 => Named::Known(Rules::FreeType),
-        _ => Named::Unknown,
+        0 => Some(Rules::Skrifa),
+        1 => Some(Rules::FreeType),
+        _ => None,
     }
 }
 
+#[tactic(auto, using(crate::proofs::Bytes::byte_by_byte))]
 fn same_bytes(a: &[u8], b: &[u8]) -> bool
     ensures { result ≡ same_bytes a.now b.now }
 {
-    if a.len() != b.len() {
-        return false;
-    }
-    let mut k = 0;
-    while k < a.len() {
-        if a[k] != b[k] {
-            return false;
-        }
-        k += 1;
-    }
-    true
+    a == b
 }
 
-pub fn by_name(name: &[u8]) -> Named
+pub fn by_name(name: &[u8]) -> Option<Rules>
     ensures { result ≡ by_name name.now }
 {
     if same_bytes(name, b"skrifa") {
-        return Named::Known(Rules::Skrifa);
+        return Some(Rules::Skrifa);
     }
     if same_bytes(name, b"freetype") {
-        return Named::Known(Rules::FreeType);
+        return Some(Rules::FreeType);
     }
-    Named::Unknown
+    None
 }

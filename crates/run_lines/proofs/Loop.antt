@@ -1,5 +1,6 @@
 -- How a run goes on, over plain values: at the sheet's end, with the budget used, after a line that is done, and after one that is refused. And that
 -- worlds of the same lengths are alike together. Assumes nothing.
+use Rattle.std.specs.Prelude.{⊤, Result, Ok, Err}
 use mathlib.Core.Bool.{true}
 use mathlib.Core.List.{List}
 use Prim.Native.Nat.{◌+◌, ◌-◌, ◌<◌, ◌≤◌, suc, zero, ℕ}
@@ -11,8 +12,6 @@ use lib.ListN.{length}
 use lib.IntN.{ℤ}
 use Rattle.contour_ends.specs.Ends.{ends_rise}
 use Rattle.line.specs.World.{Alike, Fixed, Sound, World}
-use Rattle.answer.specs.declared.Call.{Call}
-use Rattle.answer.specs.declared.Call.TheVariants.{Done, Refused as RefusedCall}
 use Rattle.run_lines.specs.declared.Answer.TheVariants.{Finished, OutOfBudget, Refused}
 use Rattle.answer.specs.declared.Refusal.{Refusal}
 use Rattle.run_step.specs.Step.{Went, step_of}
@@ -43,17 +42,17 @@ turn f sheet (suc b) n at w h z =
     rw (e, add-one n) (turn_suc f sheet b n at w h)
 
 module _ (f : Fixed) (sheet : List ℤ) (b n at : ℕ) (w : World) (g : Went) (eg : g ≡ step_of f sheet at w) (h : at < length sheet) (z : b ≡ 0 → ⊥) where
-  by_call : {call : Call} → g.call ≡ call → on_call (replay_of f sheet (b - 1) (n + 1)) n g.place g.world call ≡ replay_of f sheet b n at w
+  by_call : {call : Result ⊤ Refusal} → g.call ≡ call → on_call (replay_of f sheet (b - 1) (n + 1)) n g.place g.world call ≡ replay_of f sheet b n at w
   by_call e =
       ap (on_call (replay_of f sheet (b - 1) (n + 1)) n g.place g.world) (sym e)
       ∙ ap (on_went (replay_of f sheet (b - 1) (n + 1)) n) eg
       ∙ turn f sheet b n at w h z
 
-  pub goes_on : g.call ≡ Done → replay_of f sheet (b - 1) (n + 1) g.place g.world ≡ replay_of f sheet b n at w
+  pub goes_on : g.call ≡ Ok tt → replay_of f sheet (b - 1) (n + 1) g.place g.world ≡ replay_of f sheet b n at w
   unfolding on_call
   goes_on e = by_call e
 
-  pub stops : {why : Refusal} → g.call ≡ RefusedCall why → ends (Refused why) n g.place g.world ≡ replay_of f sheet b n at w
+  pub stops : {why : Refusal} → g.call ≡ Err why → ends (Refused why) n g.place g.world ≡ replay_of f sheet b n at w
   unfolding on_call
   stops e = by_call e
 

@@ -1,9 +1,7 @@
 -- What a run of lines does from a place on: document 01, "A sheet and its lines" and "What the replayer says back". Assumes nothing.
-use Rattle.std.specs.Prelude.{ℕ, zero, suc, cond, List, ltb, ℤ, length}
+use Rattle.answer.specs.declared.Refusal.{Refusal}
+use Rattle.std.specs.Prelude.{ℕ, zero, suc, cond, List, ltb, ℤ, length, ⊤, Result, Ok, Err}
 use Rattle.answer.specs.Answer.{number_of, detail_of}
-use Rattle.answer.specs.declared.Call.{Call}
-use Rattle.answer.specs.declared.Call.TheVariants.{Done}
-use Rattle.answer.specs.declared.Call.TheVariants.{Refused as RefusedCall}
 use Rattle.run_step.specs.Step.{Went, step_of}
 use Rattle.line.specs.World.{Fixed, World, world}
 use Rattle.run_lines.specs.declared.Answer.{Answer}
@@ -37,9 +35,9 @@ abbrev pub ends : Answer → ℕ → ℕ → World → Ran
 ends answer lines place w = record { answer = answer; place = place; lines = lines; world = w }
 
 -- after a line: the rest of the run, or its end
-unfoldable pub on_call : (ℕ → World → Ran) → ℕ → ℕ → World → Call → Ran
-on_call rest lines place w Done = rest place w
-on_call rest lines place w (RefusedCall why) = ends (Refused why) lines place w
+unfoldable pub on_call : (ℕ → World → Ran) → ℕ → ℕ → World → Result ⊤ Refusal → Ran
+on_call rest lines place w (Ok tt) = rest place w
+on_call rest lines place w (Err why) = ends (Refused why) lines place w
 
 abbrev pub on_went : (ℕ → World → Ran) → ℕ → Went → Ran
 on_went rest lines g = on_call rest lines g.place g.world g.call

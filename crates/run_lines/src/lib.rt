@@ -6,11 +6,10 @@
 #![tactic(auto)]
 
 ghost use Rattle.std.specs.Prelude.{◌≡◌};
-ghost use Rattle.opcodes.specs.Table.{needs_table};
 ghost use Rattle.line.specs.World.{Sound, fixed, world};
 ghost use Rattle.run_lines.specs.Onward.{number_of_answer, detail_of_answer, ran, replay_of};
 
-use answer::{Call, Refusal};
+use answer::{Refusal, Says};
 use graphics::GraphicsState;
 use rules::Rules;
 use run_step::step;
@@ -25,10 +24,12 @@ pub enum Answer {
     Refused(Refusal),
 }
 
-impl Answer {
-    pub fn number(self) -> u32
-        ensures { result ≡ number_of_answer self }
-    {
+impl Says for Answer {
+    ghost number_said = { number_of_answer };
+
+    ghost detail_said = { detail_of_answer };
+
+    fn number(self) -> u32 {
         match self {
             Answer::Finished => 0,
             Answer::OutOfBudget => 1,
@@ -36,13 +37,10 @@ impl Answer {
         }
     }
 
-    pub fn detail(self) -> u64
-        ensures { result ≡ detail_of_answer self }
-    {
+    fn detail(self) -> u64 {
         match self {
-            Answer::Finished => 0,
-            Answer::OutOfBudget => 0,
             Answer::Refused(why) => why.detail(),
+            _ => 0,
         }
     }
 }
@@ -64,7 +62,6 @@ pub fn onward(
     s: GraphicsState,
     rules: Rules,
     sheet: &[i32],
-    needs: &[u8],
     controls: &[i32],
     gux: &[i32],
     guy: &[i32],
@@ -80,33 +77,30 @@ pub fn onward(
     ty: &mut [i32],
     tflags: &mut [u8],
 ) -> Outcome
-    requires needs_value { needs.now ≡ needs_table }
-    requires sound { Sound (fixed rules controls.now gux.now guy.now gox.now goy.now contours.now) (world s gx.old gy.old gflags.old tox.old toy.old tx.old ty.old tflags.old) }
+    requires { Sound (fixed rules controls.now gux.now guy.now gox.now goy.now contours.now) (world s gx.old gy.old gflags.old tox.old toy.old tx.old ty.old tflags.old) }
     ensures { ran result gx.new gy.new gflags.new tox.new toy.new tx.new ty.new tflags.new ≡ replay_of (fixed rules controls.now gux.now guy.now gox.now goy.now contours.now) sheet.now budget 0 start (world s gx.old gy.old gflags.old tox.old toy.old tx.old ty.old tflags.old) }
 {
     // By its words, as every line hands it on: the compiler then knows each yes or no as one of the two in every turn.
     let mut state = s.by_words();
     let mut at = start;
-    let mut left = budget;
-    let mut lines: u64 = 0;
-    while at < sheet.len() {
-        if left == 0 {
+    for lines in 0..budget {
+        if sheet.len() <= at {
             return Outcome {
-                answer: Answer::OutOfBudget,
+                answer: Answer::Finished,
                 place: at,
                 lines,
                 state,
             };
         }
         let r = step(
-            at, state, rules, sheet, needs, controls, gux, guy, gox, goy, gx, gy, gflags, contours,
-            tox, toy, tx, ty, tflags,
+            at, state, rules, sheet, controls, gux, guy, gox, goy, gx, gy, gflags, contours, tox,
+            toy, tx, ty, tflags,
         );
         let call = r.call;
         let place = r.place;
         let next = r.state;
         match call {
-            Call::Refused(why) => {
+            Err(why) => {
                 return Outcome {
                     answer: Answer::Refused(why),
                     place,
@@ -114,18 +108,21 @@ pub fn onward(
                     state: next,
                 };
             }
-            Call::Done => {
+            Ok(()) => {
                 state = next;
                 at = place;
-                left -= 1;
-                lines += 1;
             }
         }
     }
+    let answer = if sheet.len() <= at {
+        Answer::Finished
+    } else {
+        Answer::OutOfBudget
+    };
     Outcome {
-        answer: Answer::Finished,
+        answer,
         place: at,
-        lines,
+        lines: budget,
         state,
     }
 }

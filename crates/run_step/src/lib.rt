@@ -5,31 +5,30 @@
 #![tactic(auto)]
 
 ghost use Rattle.std.specs.Prelude.{◌≡◌};
-ghost use Rattle.opcodes.specs.Table.{needs_table};
 ghost use Rattle.line.specs.World.{Sound, fixed, world};
 ghost use Rattle.run_step.specs.Step.{place_after, landed, went, step_of};
 
-use answer::Call;
+use answer::Refusal;
 use dispatch::perform;
 use graphics::GraphicsState;
 use line::Stepped;
-use opcodes::{Decoded, decode};
+use opcodes::decode;
 use rules::Rules;
 
 // What one line comes to. The place is that of the next line, or of this one where it is refused.
 #[derive(Clone, Copy)]
 pub struct Landing {
-    pub call: Call,
+    pub call: Result<(), Refusal>,
     pub place: usize,
     pub state: GraphicsState,
 }
 
-fn place_after(at: usize, end: usize, call: Call) -> usize
+fn place_after(at: usize, end: usize, call: Result<(), Refusal>) -> usize
     ensures { result ≡ place_after at end call }
 {
     match call {
-        Call::Done => end,
-        Call::Refused(_) => at,
+        Ok(()) => end,
+        Err(_) => at,
     }
 }
 
@@ -48,7 +47,6 @@ pub fn step(
     s: GraphicsState,
     rules: Rules,
     sheet: &[i32],
-    needs: &[u8],
     controls: &[i32],
     gux: &[i32],
     guy: &[i32],
@@ -64,23 +62,22 @@ pub fn step(
     ty: &mut [i32],
     tflags: &mut [u8],
 ) -> Landing
-    requires needs_value { needs.now ≡ needs_table }
-    requires sound { Sound (fixed rules controls.now gux.now guy.now gox.now goy.now contours.now) (world s gx.old gy.old gflags.old tox.old toy.old tx.old ty.old tflags.old) }
+    requires { Sound (fixed rules controls.now gux.now guy.now gox.now goy.now contours.now) (world s gx.old gy.old gflags.old tox.old toy.old tx.old ty.old tflags.old) }
     ensures { went result gx.new gy.new gflags.new tox.new toy.new tx.new ty.new tflags.new ≡ step_of (fixed rules controls.now gux.now guy.now gox.now goy.now contours.now) sheet.now at (world s gx.old gy.old gflags.old tox.old toy.old tx.old ty.old tflags.old) }
 {
-    let line = decode(sheet, needs, s.loop_counter, at);
+    let line = decode(sheet, s.loop_counter, at);
     match line {
-        Decoded::Refused(why) => Landing {
-            call: Call::Refused(why),
+        Err(why) => Landing {
+            call: Err(why),
             place: at,
             state: s.by_words(),
         },
-        Decoded::Operands { opcode, first, end } => {
+        Ok(read) => {
             let r = perform(
                 s,
                 rules,
-                opcode,
-                &sheet[first..end],
+                read.opcode,
+                &sheet[read.first..read.end],
                 controls,
                 gux,
                 guy,
@@ -96,7 +93,7 @@ pub fn step(
                 ty,
                 tflags,
             );
-            land(at, end, r)
+            land(at, read.end, r)
         }
     }
 }

@@ -280,14 +280,7 @@ fn at_most(words: &[u32], k: usize, most: u32) -> bool
 fn all_at_most(words: &[u32], most: u32) -> bool
     ensures { result ≡ all_at_most most words.now }
 {
-    let mut k = 0;
-    while k < words.len() {
-        if words[k] > most {
-            return false;
-        }
-        k += 1;
-    }
-    true
+    words.iter().all(|word| *word <= most)
 }
 
 // Whether words are a state: as many as a state has, and each within its range. Vectors and period are left to the run's answer 3.
@@ -465,15 +458,11 @@ fn words_of(s: GraphicsState) -> [u32; STATE_WORDS]
 }
 
 // The state's words, where there is room for exactly these; else nothing changes.
+#[tactic(auto, unfolding(crate::specs::Words::written))]
 pub fn write_state(s: GraphicsState, words: &mut [u32])
     ensures { words.new ≡ written s words.old }
 {
     if words.len() == STATE_WORDS {
-        let all = words_of(s);
-        let mut k = 0;
-        while k < words.len() {
-            words[k] = all[k];
-            k += 1;
-        }
+        words.copy_from_slice(&words_of(s));
     }
 }

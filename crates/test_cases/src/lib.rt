@@ -66,10 +66,8 @@ fn joined(low: u32, high: u32) -> u64 {
 
 // ---- the state
 fn fill_state(case: &[u8], out: &mut [u32]) {
-    let mut j = 0;
-    while j < out.len() {
-        out[j] = word(case, after(STATE, j as u64));
-        j += 1;
+    for (j, word_out) in out.iter_mut().enumerate() {
+        *word_out = word(case, after(STATE, j as u64));
     }
 }
 
@@ -117,12 +115,10 @@ fn stored_words(p: Place) -> u64 {
 pub fn place_of(case: &[u8], list: u64) -> Place {
     let mut stored = STATE + STATE_WORDS;
     let mut index = STATE_WORDS;
-    let mut k = 0;
-    while k < list {
+    for k in 0..list {
         let p = place_at(case, k, stored, index);
         stored = after(stored, stored_words(p));
         index = after(index, p.length);
-        k += 1;
     }
     place_at(case, list, stored, index)
 }
@@ -136,68 +132,49 @@ pub fn element(case: &[u8], p: Place, j: u64) -> u32 {
     }
 }
 
-fn fill_words(case: &[u8], p: Place, out: &mut [i32]) {
-    let mut j = 0;
-    while j < out.len() {
-        out[j] = from_bits(element(case, p, j as u64));
-        j += 1;
-    }
-}
-
 fn low_byte(x: u32) -> u8 {
     (x % 256) as u8
-}
-
-fn fill_flags(case: &[u8], p: Place, out: &mut [u8]) {
-    let mut j = 0;
-    while j < out.len() {
-        out[j] = low_byte(element(case, p, j as u64));
-        j += 1;
-    }
 }
 
 fn low_half(x: u32) -> u16 {
     (x % 65536) as u16
 }
 
-fn fill_ends(case: &[u8], p: Place, out: &mut [u16]) {
-    let mut j = 0;
-    while j < out.len() {
-        out[j] = low_half(element(case, p, j as u64));
-        j += 1;
-    }
-}
-
 // A list's length, at most the room for it.
 fn length_of(case: &[u8], list: u64, room: usize) -> usize
     ensures { result ≤ room }
 {
-    let n = list_length(case, list) as usize;
-    if n < room { n } else { room }
+    room.min(list_length(case, list) as usize)
 }
 
-// A list is loaded to the front of the room that is lent for it, and its length handed back. Where the room is longer than the list may be, a list
-// that is cut to it is above its limit still.
-pub fn load_words(case: &[u8], list: u64, room: &mut [i32]) -> usize
+// A list is loaded to the front of the room that is lent for it, each element read from its word, and its length handed back. Where the room is longer than
+// the list may be, a list that is cut to it is above its limit still.
+fn load<T: Copy, F: Fn(u32) -> T>(case: &[u8], list: u64, room: &mut [T], read: F) -> usize
+    requires { F.IsAlwaysCallable read }
     ensures { result ≤ length room.new }
 {
     let n = length_of(case, list, room.len());
-    fill_words(case, place_of(case, list), &mut room[..n]);
+    let place = place_of(case, list);
+    for (j, out) in room[..n].iter_mut().enumerate() {
+        *out = read(element(case, place, j as u64));
+    }
     n
+}
+
+pub fn load_words(case: &[u8], list: u64, room: &mut [i32]) -> usize
+    ensures { result ≤ length room.new }
+{
+    load(case, list, room, from_bits)
 }
 
 pub fn load_flags(case: &[u8], list: u64, room: &mut [u8]) -> usize
     ensures { result ≤ length room.new }
 {
-    let n = length_of(case, list, room.len());
-    fill_flags(case, place_of(case, list), &mut room[..n]);
-    n
+    load(case, list, room, low_byte)
 }
 
 pub fn load_ends(case: &[u8], list: u64, room: &mut [u16]) -> usize
     ensures { result ≤ length room.new }
 {
-    let n = length_of(case, list, room.len());
-    fill_ends(case, place_of(case, list), &mut room[..n]);
-    n
+    load(case, list, room, low_half)
 }

@@ -6,9 +6,9 @@
 // that every function is safe and ends.
 #![tactic(auto)]
 
-use answer::{Call, Refusal};
+use answer::{Refusal, Says};
 use graphics::GraphicsState;
-use int::{equal, to_bits};
+use int::to_bits;
 use state_words::word_of;
 use test_cases::{
     CHANGES, LISTS, Place, STATE, STATE_WORDS, after, element, long, number, place_of, wide, word,
@@ -16,7 +16,7 @@ use test_cases::{
 
 // ---- what a call says
 // Its answer and its two result words.
-#[derive(Clone, Copy)]
+#[derive(Clone, Copy, PartialEq)]
 pub struct Said {
     pub number: u32,
     pub place: u64,
@@ -50,25 +50,28 @@ impl Said {
         }
     }
 
-    pub fn of_call(call: Call) -> Said {
+    pub fn of_call(call: Result<(), Refusal>) -> Said {
         match call {
-            Call::Refused(why) => Said::refused(why),
-            Call::Done => Said::done(0, 0),
+            Err(why) => Said::refused(why),
+            Ok(()) => Said::done(0, 0),
         }
     }
 
-    fn is_said(self, case: &[u8]) -> bool {
-        word(case, 14) == self.number
-            && long(case, 15) == self.place
-            && long(case, 17) == self.lines
-            && long(case, 19) == self.detail
-            && equal(number(case, 21), self.x)
-            && equal(number(case, 22), self.y)
+    // What the case says that its call says.
+    fn in_case(case: &[u8]) -> Said {
+        Said {
+            number: word(case, 14),
+            place: long(case, 15),
+            lines: long(case, 17),
+            detail: long(case, 19),
+            x: number(case, 21),
+            y: number(case, 22),
+        }
     }
 
     // Whether a call that said this and left that is the call of the case.
     pub fn agrees(self, left: Compared, case: &[u8]) -> bool {
-        self.is_said(case) & left.is_all(case)
+        (self == Said::in_case(case)) & left.is_all(case)
     }
 }
 
@@ -79,17 +82,31 @@ fn named_once(case: &[u8]) -> bool {
     let last = place_of(case, LISTS);
     let mut at = last.stored;
     let mut least = 0;
-    let mut k = 0;
-    while k < changes {
+    for _ in 0..changes {
         let index = wide(word(case, at));
         if index < least {
             return false;
         }
         least = after(index, 1);
         at = after(at, 2);
-        k += 1;
     }
     true
+}
+
+// How many of the case's changes, each an index and the new word, are held.
+fn count_changes<F: Fn(u64, u32) -> bool>(case: &[u8], is_held: F) -> u64
+    requires { F.IsAlwaysCallable is_held }
+{
+    let changes = wide(word(case, CHANGES));
+    let mut at = place_of(case, LISTS).stored;
+    let mut held = 0;
+    for _ in 0..changes {
+        if is_held(wide(word(case, at)), word(case, after(at, 1))) {
+            held = after(held, 1);
+        }
+        at = after(at, 2);
+    }
+    held
 }
 
 // A list is right where as many elements differ from before as the changes name in it, and it holds each of these changes.
@@ -122,35 +139,21 @@ impl Compared {
 
 // ---- the lists
 // A list is of words or of flags; the other one is empty.
-fn wide_flag(x: u8) -> u32 {
-    x as u32
-}
-
-fn longer(a: usize, b: usize) -> usize {
-    if a < b { b } else { a }
-}
-
 fn bits_at(words: &[i32], flags: &[u8], j: usize) -> u32 {
     if j < words.len() {
         to_bits(words[j])
     } else if j < flags.len() {
-        wide_flag(flags[j])
+        u32::from(flags[j])
     } else {
         0
     }
 }
 
 fn list_differs(case: &[u8], p: Place, words: &[i32], flags: &[u8]) -> u64 {
-    let n = longer(words.len(), flags.len());
-    let mut differ = 0;
-    let mut j = 0;
-    while j < n {
-        if bits_at(words, flags, j) != element(case, p, j as u64) {
-            differ = after(differ, 1);
-        }
-        j += 1;
-    }
-    differ
+    let n = words.len().max(flags.len());
+    (0..n)
+        .filter(|&j| bits_at(words, flags, j) != element(case, p, j as u64))
+        .count() as u64
 }
 
 // Whether a change of the list is one, and the list holds it.
@@ -160,7 +163,7 @@ fn change_is(case: &[u8], p: Place, words: &[i32], flags: &[u8], index: u64, new
     }
     let k = index - p.index;
     let j = k as usize;
-    if j < longer(words.len(), flags.len()) {
+    if j < words.len().max(flags.len()) {
         (bits_at(words, flags, j) == new) & (element(case, p, k) != new)
     } else {
         false
@@ -168,26 +171,9 @@ fn change_is(case: &[u8], p: Place, words: &[i32], flags: &[u8], index: u64, new
 }
 
 fn list_held(case: &[u8], p: Place, words: &[i32], flags: &[u8]) -> u64 {
-    let changes = wide(word(case, CHANGES));
-    let last = place_of(case, LISTS);
-    let mut at = last.stored;
-    let mut held = 0;
-    let mut k = 0;
-    while k < changes {
-        if change_is(
-            case,
-            p,
-            words,
-            flags,
-            wide(word(case, at)),
-            word(case, after(at, 1)),
-        ) {
-            held = after(held, 1);
-        }
-        at = after(at, 2);
-        k += 1;
-    }
-    held
+    count_changes(case, |index, new| {
+        change_is(case, p, words, flags, index, new)
+    })
 }
 
 fn compare_list(case: &[u8], list: u64, words: &[i32], flags: &[u8]) -> Compared {
@@ -227,15 +213,9 @@ fn state_word(s: GraphicsState, k: u64) -> u32 {
 }
 
 fn state_differs(case: &[u8], s: GraphicsState) -> u64 {
-    let mut differ = 0;
-    let mut k = 0;
-    while k < STATE_WORDS {
-        if state_word(s, k) != word(case, after(STATE, k)) {
-            differ = after(differ, 1);
-        }
-        k += 1;
-    }
-    differ
+    (0..STATE_WORDS)
+        .filter(|&k| state_word(s, k) != word(case, after(STATE, k)))
+        .count() as u64
 }
 
 fn state_word_is(case: &[u8], s: GraphicsState, index: u64, new: u32) -> bool {
@@ -247,19 +227,7 @@ fn state_word_is(case: &[u8], s: GraphicsState, index: u64, new: u32) -> bool {
 }
 
 fn state_held(case: &[u8], s: GraphicsState) -> u64 {
-    let changes = wide(word(case, CHANGES));
-    let last = place_of(case, LISTS);
-    let mut at = last.stored;
-    let mut held = 0;
-    let mut k = 0;
-    while k < changes {
-        if state_word_is(case, s, wide(word(case, at)), word(case, after(at, 1))) {
-            held = after(held, 1);
-        }
-        at = after(at, 2);
-        k += 1;
-    }
-    held
+    count_changes(case, |index, new| state_word_is(case, s, index, new))
 }
 
 pub fn compare_state(case: &[u8], after_call: GraphicsState) -> Compared {

@@ -3,7 +3,8 @@
 // Word 7 of a case is the opcode. Room for the lists is lent. Nothing is promised here but that every function is safe and ends.
 #![tactic(auto)]
 
-use moves::Displaced;
+use answer::Refusal;
+use moves::Displacement;
 use test_cases::{load_words, state_of, word};
 use test_compare::{Compared, Said};
 
@@ -17,7 +18,7 @@ fn displaced_from(
     toy: &[i32],
     tx: &[i32],
     ty: &[i32],
-) -> Displaced {
+) -> Result<Displacement, Refusal> {
     let opcode = word(case, 7) as usize;
     direct_moves::try_point_displacement(state_of(case), opcode, gox, goy, gx, gy, tox, toy, tx, ty)
 }
@@ -32,7 +33,7 @@ fn displaced(
     toy: &mut [i32],
     tx: &mut [i32],
     ty: &mut [i32],
-) -> Displaced {
+) -> Result<Displacement, Refusal> {
     let n2 = load_words(case, 2, gox);
     let n3 = load_words(case, 3, goy);
     let n4 = load_words(case, 4, gx);
@@ -54,10 +55,10 @@ fn displaced(
     )
 }
 
-fn of_displaced(displaced: Displaced) -> Said {
+fn of_displaced(displaced: Result<Displacement, Refusal>) -> Said {
     match displaced {
-        Displaced::Refused(why) => Said::refused(why),
-        Displaced::By(d) => Said::done(d.dx, d.dy),
+        Err(why) => Said::refused(why),
+        Ok(d) => Said::done(d.dx, d.dy),
     }
 }
 

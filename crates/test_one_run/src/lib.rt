@@ -4,8 +4,9 @@
 // itself. Nothing is promised here but that every function is safe and ends.
 #![tactic(auto)]
 
+use answer::Says;
 use graphics::GraphicsState;
-use rules::{Named, by_number};
+use rules::by_number;
 use run_lines::Outcome;
 use test_cases::{long, state_of, word};
 use test_compare::{Compared, Said, compare_pair, compare_placed, compare_state};
@@ -63,7 +64,7 @@ pub fn agrees_on(
     ty: &mut [i32],
     tflags: &mut [u8],
 ) -> bool {
-    let Named::Known(rules) = by_number(word(case, 7)) else {
+    let Some(rules) = by_number(word(case, 7)) else {
         return false;
     };
     let start = long(case, 10) as usize;

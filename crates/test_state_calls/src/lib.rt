@@ -6,7 +6,7 @@
 // lists is lent. Nothing is promised here but that every function is safe and ends.
 #![tactic(auto)]
 
-use answer::Call;
+use answer::Refusal;
 use state_words::zone_of;
 use test_cases::{KIND, load_flags, load_words, long, number, state_of, word};
 use test_compare::{Said, compare_pair, compare_placed};
@@ -58,7 +58,7 @@ fn moved(
     tx: &mut [i32],
     ty: &mut [i32],
     tflags: &mut [u8],
-) -> Call {
+) -> Result<(), Refusal> {
     let s = state_of(case);
     let zone = zone_of(word(case, 2));
     let at = long(case, 3);

@@ -51,11 +51,9 @@ pub fn read_full(mut stdin: Stdin, bytes: &mut [u8]) -> usize
     ensures prefix { result ≡ length (take result bytes.new) }
 {
     let mut size = 0;
+    // Counted by hand: a read brings any number of bytes.
     while size < bytes.len() {
-        let more = match stdin.read(&mut bytes[size..]) {
-            Ok(more) => more,
-            Err(_) => 0,
-        };
+        let more = stdin.read(&mut bytes[size..]).unwrap_or(0);
         if more == 0 {
             break;
         }

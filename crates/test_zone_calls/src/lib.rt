@@ -7,10 +7,11 @@
 
 ghost use Rattle.std.specs.Prelude.{◌≤◌};
 
+use answer::Refusal;
 use flags::{Axis, CoordAxis};
+use graphics::Vector;
 use test_cases::{KIND, after, load_ends, load_flags, load_words, long, word};
 use test_compare::{Compared, Said, compare_flags, compare_words};
-use zone::{Fetched, Touched};
 
 fn in_twilight(case: &[u8]) -> bool {
     word(case, 2) == 0
@@ -18,7 +19,7 @@ fn in_twilight(case: &[u8]) -> bool {
 
 // ---- a point's place
 // The place by two lists that stand side by side.
-fn fetched(case: &[u8], first: u64, xs: &mut [i32], ys: &mut [i32]) -> Fetched {
+fn fetched(case: &[u8], first: u64, xs: &mut [i32], ys: &mut [i32]) -> Result<Vector, Refusal> {
     let n = load_words(case, first, xs);
     let m = load_words(case, after(first, 1), ys);
     direct_zone::try_fetch(&xs[..n], &ys[..m], long(case, 3))
@@ -31,7 +32,7 @@ fn unscaled_length(case: &[u8], n: usize) -> usize
     if in_twilight(case) { 0 } else { n }
 }
 
-fn unscaled(case: &[u8], xs: &mut [i32], ys: &mut [i32]) -> Fetched {
+fn unscaled(case: &[u8], xs: &mut [i32], ys: &mut [i32]) -> Result<Vector, Refusal> {
     let n = unscaled_length(case, load_words(case, 0, xs));
     let m = unscaled_length(case, load_words(case, 1, ys));
     direct_zone::try_unscaled(&xs[..n], &ys[..m], long(case, 3))
@@ -42,14 +43,14 @@ fn list_of(case: &[u8], twilight: u64, glyph: u64) -> u64 {
     if in_twilight(case) { twilight } else { glyph }
 }
 
-fn of_fetched(fetched: Fetched) -> Said {
+fn of_fetched(fetched: Result<Vector, Refusal>) -> Said {
     match fetched {
-        Fetched::Refused(why) => Said::refused(why),
-        Fetched::At(place) => Said::done(place.x, place.y),
+        Err(why) => Said::refused(why),
+        Ok(place) => Said::done(place.x, place.y),
     }
 }
 
-fn is_said(case: &[u8], place: Fetched) -> bool {
+fn is_said(case: &[u8], place: Result<Vector, Refusal>) -> bool {
     of_fetched(place).agrees(Compared::nothing(), case)
 }
 
@@ -70,10 +71,10 @@ fn axis_of(n: u32) -> CoordAxis {
     }
 }
 
-fn of_touched(touched: Touched) -> Said {
+fn of_touched(touched: Result<bool, Refusal>) -> Said {
     match touched {
-        Touched::Refused(why) => Said::refused(why),
-        Touched::Is(yes) => Said::done(if yes { 1 } else { 0 }, 0),
+        Err(why) => Said::refused(why),
+        Ok(yes) => Said::done(if yes { 1 } else { 0 }, 0),
     }
 }
 

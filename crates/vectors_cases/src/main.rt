@@ -7,7 +7,7 @@
 // and runs under each of the rules. Room for the lists is made once, and lent.
 #![tactic(auto)]
 
-ghost use Rattle.std.specs.Prelude.{◌<◌, ◌≤◌, length};
+ghost use Rattle.std.specs.Prelude.{◌≤◌, length};
 
 use std::io;
 use std::io::Stdin;
@@ -125,14 +125,7 @@ fn read_case(stdin: Stdin, buffer: &mut [u8]) -> Read
     }
 }
 
-// A proved loop has to end, so the turns are counted down, from more than the input has; after the last case none is left.
-fn turns_left(turns: u64, more: bool) -> u64
-    requires { 1 ≤ turns }
-    ensures { result < turns }
-{
-    if more { turns - 1 } else { 0 }
-}
-
+// A proved loop has to end, so the turns are counted, to more than the input has.
 fn replay_all(
     stdin: Stdin,
     buffer: &mut [u8],
@@ -153,8 +146,7 @@ fn replay_all(
     tflags: &mut [u8],
 ) -> Tally {
     let mut tally = Tally::new();
-    let mut turns: u64 = 1000000;
-    while 0 < turns {
+    for _ in 0..1000000u64 {
         let read = read_case(stdin, buffer);
         let end = read.end;
         let agreed = agrees(
@@ -176,7 +168,9 @@ fn replay_all(
             tflags,
         );
         tally = read.count(tally, agreed);
-        turns = turns_left(turns, read.whole);
+        if !read.whole {
+            break;
+        }
     }
     tally
 }

@@ -4,13 +4,16 @@
 // number and the result (docs/ORACLE.md). What this prints is held to the file `stdout`; the rows stand in the file `stdin`.
 #![tactic(auto)]
 
+use answer::Says;
 use int::from_bits;
-use round::{RoundMode, RoundState, Rounded};
+use round::{RoundMode, RoundState};
 use state_words::mode_of;
 use std::io;
 use std::io::Stdin;
 use test_tally::{Tally, Turn, read_full};
 use words::word_at;
+
+const ROW_SIZE: usize = 32;
 
 // So many bytes are read at once at most: whole rows.
 const BUFFER_ROOM: usize = 65536;
@@ -20,15 +23,9 @@ fn arg(row: &[u8], at: usize) -> i32 {
     from_bits(word_at(row, at))
 }
 
-fn one_if(yes: bool) -> u32 {
-    if yes { 1 } else { 0 }
-}
-
 // Whether a row says this: all three words of its outcome.
 fn says(row: &[u8], wrapped: bool, answer: u32, res: i32) -> bool {
-    word_at(row, 20) == one_if(wrapped)
-        && word_at(row, 24) == answer
-        && int::equal(res, arg(row, 28))
+    word_at(row, 20) == u32::from(wrapped) && word_at(row, 24) == answer && res == arg(row, 28)
 }
 
 // What math.rs's functions give.
@@ -54,8 +51,8 @@ fn rounds_as(mode: RoundMode, row: &[u8]) -> bool {
         period: arg(row, 16),
     };
     match state.try_round(arg(row, 4)) {
-        Rounded::To(d) => says(row, d.wrapped, 0, d.word),
-        Rounded::Refused(why) => says(row, false, why.number(), 0),
+        Ok(d) => says(row, d.wrapped, 0, d.word),
+        Err(why) => says(row, false, why.number(), 0),
     }
 }
 
@@ -75,13 +72,8 @@ fn agrees(row: &[u8]) -> bool {
 // The rows of a buffer; what is left of it after whole rows counts as one that differs.
 fn replay(rows: &[u8], start: Tally) -> Tally {
     let mut tally = start;
-    let mut at = 0;
-    while at < rows.len() {
-        if rows.len() - at < 32 {
-            return tally.count(false);
-        }
-        tally = tally.count(agrees(&rows[at..at + 32]));
-        at += 32;
+    for row in rows.chunks(ROW_SIZE) {
+        tally = tally.count(row.len() == ROW_SIZE && agrees(row));
     }
     tally
 }

@@ -4,10 +4,11 @@
 // this prints is held to the file `stdout`; the rows stand in the file `stdin`.
 #![tactic(auto)]
 
+use answer::{Refusal, Says};
 use flags::CoordAxis;
 use graphics::{GraphicsState, Vector, Vectors};
 use int::{equal, from_bits};
-use projection::{Deduced, Derived, Measured};
+use projection::Derived;
 use std::io;
 use std::io::Stdin;
 use test_tally::{Tally, Turn, read_full};
@@ -60,13 +61,13 @@ fn is_derived(d: Derived, row: &[u8]) -> bool {
 
 fn derives_as(row: &[u8]) -> bool {
     match projection::try_derive(state(row)) {
-        Deduced::Numbers(d) => is_derived(d, row) & (word_at(row, 44) == 0),
-        Deduced::Refused(why) => word_at(row, 44) == why.number(),
+        Ok(d) => is_derived(d, row) & (word_at(row, 44) == 0),
+        Err(why) => word_at(row, 44) == why.number(),
     }
 }
 
 // The projection that a row asks for.
-fn measure(op: u32, s: GraphicsState, a: Vector, b: Vector) -> Measured {
+fn measure(op: u32, s: GraphicsState, a: Vector, b: Vector) -> Result<i32, Refusal> {
     if op == 1 {
         projection::try_project(s, a, b)
     } else if op == 2 {
@@ -78,8 +79,8 @@ fn measure(op: u32, s: GraphicsState, a: Vector, b: Vector) -> Measured {
 
 fn measures_as(op: u32, row: &[u8]) -> bool {
     match measure(op, state(row), vector(row, 28), vector(row, 36)) {
-        Measured::Distance(d) => equal(d, from_bits(word_at(row, 48))) & (word_at(row, 44) == 0),
-        Measured::Refused(why) => word_at(row, 44) == why.number(),
+        Ok(d) => equal(d, from_bits(word_at(row, 48))) & (word_at(row, 44) == 0),
+        Err(why) => word_at(row, 44) == why.number(),
     }
 }
 

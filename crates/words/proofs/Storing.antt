@@ -1,6 +1,7 @@
 -- Words written into bytes, one after the other: what is written so far and what is left make the whole. Assumes nothing.
-use Rattle.std.proofs.Common.{◌≡◌, ℕ, zero, suc, ◌+◌, ◌*◌, ◌/◌, ◌%◌, ◌<◌, ◌≤◌, Bool, true, false, cond, leb, List, [], ◌∷◌, ◌++◌, length, get_or, take, drop, set, sym, refl, ap, ◌∙◌, ap₂, append-nil, arith, length-set, drop_of_length-le, drop-cons, le-leb, leb-false, leb-true}
+use Rattle.std.proofs.Common.{◌≡◌, ℕ, suc, ◌+◌, ◌*◌, ◌/◌, ◌%◌, ◌<◌, ◌≤◌, Bool, true, false, leb, List, [], ◌∷◌, ◌++◌, map, length, get_or, take, drop, set, sym, refl, ap, ◌∙◌, ap₂, arith, drop_of_length-le, drop-cons, le-leb, leb-false, leb-true}
 use borrow.Author.Tests.{lt-leb}
+use lib.ListN.{length-map, get_or-map}
 use lib.Seq.{length-sets, sets, sets-eq}
 use Rattle.words.specs.Lists.{bytes_of, bytes_of_word, placed}
 
@@ -58,8 +59,8 @@ store_start first ws l h =
     let e : (first + 0) * 4 ≡ first * 4 = omega arith in
     record { room = h; size = refl; rest = ap (λ (n : ℕ). sets l n (bytes_of ws)) e ∙ sym (as_sets first ws l h) }
 
-pub store_turn : {first : ℕ} {ws l₀ l l' : List ℕ} {i : ℕ} (w : ℕ) → Storing first ws l₀ l i → i < length ws → w ≡ get_or ws i 0 → l' ≡ placed (first + i) (w ∷ []) l → Storing first ws l₀ l' (i + 1)
-store_turn {first} {ws} {l₀} {l} {l'} {i} w v h e p =
+pub store_turn : {first : ℕ} {ws l₀ l l' : List ℕ} {i : ℕ} (w d : ℕ) → Storing first ws l₀ l i → i < length ws → w ≡ get_or ws i d → l' ≡ placed (first + i) (w ∷ []) l → Storing first ws l₀ l' (i + 1)
+store_turn {first} {ws} {l₀} {l} {l'} {i} w d v h e p =
     let in-room : (first + i + 1) * 4 ≤ length l = omega (arith, v.room, v.size) in
     let n : (first + (i + 1)) * 4 ≡ suc (suc (suc (suc ((first + i) * 4)))) = omega arith in
     let j : i + 1 ≡ suc i = omega arith in
@@ -71,9 +72,21 @@ store_turn {first} {ws} {l₀} {l} {l'} {i} w v h e p =
           ap₂ (λ (m : List ℕ) (k : ℕ). sets m k (bytes_of (drop (i + 1) ws))) q n
           ∙ ap (λ (k : ℕ). sets l ((first + i) * 4) (bytes_of_word w ++ bytes_of (drop k ws))) j
           ∙ ap (λ (x : ℕ). sets l ((first + i) * 4) (bytes_of (x ∷ drop (suc i) ws))) e
-          ∙ ap (λ (r : List ℕ). sets l ((first + i) * 4) (bytes_of r)) (sym (drop-cons ws i 0 h))
+          ∙ ap (λ (r : List ℕ). sets l ((first + i) * 4) (bytes_of r)) (sym (drop-cons ws i d h))
           ∙ v.rest;
     }
 
 pub store_end : {first : ℕ} {ws l₀ l : List ℕ} {i : ℕ} → Storing first ws l₀ l i → length ws ≤ i → l ≡ placed first ws l₀
 store_end {first} {ws} {l₀} {l} {i} v h = ap (λ (r : List ℕ). sets l ((first + i) * 4) (bytes_of r)) (sym (drop_of_length-le ws {i = i} h)) ∙ v.rest
+
+-- ---- the same of a list each of whose elements is written as a word, by the test of its room
+module _ {A : Type 0} (word : A → ℕ) (first : ℕ) (xs : List A) (l₀ : List ℕ) where
+  pub mapped_start : {room : Bool} → room ≡ leb ((first + length xs) * 4) (length l₀) → room ≡ true → Storing first (map word xs) l₀ l₀ 0
+  mapped_start e t = store_start first (map word xs) l₀ (omega (arith, leb-true ((first + length xs) * 4) (length l₀) (sym e ∙ t), length-map xs word))
+
+  pub mapped_none : {room : Bool} → room ≡ leb ((first + length xs) * 4) (length l₀) → room ≡ false → l₀ ≡ placed first (map word xs) l₀
+  mapped_none e f = no_room first (map word xs) l₀ (omega (arith, leb-false ((first + length xs) * 4) (length l₀) (sym e ∙ f), length-map xs word))
+
+  pub mapped_turn : {l l' : List ℕ} {i w : ℕ} {x : A} → Storing first (map word xs) l₀ l i → i < length xs → x ≡ get_or xs i x → w ≡ word x → l' ≡ placed (first + i) (w ∷ []) l → Storing first (map word xs) l₀ l' (i + 1)
+  mapped_turn {i = i} {w} {x} v h is e p =
+      store_turn w (word x) v (omega (arith, length-map xs word, h)) (e ∙ ap word is ∙ sym (get_or-map word xs i x)) p

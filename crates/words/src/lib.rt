@@ -5,97 +5,136 @@
 // not whole reads as 0, and a list that has no room is not written at all.
 #![tactic(auto)]
 
-ghost use Rattle.std.specs.Prelude.{◌≡◌, ◌+◌, ◌*◌, ◌%◌, [], ◌∷◌, length, nat_le};
-ghost use Rattle.words.specs.Words.{joined, word_at};
-ghost use Rattle.words.specs.Lists.{word, part, numbers_of, flags_of, ends_of, flag_of, end_of, all_at_most, wrapping_sum, placed, words_of_numbers};
+ghost use Rattle.std.specs.Prelude.{◌≡◌, ℕ, ◌+◌, ◌*◌, ◌%◌, ◌^◌, ◌<◌, [], ◌∷◌, map, length, nat_le, refl};
+ghost use Rattle.std.proofs.Common.{w32, SFits};
+ghost use Rattle.std.proofs.Math.Nat.{mod-eq_of_lt};
+ghost use mir.ValLaws.{to_z-of_z};
+ghost use Rattle.int.specs.Word.{of_bits, bits_of};
+ghost use Rattle.words.specs.Words.{word_at};
+ghost use Rattle.words.specs.Lists.{word, part, flag_of, end_of, all_at_most, wrapping_sum, placed};
 
 use int::{from_bits, to_bits};
 
 // ---- one word
-// The word of four bytes, lowest first.
-fn join(a: u8, b: u8, c: u8, d: u8) -> u32
-    ensures { result ≡ joined a b c d }
-{
-    a as u32 + (b as u32) * 256 + (c as u32) * 65536 + (d as u32) * 16777216
-}
-
 // The word that starts at byte `at`.
 pub fn word_at(bytes: &[u8], at: usize) -> u32
     ensures { result ≡ word_at bytes.now at }
 {
-    if bytes.len() < 4 {
+    if bytes.len() < 4 || bytes.len() - 4 < at {
         return 0;
     }
-    if bytes.len() - 4 < at {
-        return 0;
-    }
-    join(bytes[at], bytes[at + 1], bytes[at + 2], bytes[at + 3])
+    u32::from_le_bytes([bytes[at], bytes[at + 1], bytes[at + 2], bytes[at + 3]])
 }
 
-// ---- reading
 // Word i of the list that starts at word `first`.
 pub fn word(bytes: &[u8], first: usize, i: usize) -> u32
     ensures { result ≡ word bytes.now (first + i) }
 {
     let whole = bytes.len() / 4;
-    if whole <= first {
-        return 0;
-    }
-    if whole - first <= i {
+    if whole <= first || whole - first <= i {
         return 0;
     }
     word_at(bytes, (first + i) * 4)
 }
 
-fn low_byte(w: u32) -> u8
-    ensures { result ≡ flag_of w }
-{
-    (w % 256) as u8
+// ---- what a word is kept for: itself, a number, a flag or a contour's end
+pub trait Kept: Copy {
+    ghost of_word: { ℕ → Self };
+
+    ghost to_word: { Self → ℕ };
+
+    ghost fits: { Self → Type 0 };
+
+    fn of_word(w: u32) -> Self
+        ensures { result ≡ of_word w };
+
+    fn to_word(self) -> u32
+        ensures { result ≡ to_word self };
+
+    // What is written as a word is read of it.
+    ghost back: { (x : Self) → fits x → of_word (to_word x) ≡ x };
 }
 
-fn low_half(w: u32) -> u16
-    ensures { result ≡ end_of w }
-{
-    (w % 65536) as u16
-}
+impl Kept for u32 {
+    ghost of_word = { λ w. w };
 
-pub fn load_words(bytes: &[u8], first: usize, out: &mut [u32])
-    ensures { out.new ≡ part bytes.now first (length out.old) }
-{
-    let mut i = 0;
-    while i < out.len() {
-        out[i] = word(bytes, first, i);
-        i += 1;
+    ghost to_word = { λ w. w };
+
+    ghost fits = { λ w. w < 2 ^ 32 };
+
+    ghost back = { λ _ _. refl };
+
+    fn of_word(w: u32) -> u32 {
+        w
+    }
+
+    fn to_word(self) -> u32 {
+        self
     }
 }
 
-pub fn load_numbers(bytes: &[u8], first: usize, out: &mut [i32])
-    ensures { out.new ≡ numbers_of (part bytes.now first (length out.old)) }
-{
-    let mut i = 0;
-    while i < out.len() {
-        out[i] = from_bits(word(bytes, first, i));
-        i += 1;
+impl Kept for i32 {
+    ghost of_word = { of_bits };
+
+    ghost to_word = { bits_of };
+
+    ghost fits = { SFits w32 };
+
+    ghost back = { to_z-of_z w32 };
+
+    fn of_word(w: u32) -> i32 {
+        from_bits(w)
+    }
+
+    fn to_word(self) -> u32 {
+        to_bits(self)
     }
 }
 
-pub fn load_flags(bytes: &[u8], first: usize, out: &mut [u8])
-    ensures { out.new ≡ flags_of (part bytes.now first (length out.old)) }
-{
-    let mut i = 0;
-    while i < out.len() {
-        out[i] = low_byte(word(bytes, first, i));
-        i += 1;
+// A flag is the low byte of its word.
+impl Kept for u8 {
+    ghost of_word = { flag_of };
+
+    ghost to_word = { λ flag. flag };
+
+    ghost fits = { λ flag. flag < 256 };
+
+    ghost back = { λ _. mod-eq_of_lt };
+
+    fn of_word(w: u32) -> u8 {
+        (w % 256) as u8
+    }
+
+    fn to_word(self) -> u32 {
+        self as u32
     }
 }
 
-pub fn load_ends(bytes: &[u8], first: usize, out: &mut [u16])
-    ensures { out.new ≡ ends_of (part bytes.now first (length out.old)) }
+// A contour's end is the low half of its word.
+impl Kept for u16 {
+    ghost of_word = { end_of };
+
+    ghost to_word = { λ end. end };
+
+    ghost fits = { λ end. end < 65536 };
+
+    ghost back = { λ _. mod-eq_of_lt };
+
+    fn of_word(w: u32) -> u16 {
+        (w % 65536) as u16
+    }
+
+    fn to_word(self) -> u32 {
+        self as u32
+    }
+}
+
+// ---- reading
+pub fn load<T: Kept>(bytes: &[u8], first: usize, out: &mut [T])
+    ensures { out.new ≡ map T.of_word (part bytes.now first (length out.old)) }
 {
-    let mut i = 0;
-    while i < out.len() {
-        out[i] = low_half(word(bytes, first, i));
-        i += 1;
+    for i in 0..out.len() {
+        out[i] = T::of_word(word(bytes, first, i));
     }
 }
 
@@ -103,12 +142,10 @@ pub fn load_ends(bytes: &[u8], first: usize, out: &mut [u16])
 pub fn all_at_most(bytes: &[u8], first: usize, count: usize, most: u32) -> bool
     ensures { result ≡ all_at_most most (part bytes.now first count) }
 {
-    let mut i = 0;
-    while i < count {
+    for i in 0..count {
         if word(bytes, first, i) > most {
             return false;
         }
-        i += 1;
     }
     true
 }
@@ -117,11 +154,9 @@ pub fn all_at_most(bytes: &[u8], first: usize, count: usize, most: u32) -> bool
 pub fn sum(bytes: &[u8], count: usize) -> u32
     ensures { result ≡ wrapping_sum (part bytes.now 0 count) }
 {
-    let mut sum = 0;
-    let mut i = 0;
-    while i < count {
-        sum = std::num::wrapping_add_u32(sum, word(bytes, 0, i));
-        i += 1;
+    let mut sum: u32 = 0;
+    for i in 0..count {
+        sum = sum.wrapping_add(word(bytes, 0, i));
     }
     sum
 }
@@ -131,22 +166,7 @@ fn has_room(out: &[u8], first: usize, count: usize) -> bool
     ensures { result ≡ nat_le ((first + count) * 4) (length out.now) }
 {
     let whole = out.len() / 4;
-    if whole < first {
-        return false;
-    }
-    count <= whole - first
-}
-
-fn wide_byte(x: u8) -> u32
-    ensures { result ≡ x }
-{
-    x as u32
-}
-
-fn wide_half(x: u16) -> u32
-    ensures { result ≡ x }
-{
-    x as u32
+    first <= whole && count <= whole - first
 }
 
 // Word i of the list that starts at word `first`, where there is room for it.
@@ -154,63 +174,23 @@ fn put_word(w: u32, first: usize, i: usize, out: &mut [u8])
     ensures { out.new ≡ placed (first + i) (w ∷ []) out.old }
 {
     let whole = out.len() / 4;
-    if whole <= first {
-        return;
-    }
-    if whole - first <= i {
+    if whole <= first || whole - first <= i {
         return;
     }
     let at = (first + i) * 4;
-    out[at] = low_byte(w);
-    out[at + 1] = low_byte(w / 256);
-    out[at + 2] = low_byte(w / 65536);
-    out[at + 3] = low_byte(w / 16777216);
+    let [a, b, c, d] = w.to_le_bytes();
+    out[at] = a;
+    out[at + 1] = b;
+    out[at + 2] = c;
+    out[at + 3] = d;
 }
 
-pub fn store_words(words: &[u32], first: usize, out: &mut [u8])
-    ensures { out.new ≡ placed first words.now out.old }
+pub fn store<T: Kept>(items: &[T], first: usize, out: &mut [u8])
+    ensures { out.new ≡ placed first (map T.to_word items.now) out.old }
 {
-    if has_room(out, first, words.len()) {
-        let mut i = 0;
-        while i < words.len() {
-            put_word(words[i], first, i, out);
-            i += 1;
-        }
-    }
-}
-
-pub fn store_numbers(numbers: &[i32], first: usize, out: &mut [u8])
-    ensures { out.new ≡ placed first (words_of_numbers numbers.now) out.old }
-{
-    if has_room(out, first, numbers.len()) {
-        let mut i = 0;
-        while i < numbers.len() {
-            put_word(to_bits(numbers[i]), first, i, out);
-            i += 1;
-        }
-    }
-}
-
-pub fn store_flags(flags: &[u8], first: usize, out: &mut [u8])
-    ensures { out.new ≡ placed first flags.now out.old }
-{
-    if has_room(out, first, flags.len()) {
-        let mut i = 0;
-        while i < flags.len() {
-            put_word(wide_byte(flags[i]), first, i, out);
-            i += 1;
-        }
-    }
-}
-
-pub fn store_ends(ends: &[u16], first: usize, out: &mut [u8])
-    ensures { out.new ≡ placed first ends.now out.old }
-{
-    if has_room(out, first, ends.len()) {
-        let mut i = 0;
-        while i < ends.len() {
-            put_word(wide_half(ends[i]), first, i, out);
-            i += 1;
+    if has_room(out, first, items.len()) {
+        for (i, item) in items.iter().enumerate() {
+            put_word(item.to_word(), first, i, out);
         }
     }
 }

@@ -9,7 +9,7 @@ use record_io::{
 };
 use record_layout::MOST_BYTES;
 use record_replay::replay;
-use rules::{Named, Rules};
+use rules::Rules;
 use std::io::Stdin;
 
 fn write_front(rt: &(impl Print + Eprint), record: &[u8], size: usize) {
@@ -38,7 +38,7 @@ fn write_input(rt: &(impl Print + Eprint), stdin: Stdin, rules: Rules) {
 fn main(rt: HostRuntime) {
     let named = chosen_rules(&rt);
     match named {
-        Named::Known(rules) => write_input(&rt, rt.stdin(), rules),
-        Named::Unknown => say_no_such_rules(&rt),
+        Some(rules) => write_input(&rt, rt.stdin(), rules),
+        None => say_no_such_rules(&rt),
     }
 }

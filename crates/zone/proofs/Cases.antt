@@ -1,5 +1,6 @@
 -- What each definition says inside and outside, over plain lists: the functions' proofs cite these, and each is one test rewritten.
 -- Assumes nothing.
+use Rattle.std.specs.Prelude.{Ok, Err}
 use mathlib.Core.Path.{◌≡◌, refl, ap, ap₂, ◌∙◌}
 use mathlib.Core.Bool.{Bool, true, ◌&&◌}
 use mathlib.Core.List.{List, [], ◌∷◌, ◌++◌, map}
@@ -10,7 +11,6 @@ use lib.Dec.{eqb, leb}
 use lib.IntN.{ℤ}
 use lib.ListN.{length, take, drop, get_or}
 use borrow.Rule.Slice.PartMut.{put_mid, Post-is}
-use Rattle.answer.specs.declared.Call.TheVariants.{Refused, Done}
 use Rattle.answer.specs.declared.Refusal.TheVariants.{Point, Range}
 use Rattle.graphics.specs.declared.Vector.{Vector}
 use Rattle.limits.specs.Limits.{most_contours}
@@ -18,10 +18,6 @@ use Rattle.flags.specs.Flag.{has_any, touch_bits}
 use Rattle.flags.specs.declared.CoordAxis.{CoordAxis}
 use Rattle.zone.specs.Sizes.{glyph_fits, pair_fits, placed_fits, twilight_fits}
 use Rattle.zone.specs.Zone.{place_of, fetch_of, marked, change_at, marked_at, touched_of, on_curve, over_part, set_on_curve_of}
-use Rattle.zone.specs.declared.Fetched.TheVariants.{At}
-use Rattle.zone.specs.declared.Touched.TheVariants.{Is}
-use Rattle.zone.specs.declared.Touched.TheVariants.{Refused as RefusedMark}
-use Rattle.zone.specs.declared.Fetched.TheVariants.{Refused as RefusedPlace}
 use Rattle.graphics.proofs.Laws.{and_left, and_right}
 
 -- ---- the tests of a zone's lists, by what their calls ensure
@@ -46,11 +42,11 @@ pub read_as : {x x' x'' y y' y'' : ℤ} → x'' ≡ x' → x' ≡ x → y'' ≡ 
 read_as ex' ex ey' ey = rw (ex', ex, ey', ey) refl
 
 module _ (xs ys : List ℤ) (at : ℕ) where
-  pub fetched : at < length xs → {place : Vector} → place ≡ place_of xs ys at → At place ≡ fetch_of xs ys at
+  pub fetched : at < length xs → {place : Vector} → place ≡ place_of xs ys at → Ok place ≡ fetch_of xs ys at
   unfolding fetch_of
-  fetched h e = rw (lt-ltb at (length xs) h) (ap At e)
+  fetched h e = rw (lt-ltb at (length xs) h) (ap Ok e)
 
-  pub not_fetched : length xs ≤ at → RefusedPlace (Point at) ≡ fetch_of xs ys at
+  pub not_fetched : length xs ≤ at → Err (Point at) ≡ fetch_of xs ys at
   unfolding fetch_of
   not_fetched h = rw (le-ltb at (length xs) h)
 
@@ -61,20 +57,20 @@ get_d_out (x ∷ l) zero d h = absurd (omega arith)
 get_d_out (x ∷ l) (suc at) d h = get_d_out l at d (omega arith)
 
 module _ (f : ℕ → ℕ) (flags : List ℕ) (at : ℕ) where
-  pub marked_in : at < length flags → {l : List ℕ} → l ≡ change_at f flags at → marked Done l ≡ marked_at f flags at
+  pub marked_in : at < length flags → {l : List ℕ} → l ≡ change_at f flags at → marked (Ok tt) l ≡ marked_at f flags at
   unfolding marked_at
-  marked_in h e = rw (lt-ltb at (length flags) h) (ap (marked Done) e)
+  marked_in h e = rw (lt-ltb at (length flags) h) (ap (marked (Ok tt)) e)
 
-  pub marked_out : length flags ≤ at → marked (Refused (Point at)) flags ≡ marked_at f flags at
+  pub marked_out : length flags ≤ at → marked (Err (Point at)) flags ≡ marked_at f flags at
   unfolding marked_at
   marked_out h = rw (le-ltb at (length flags) h)
 
 module _ (flags : List ℕ) (at : ℕ) (axis : CoordAxis) where
-  pub touched_in : at < length flags → {b : Bool} → b ≡ has_any (get_or flags at 0) (touch_bits axis) → Is b ≡ touched_of flags at axis
+  pub touched_in : at < length flags → {b : Bool} → b ≡ has_any (get_or flags at 0) (touch_bits axis) → Ok b ≡ touched_of flags at axis
   unfolding touched_of
-  touched_in h e = rw (lt-ltb at (length flags) h) (ap Is e)
+  touched_in h e = rw (lt-ltb at (length flags) h) (ap Ok e)
 
-  pub touched_out : length flags ≤ at → RefusedMark (Point at) ≡ touched_of flags at axis
+  pub touched_out : length flags ≤ at → Err (Point at) ≡ touched_of flags at axis
   unfolding touched_of
   touched_out h = rw (le-ltb at (length flags) h)
 
@@ -86,15 +82,15 @@ placed f a e l h q =
     ap (put_mid a (e - a) l) q ∙ ap (λ (t : List _). take a l ++ (f (take (e - a) (drop a l)) ++ t)) (Post-is a e l h)
 
 module _ (flags : List ℕ) (start end : ℕ) (on : Bool) where
-  pub range_in : start ≤ end → end ≤ length flags → {l : List ℕ} → l ≡ over_part (map (on_curve on)) start end flags → marked Done l ≡ set_on_curve_of flags start end on
+  pub range_in : start ≤ end → end ≤ length flags → {l : List ℕ} → l ≡ over_part (map (on_curve on)) start end flags → marked (Ok tt) l ≡ set_on_curve_of flags start end on
   unfolding set_on_curve_of
-  range_in h k e = rw (le-leb start end h, le-leb end (length flags) k) (ap (marked Done) e)
+  range_in h k e = rw (le-leb start end h, le-leb end (length flags) k) (ap (marked (Ok tt)) e)
 
-  pub range_reversed : end < start → marked (Refused (Range start)) flags ≡ set_on_curve_of flags start end on
+  pub range_reversed : end < start → marked (Err (Range start)) flags ≡ set_on_curve_of flags start end on
   unfolding set_on_curve_of
   range_reversed h = rw (lt-leb start end h)
 
-  pub range_out : start ≤ end → length flags < end → marked (Refused (Range start)) flags ≡ set_on_curve_of flags start end on
+  pub range_out : start ≤ end → length flags < end → marked (Err (Range start)) flags ≡ set_on_curve_of flags start end on
   unfolding set_on_curve_of
   range_out h k = rw (le-leb start end h, lt-leb end (length flags) k)
 

@@ -8,14 +8,13 @@ use Prim.Native.Nat.{ℕ, ◌+◌, ◌-◌, ◌≤◌, ◌<◌}
 use native.Mathlib.Omega.{arith}
 use lib.Dec.{ltb}
 use lib.Bits.{bit_or, bit_xor, or_zero_r}
-use lib.ListN.{length, take, drop, get_or, set, length-append, length-drop, length-set, get_or-append}
+use lib.ListN.{length, take, drop, get_or, set, length-append, length-drop, length-map, length-set, get_or-append}
 use lib.Seq.{get_or-append-add, set_out, set-get_or, length-take-le, get_or-drop, get_or-take, get_or-set_same, get_or-set_other}
 use Rattle.int.proofs.Ints.{split}
 use Rattle.flags.proofs.Bits.{or_keeps, and_keeps, xor_keeps}
 use Rattle.flags.specs.Flag.{bit, cleared, touch_bits}
 use Rattle.flags.specs.declared.CoordAxis.{CoordAxis}
 use Rattle.zone.proofs.Cases.{range_in, range_reversed, range_out}
-use Rattle.zone.proofs.Each.{length_map}
 use Rattle.zone.specs.Zone.{Marked, change_at, marked_at, or_at, on_curve, over_part, set_on_curve_of}
 use Rattle.int.proofs.Tests.{either}
 
@@ -91,6 +90,6 @@ set_on_curve_length flags start end on = ⊎_elim
     (λ reversed. ap (λ (m : Marked). length m.flags) (sym (range_reversed flags start end on reversed)))
     (λ ordered. ⊎_elim
     (λ out. ap (λ (m : Marked). length m.flags) (sym (range_out flags start end on ordered out)))
-    (λ within. ap (λ (m : Marked). length m.flags) (sym (range_in flags start end on ordered within refl)) ∙ over_length (map (on_curve on)) (length_map (on_curve on)) start end flags ordered within)
+    (λ within. ap (λ (m : Marked). length m.flags) (sym (range_in flags start end on ordered within refl)) ∙ over_length (map (on_curve on)) (λ l. length-map l (on_curve on)) start end flags ordered within)
     (split (length flags) end))
     (split end start)

@@ -2,38 +2,29 @@
 -- 2.13.3, ttinterp.c (BOUNDS, FT_CURVE_TAG_TOUCH_X and _Y, Ins_FLIPPT, Ins_FLIPRGON, Ins_FLIPRGOFF), on lists that share one length. The Rust
 -- decides what an access outside answers: zone.rs gives an error with the index, and (0, 0) for an unscaled point. The flag byte and the
 -- answers' numbers are document 01's. Assumes nothing.
-use Rattle.std.specs.Prelude.{ℕ, ◌-◌, Bool, true, false, ◌&&◌, cond, List, ◌++◌, map, ltb, leb, ℤ, pos, length, take, drop, get_or, set}
+use Rattle.std.specs.Prelude.{ℕ, ◌-◌, Bool, true, false, ◌&&◌, cond, List, ◌++◌, map, ltb, leb, ℤ, pos, length, take, drop, get_or, set, ⊤, Result, Ok, Err}
 use Rattle.std.specs.Int.Bits.{bit_or, bit_xor}
-use Rattle.answer.specs.Answer.{Said, said_by, said_done}
 use Rattle.answer.specs.declared.Refusal.{Refusal}
 use Rattle.answer.specs.declared.Refusal.TheVariants.{Point, Range}
-use Rattle.answer.specs.declared.Call.{Call}
-use Rattle.answer.specs.declared.Call.TheVariants.{Done, Refused}
 use Rattle.graphics.specs.declared.Vector.{Vector}
 use Rattle.flags.specs.Flag.{has_any, cleared, touch_bits}
 use Rattle.flags.specs.declared.CoordAxis.{CoordAxis}
-use Rattle.zone.specs.declared.Fetched.{Fetched}
-use Rattle.zone.specs.declared.Fetched.TheVariants.{At}
-use Rattle.zone.specs.declared.Fetched.TheVariants.{Refused as RefusedPlace}
-use Rattle.zone.specs.declared.Touched.{Touched}
-use Rattle.zone.specs.declared.Touched.TheVariants.{Is}
-use Rattle.zone.specs.declared.Touched.TheVariants.{Refused as RefusedMark}
 
 -- ---- reads
 -- a point's place; (0, 0) outside
 abbrev pub place_of : List ℤ → List ℤ → ℕ → Vector
 place_of xs ys at = record { x = get_or xs at (pos 0); y = get_or ys at (pos 0) }
 
-unfoldable pub fetch_of : List ℤ → List ℤ → ℕ → Fetched
-fetch_of xs ys at = cond (ltb at (length xs)) (At (place_of xs ys at)) (RefusedPlace (Point at))
+unfoldable pub fetch_of : List ℤ → List ℤ → ℕ → Result Vector Refusal
+fetch_of xs ys at = cond (ltb at (length xs)) (Ok (place_of xs ys at)) (Err (Point at))
 
 -- ---- flags
 -- what a call over the flags leaves: what it says, and the flags
 pub record Marked : Type 0 where
-  pub call : Call
+  pub call : Result ⊤ Refusal
   pub flags : List ℕ
 
-abbrev pub marked : Call → List ℕ → Marked
+abbrev pub marked : Result ⊤ Refusal → List ℕ → Marked
 marked call flags = record { call = call; flags = flags }
 
 -- one flag put through f; outside none
@@ -42,7 +33,7 @@ change_at f flags at = set flags at (f (get_or flags at 0))
 
 -- the same, refused outside
 unfoldable pub marked_at : (ℕ → ℕ) → List ℕ → ℕ → Marked
-marked_at f flags at = cond (ltb at (length flags)) (marked Done (change_at f flags at)) (marked (Refused (Point at)) flags)
+marked_at f flags at = cond (ltb at (length flags)) (marked (Ok tt) (change_at f flags at)) (marked (Err (Point at)) flags)
 
 -- bits of one flag set
 abbrev pub or_at : List ℕ → ℕ → ℕ → List ℕ
@@ -57,8 +48,8 @@ untouch_of flags at axis = marked_at (λ (flag : ℕ). cleared flag (touch_bits 
 abbrev pub flip_of : List ℕ → ℕ → Marked
 flip_of flags at = marked_at (λ (flag : ℕ). bit_xor flag 1) flags at
 
-unfoldable pub touched_of : List ℕ → ℕ → CoordAxis → Touched
-touched_of flags at axis = cond (ltb at (length flags)) (Is (has_any (get_or flags at 0) (touch_bits axis))) (RefusedMark (Point at))
+unfoldable pub touched_of : List ℕ → ℕ → CoordAxis → Result Bool Refusal
+touched_of flags at axis = cond (ltb at (length flags)) (Ok (has_any (get_or flags at 0) (touch_bits axis))) (Err (Point at))
 
 -- ---- a range
 abbrev pub on_curve : Bool → ℕ → ℕ
@@ -72,14 +63,7 @@ over_part f a e l = take a l ++ (f (take (e - a) (drop a l)) ++ drop e l)
 unfoldable pub set_on_curve_of : List ℕ → ℕ → ℕ → Bool → Marked
 set_on_curve_of flags start end on =
     cond (leb start end && leb end (length flags))
-    (marked Done (over_part (map (on_curve on)) start end flags))
-    (marked (Refused (Range start)) flags)
+    (marked (Ok tt) (over_part (map (on_curve on)) start end flags))
+    (marked (Err (Range start)) flags)
 
 -- ---- what a direct call says
-abbrev pub said_of_fetched : Fetched → Said
-said_of_fetched (At place) = said_done
-said_of_fetched (RefusedPlace why) = said_by why
-
-abbrev pub said_of_touched : Touched → Said
-said_of_touched (Is b) = said_done
-said_of_touched (RefusedMark why) = said_by why

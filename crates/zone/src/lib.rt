@@ -7,52 +7,24 @@
 #![tactic(auto)]
 
 ghost use Rattle.std.specs.Prelude.{◌≡◌, map, ◌≤◌, pos, length, get_or};
-ghost use Rattle.zone.specs.Zone.{fetch_of, place_of, or_at, marked, touch_of, untouch_of, flip_of, touched_of, on_curve, set_on_curve_of, said_of_fetched, said_of_touched};
+ghost use Rattle.zone.specs.Zone.{fetch_of, place_of, or_at, marked, touch_of, untouch_of, flip_of, touched_of, on_curve, set_on_curve_of};
 ghost use Rattle.zone.specs.Sizes.{pair_fits, flags_fit, placed_fits, twilight_fits, glyph_fits};
 
-use answer::{Call, Refusal};
+use answer::Refusal;
 use flags::{CoordAxis, ON_CURVE, flipped, has_any, with_bits, without_bits};
 use graphics::Vector;
 use limits::{contours_fit, points_fit};
 
-// ---- reads
-// A point's place.
-#[derive(Clone, Copy)]
-pub enum Fetched {
-    At(Vector),
-    Refused(Refusal),
-}
-
-impl Fetched {
-    pub fn number(self) -> u32
-        ensures { result ≡ (said_of_fetched self).number }
-    {
-        match self {
-            Fetched::At(_) => 0,
-            Fetched::Refused(why) => why.number(),
-        }
-    }
-
-    pub fn detail(self) -> u64
-        ensures { result ≡ (said_of_fetched self).detail }
-    {
-        match self {
-            Fetched::At(_) => 0,
-            Fetched::Refused(why) => why.detail(),
-        }
-    }
-}
-
 // The place of a point of the current or the original outline.
-pub fn fetch(xs: &[i32], ys: &[i32], at: u64) -> Fetched
+pub fn fetch(xs: &[i32], ys: &[i32], at: u64) -> Result<Vector, Refusal>
     requires { length ys.now ≡ length xs.now }
     ensures { result ≡ fetch_of xs.now ys.now at }
 {
     let i = at as usize;
     if i < xs.len() {
-        Fetched::At(Vector { x: xs[i], y: ys[i] })
+        Ok(Vector { x: xs[i], y: ys[i] })
     } else {
-        Fetched::Refused(Refusal::Point(at))
+        Err(Refusal::Point(at))
     }
 }
 
@@ -86,77 +58,50 @@ pub fn or_at(flags: &mut [u8], at: u64, mask: u8)
 }
 
 // Marks a point as moved along an axis.
-pub fn touch(flags: &mut [u8], at: u64, axis: CoordAxis) -> Call
+pub fn touch(flags: &mut [u8], at: u64, axis: CoordAxis) -> Result<(), Refusal>
     ensures { marked result flags.new ≡ touch_of flags.old at axis }
 {
     let i = at as usize;
     if flags.len() <= i {
-        return Call::Refused(Refusal::Point(at));
+        return Err(Refusal::Point(at));
     }
     or_at(flags, at, axis.touch_bits());
-    Call::Done
+    Ok(())
 }
 
 // Takes the mark off.
-pub fn untouch(flags: &mut [u8], at: u64, axis: CoordAxis) -> Call
+pub fn untouch(flags: &mut [u8], at: u64, axis: CoordAxis) -> Result<(), Refusal>
     ensures { marked result flags.new ≡ untouch_of flags.old at axis }
 {
     let i = at as usize;
     if flags.len() <= i {
-        return Call::Refused(Refusal::Point(at));
+        return Err(Refusal::Point(at));
     }
     flags[i] = without_bits(flags[i], axis.touch_bits());
-    Call::Done
+    Ok(())
 }
 
 // On curve becomes off curve, and off on.
-pub fn flip_on_curve(flags: &mut [u8], at: u64) -> Call
+pub fn flip_on_curve(flags: &mut [u8], at: u64) -> Result<(), Refusal>
     ensures { marked result flags.new ≡ flip_of flags.old at }
 {
     let i = at as usize;
     if flags.len() <= i {
-        return Call::Refused(Refusal::Point(at));
+        return Err(Refusal::Point(at));
     }
     flags[i] = flipped(flags[i], ON_CURVE);
-    Call::Done
-}
-
-// Whether a point is marked.
-#[derive(Clone, Copy)]
-pub enum Touched {
-    Is(bool),
-    Refused(Refusal),
-}
-
-impl Touched {
-    pub fn number(self) -> u32
-        ensures { result ≡ (said_of_touched self).number }
-    {
-        match self {
-            Touched::Is(_) => 0,
-            Touched::Refused(why) => why.number(),
-        }
-    }
-
-    pub fn detail(self) -> u64
-        ensures { result ≡ (said_of_touched self).detail }
-    {
-        match self {
-            Touched::Is(_) => 0,
-            Touched::Refused(why) => why.detail(),
-        }
-    }
+    Ok(())
 }
 
 // For both axes either mark will do.
-pub fn is_touched(flags: &[u8], at: u64, axis: CoordAxis) -> Touched
+pub fn is_touched(flags: &[u8], at: u64, axis: CoordAxis) -> Result<bool, Refusal>
     ensures { result ≡ touched_of flags.now at axis }
 {
     let i = at as usize;
     if i < flags.len() {
-        Touched::Is(has_any(flags[i], axis.touch_bits()))
+        Ok(has_any(flags[i], axis.touch_bits()))
     } else {
-        Touched::Refused(Refusal::Point(at))
+        Err(Refusal::Point(at))
     }
 }
 
@@ -175,27 +120,25 @@ fn on_curve_as(flag: u8, on: bool) -> u8
 fn put_on_curve(part: &mut [u8], on: bool)
     ensures { part.new ≡ map (on_curve on) part.old }
 {
-    let mut i = 0;
-    while i < part.len() {
-        part[i] = on_curve_as(part[i], on);
-        i += 1;
+    for flag in part.iter_mut() {
+        *flag = on_curve_as(*flag, on);
     }
 }
 
 // The points from start up to end, which is not one of them.
-pub fn set_on_curve(flags: &mut [u8], start: u64, end: u64, on: bool) -> Call
+pub fn set_on_curve(flags: &mut [u8], start: u64, end: u64, on: bool) -> Result<(), Refusal>
     ensures { marked result flags.new ≡ set_on_curve_of flags.old start end on }
 {
     let a = start as usize;
     let e = end as usize;
     if e < a {
-        return Call::Refused(Refusal::Range(start));
+        return Err(Refusal::Range(start));
     }
     if flags.len() < e {
-        return Call::Refused(Refusal::Range(start));
+        return Err(Refusal::Range(start));
     }
     put_on_curve(&mut flags[a..e], on);
-    Call::Done
+    Ok(())
 }
 
 // ---- sizes

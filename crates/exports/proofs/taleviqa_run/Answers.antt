@@ -16,13 +16,13 @@ pub returns-then-not-is_call : goal.returns-then-not-is_call
 returns-then-not-is_call c = let a = c.args in
     refused (lent (goal.at.returns-then-not-is_call c).Start) a.sheet.now a.budget a.start a.state.now a.answer.now
     a.gx.now a.gy.now a.gflags.now a.tox.now a.toy.now a.tx.now a.ty.now a.tflags.now _ _ _
-    _ (sym c.by_number-named.ensures ∙ c.in-Known.is) (sym c.is_call.ensures ∙ not-true _ c.if-not-is_call.true-raw) c.refuse-then-not-is_call.ensures.value c.refuse-then-not-is_call.ensures.answer_after
+    _ (sym c.by_number-named.ensures ∙ c.in-Some.is) (sym c.is_call.ensures ∙ not-true _ c.if-not-is_call.true-raw) c.refuse-then-not-is_call.ensures.value c.refuse-then-not-is_call.ensures.answer_after
 
-pub returns-in-Unknown : goal.returns-in-Unknown
-returns-in-Unknown c = let a = c.args in
-    unnamed (lent (goal.at.returns-in-Unknown c).Start) a.sheet.now a.budget a.start a.state.now a.answer.now
+pub returns-in-None : goal.returns-in-None
+returns-in-None c = let a = c.args in
+    unnamed (lent (goal.at.returns-in-None c).Start) a.sheet.now a.budget a.start a.state.now a.answer.now
     a.gx.now a.gy.now a.gflags.now a.tox.now a.toy.now a.tx.now a.ty.now a.tflags.now _ _ _
-    (sym c.by_number-named.ensures ∙ c.in-Unknown.is) c.refuse.ensures.value c.refuse.ensures.answer_after
+    (sym c.by_number-named.ensures ∙ c.in-None.is) c.refuse.ensures.value c.refuse.ensures.answer_after
 
 pub returns-else-not-is_call : goal.returns-else-not-is_call
 returns-else-not-is_call c = let a = c.args in
@@ -30,4 +30,4 @@ returns-else-not-is_call c = let a = c.args in
     a.gx.now a.gy.now a.gflags.now a.tox.now a.toy.now a.tx.now a.ty.now a.tflags.now _
     _ c.say.new.answer c.run-out.result _ c.read_state-s.result c.write_state.new.words
     _ _ _ _ _ _ _ _
-    (sym c.by_number-named.ensures ∙ c.in-Known.is) (sym c.is_call.ensures ∙ not-false _ c.if-not-is_call.false-raw) c.read_state-s.ensures c.run-out.ensures c.say.ensures.value c.write_state.ensures c.say.ensures.answer_after
+    (sym c.by_number-named.ensures ∙ c.in-Some.is) (sym c.is_call.ensures ∙ not-false _ c.if-not-is_call.false-raw) c.read_state-s.ensures c.run-out.ensures c.say.ensures.value c.write_state.ensures c.say.ensures.answer_after

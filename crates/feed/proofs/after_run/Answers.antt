@@ -9,12 +9,12 @@ pub rest-requires : goal.rest-requires
 rest-requires c = let a = c.args in
     room_for (take (length a.sheet.now - a.out.place) (drop a.out.place a.sheet.now)) a.carry.now c.requires.most_line_in_bounds c.look-seen.ensures
 
-pub returns-in-Refused : goal.returns-in-Refused
-returns-in-Refused c = let a = c.args in
+pub returns-in-Err : goal.returns-in-Err
+returns-in-Err c = let a = c.args in
     ran_refused a.origin a.out.place a.lines a.out.lines a.out.state a.sheet.now a.carry.now a.out.answer
-    c.look-seen.ensures (all_of a.sheet.now a.out.place) c.words_of.ensures c.refusal_of-call.ensures c.in-Refused.is c.stopped.ensures
+    c.look-seen.ensures (all_of a.sheet.now a.out.place) c.words_of.ensures c.refusal_of-call.ensures c.in-Err.is c.stopped.ensures
 
-pub returns-in-Done : goal.returns-in-Done
-returns-in-Done c = let a = c.args in
+pub returns-in-Ok : goal.returns-in-Ok
+returns-in-Ok c = let a = c.args in
     ran_on a.origin a.out.place a.lines a.out.lines a.out.state a.sheet.now a.carry.now a.out.answer
-    c.look-seen.ensures (all_of a.sheet.now a.out.place) c.words_of.ensures c.refusal_of-call.ensures c.in-Done.is c.rest.ensures
+    c.look-seen.ensures (all_of a.sheet.now a.out.place) c.words_of.ensures c.refusal_of-call.ensures c.in-Ok.is c.rest.ensures

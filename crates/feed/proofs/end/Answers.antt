@@ -39,14 +39,11 @@ returns-then-not-is_open c = λ rules. end_closed (held rules (goal.at.returns-t
 pub slice_bounds-sizes_fit-end : goal.slice_bounds-sizes_fit-end
 slice_bounds-sizes_fit-end c = refl
 
-pub has_room-room-requires : goal.has_room-room-requires
-has_room-room-requires c = c.needs_table-needs.ensures
-
-pub returns-in-Refused : goal.returns-in-Refused
-returns-in-Refused c = λ rules. end_refused (held rules (goal.at.returns-in-Refused c).Start) c.args.c c.args.carry.now (entry (goal.at.returns-in-Refused c).Start) (is_open (goal.at.returns-in-Refused c).After-enter-begun) (tested rules (goal.at.returns-in-Refused c).After-enter-begun) c.in-Refused.is c.stopped.ensures
+pub returns-in-Err : goal.returns-in-Err
+returns-in-Err c = λ rules. end_refused (held rules (goal.at.returns-in-Err c).Start) c.args.c c.args.carry.now (entry (goal.at.returns-in-Err c).Start) (is_open (goal.at.returns-in-Err c).After-enter-begun) (tested rules (goal.at.returns-in-Err c).After-enter-begun) c.in-Err.is c.stopped.ensures
 
 pub returns-then-c-eq0 : goal.returns-then-c-eq0
-returns-then-c-eq0 c = λ rules. end_whole (held rules (goal.at.returns-then-c-eq0 c).Start) c.args.c c.args.carry.now (entry (goal.at.returns-then-c-eq0 c).Start) (is_open (goal.at.returns-then-c-eq0 c).After-enter-begun) (tested rules (goal.at.returns-then-c-eq0 c).After-enter-begun) c.in-Done.is c.if-c-eq0.true c.stopped-then-c-eq0.ensures
+returns-then-c-eq0 c = λ rules. end_whole (held rules (goal.at.returns-then-c-eq0 c).Start) c.args.c c.args.carry.now (entry (goal.at.returns-then-c-eq0 c).Start) (is_open (goal.at.returns-then-c-eq0 c).After-enter-begun) (tested rules (goal.at.returns-then-c-eq0 c).After-enter-begun) c.in-Ok.is c.if-c-eq0.true c.stopped-then-c-eq0.ensures
 
 pub returns-else-c-eq0 : goal.returns-else-c-eq0
-returns-else-c-eq0 c = λ rules. end_unfinished (held rules (goal.at.returns-else-c-eq0 c).Start) c.args.c c.args.carry.now (entry (goal.at.returns-else-c-eq0 c).Start) (is_open (goal.at.returns-else-c-eq0 c).After-enter-begun) (tested rules (goal.at.returns-else-c-eq0 c).After-enter-begun) c.in-Done.is c.if-c-eq0.false c.stopped-else-c-eq0.ensures
+returns-else-c-eq0 c = λ rules. end_unfinished (held rules (goal.at.returns-else-c-eq0 c).Start) c.args.c c.args.carry.now (entry (goal.at.returns-else-c-eq0 c).Start) (is_open (goal.at.returns-else-c-eq0 c).After-enter-begun) (tested rules (goal.at.returns-else-c-eq0 c).After-enter-begun) c.in-Ok.is c.if-c-eq0.false c.stopped-else-c-eq0.ensures

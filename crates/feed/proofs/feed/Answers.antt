@@ -7,7 +7,6 @@ use native.Mathlib.Omega.{arith}
 use borrow.Author.Tests.{not-false, not-true}
 use lib.IntN.{ℤ}
 use lib.ListN.{drop, length, take}
-use Rattle.opcodes.specs.Table.{needs_table}
 use Rattle.line.specs.World.{Fixed, World, fixed, world}
 use Rattle.feed_carry.specs.Carry.{said_is_open}
 use Rattle.feed.specs.Feed.{entered_feed, feed_of}
@@ -56,21 +55,14 @@ slice_bounds-words-start c = omega (arith, c.place_in-start.ensures.0, c.well_fo
 pub slice_bounds-words-end : goal.slice_bounds-words-end
 slice_bounds-words-end c = omega (arith, c.place_in-start.ensures.0, c.well_formed.1.1.1.0.1)
 
-pub has_room-room-requires : goal.has_room-room-requires
-has_room-room-requires c = c.needs_table-needs.ensures
-
-pub slice_bounds-take_in-end : goal.slice_bounds-take_in-end
-unfolding needs_table
-slice_bounds-take_in-end c = sym (ap length c.needs_table-needs.ensures)
-
 pub take_in-requires : goal.take_in-requires
-take_in-requires c = let e = entered_by (held (goal.at.take_in-requires c).Start) c.args.c c.args.carry.now (part (goal.at.take_in-requires c).After-enter-begun) (entry (goal.at.take_in-requires c).Start) (tested (goal.at.take_in-requires c).After-enter-begun) c.in-Done.is in record { needs_value = c.needs_table-needs.ensures; sound = e.0; carry_value = e.1 }
+take_in-requires c = let e = entered_by (held (goal.at.take_in-requires c).Start) c.args.c c.args.carry.now (part (goal.at.take_in-requires c).After-enter-begun) (entry (goal.at.take_in-requires c).Start) (tested (goal.at.take_in-requires c).After-enter-begun) c.in-Ok.is in record { sound = e.0; carry_value = e.1 }
 
-pub returns-in-Refused : goal.returns-in-Refused
-returns-in-Refused c = feed_refused (held (goal.at.returns-in-Refused c).Start) c.args.c c.args.carry.now (entry (goal.at.returns-in-Refused c).Start) (is_open (goal.at.returns-in-Refused c).After-enter-begun) (part (goal.at.returns-in-Refused c).After-enter-begun) (tested (goal.at.returns-in-Refused c).After-enter-begun) c.in-Refused.is c.stopped.ensures
-    ∙ ap (λ (l : List ℤ). feed_of (held (goal.at.returns-in-Refused c).Start) c.args.c c.args.carry.now l (entry (goal.at.returns-in-Refused c).Start)) (part_is (goal.at.returns-in-Refused c).After-enter-begun)
+pub returns-in-Err : goal.returns-in-Err
+returns-in-Err c = feed_refused (held (goal.at.returns-in-Err c).Start) c.args.c c.args.carry.now (entry (goal.at.returns-in-Err c).Start) (is_open (goal.at.returns-in-Err c).After-enter-begun) (part (goal.at.returns-in-Err c).After-enter-begun) (tested (goal.at.returns-in-Err c).After-enter-begun) c.in-Err.is c.stopped.ensures
+    ∙ ap (λ (l : List ℤ). feed_of (held (goal.at.returns-in-Err c).Start) c.args.c c.args.carry.now l (entry (goal.at.returns-in-Err c).Start)) (part_is (goal.at.returns-in-Err c).After-enter-begun)
 
-pub returns-in-Done : goal.returns-in-Done
-returns-in-Done c = c.take_in.ensures
-    ∙ feed_entered (held (goal.at.returns-in-Done c).Start) c.args.c c.args.carry.now (entry (goal.at.returns-in-Done c).Start) (is_open (goal.at.returns-in-Done c).After-enter-begun) (part (goal.at.returns-in-Done c).After-enter-begun) (tested (goal.at.returns-in-Done c).After-enter-begun) c.in-Done.is
-    ∙ ap (λ (l : List ℤ). feed_of (held (goal.at.returns-in-Done c).Start) c.args.c c.args.carry.now l (entry (goal.at.returns-in-Done c).Start)) (part_is (goal.at.returns-in-Done c).After-enter-begun)
+pub returns-in-Ok : goal.returns-in-Ok
+returns-in-Ok c = c.take_in.ensures
+    ∙ feed_entered (held (goal.at.returns-in-Ok c).Start) c.args.c c.args.carry.now (entry (goal.at.returns-in-Ok c).Start) (is_open (goal.at.returns-in-Ok c).After-enter-begun) (part (goal.at.returns-in-Ok c).After-enter-begun) (tested (goal.at.returns-in-Ok c).After-enter-begun) c.in-Ok.is
+    ∙ ap (λ (l : List ℤ). feed_of (held (goal.at.returns-in-Ok c).Start) c.args.c c.args.carry.now l (entry (goal.at.returns-in-Ok c).Start)) (part_is (goal.at.returns-in-Ok c).After-enter-begun)

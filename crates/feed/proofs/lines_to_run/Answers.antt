@@ -5,7 +5,7 @@ use Rattle.feed.specs.Steps.Runs.{Few, Many}
 use Rattle.feed.proofs.lines_to_run.Goals as goal
 
 pub overflow_sub-sheet : goal.overflow_sub-sheet
-overflow_sub-sheet c = omega (arith, c.requires.at_in_bounds)
+overflow_sub-sheet c = omega (arith, c.requires)
 
 pub returns-then-sheet-at-le-LINE : goal.returns-then-sheet-at-le-LINE
 returns-then-sheet-at-le-LINE c = Few (omega (arith, c.if-sheet-at-le-LINE.true, length-drop c.args.at c.args.sheet.now)) (omega arith)

@@ -17,17 +17,17 @@ entry s =
     world s.args.s s.args.gx.now s.args.gy.now s.args.gflags.now s.args.tox.now s.args.toy.now s.args.tx.now s.args.ty.now s.args.tflags.now
 
 pub lines_to_run-budget-requires : goal.lines_to_run-budget-requires
-lines_to_run-budget-requires c = record { needs_value = c.requires.needs_value; at_in_bounds = c.requires.at_in_bounds }
+lines_to_run-budget-requires c = c.requires.at_in_bounds
 
 pub onward-out-requires : goal.onward-out-requires
-onward-out-requires c = record { needs_value = c.requires.needs_value; sound = c.requires.sound }
+onward-out-requires c = c.requires.sound
 
 pub after_run-requires : goal.after_run-requires
 after_run-requires c = let a = c.args in
     let g = goes (held (goal.at.after_run-requires c).Start) a.sheet.now a.origin a.lines c.lines_to_run-budget.result a.at (entry (goal.at.after_run-requires c).Start) c.requires.at_in_bounds c.lines_to_run-budget.ensures a.carry.now in
     let p = ap (λ (x : Ran). x.place) c.onward-out.ensures in
     let m = ap (λ (x : Ran). x.lines) c.onward-out.ensures in
-    let d = length-drop a.at a.sheet.now in record { needs_value = c.requires.needs_value; sheet_bound = c.requires.sheet_bound; place_in_bounds = omega (arith, p, g.place); lines_bound = omega (arith, m, g.lines, d, c.requires.sheet_bound, c.requires.lines_le_most_words); most_line_in_bounds = c.requires.most_line_in_bounds }
+    let d = length-drop a.at a.sheet.now in record { sheet_bound = c.requires.sheet_bound; place_in_bounds = omega (arith, p, g.place); lines_bound = omega (arith, m, g.lines, d, c.requires.sheet_bound, c.requires.lines_le_most_words); most_line_in_bounds = c.requires.most_line_in_bounds }
 
 pub returns : goal.returns
 returns c = let a = c.args in

@@ -59,7 +59,7 @@ pub slice_bounds-first-end : goal.slice_bounds-first-end
 slice_bounds-first-end c = refl
 
 pub first-begins-requires : goal.first-begins-requires
-first-begins-requires c = let r = has (goal.at.first-begins-requires c).Start in record { needs_value = c.requires.needs_value; held_in_bounds = r.there; carry_value = r.waiting; most_line_in_bounds = r.line; line_len = refl }
+first-begins-requires c = let r = has (goal.at.first-begins-requires c).Start in record { held_in_bounds = r.there; carry_value = r.waiting; most_line_in_bounds = r.line; line_len = refl }
 
 pub slice_bounds-line-end : goal.slice_bounds-line-end
 slice_bounds-line-end c = omega (arith, (runs (goal.at.slice_bounds-line-end c).In-Run).most, c.first-begins.auto.line)
@@ -68,7 +68,7 @@ pub slice_bounds-off-end : goal.slice_bounds-off-end
 slice_bounds-off-end c = sym (length-take-le (words_run (goal.at.slice_bounds-off-end c).In-Run) (kept_line (goal.at.slice_bounds-off-end c).In-Run) (omega (arith, (runs (goal.at.slice_bounds-off-end c).In-Run).most, c.first-begins.auto.line)))
 
 pub off-d-requires : goal.off-d-requires
-off-d-requires c = let h = has (goal.at.off-d-requires c).Start in let x = runs (goal.at.off-d-requires c).In-Run in record { needs_value = c.requires.needs_value; sound = c.requires.sound; at_in_bounds = omega arith; sheet_bound = omega (arith, there_inside (goal.at.off-d-requires c).In-Run, x.below, h.within); lines_le_most_words = omega arith; most_line_in_bounds = omega (arith, same_carry (goal.at.off-d-requires c).In-Run, h.line) }
+off-d-requires c = let h = has (goal.at.off-d-requires c).Start in let x = runs (goal.at.off-d-requires c).In-Run in record { sound = c.requires.sound; at_in_bounds = omega arith; sheet_bound = omega (arith, there_inside (goal.at.off-d-requires c).In-Run, x.below, h.within); lines_le_most_words = omega arith; most_line_in_bounds = omega (arith, same_carry (goal.at.off-d-requires c).In-Run, h.line) }
 
 pub returns-then-not-is_open : goal.returns-then-not-is_open
 returns-then-not-is_open c = run_stops (held (goal.at.returns-then-not-is_open c).Start) c.args.c (entry (goal.at.returns-then-not-is_open c).Start) refl c.args.words.now c.args.carry.now (kept_carry (goal.at.returns-then-not-is_open c).In-Run) (kept_line (goal.at.returns-then-not-is_open c).In-Run) (has (goal.at.returns-then-not-is_open c).Start).there (has (goal.at.returns-then-not-is_open c).Start).waiting (words_run (goal.at.returns-then-not-is_open c).In-Run) (runs (goal.at.returns-then-not-is_open c).In-Run) (lists (goal.at.returns-then-not-is_open c).After-off-d) c.off-d.ensures.tflags_after (sym c.is_open.ensures ∙ not-true _ c.if-not-is_open.true-raw)
@@ -80,7 +80,7 @@ pub overflow_add-c : goal.overflow_add-c
 overflow_add-c c = let h = has (goal.at.overflow_add-c c).Start in omega (arith, h.within)
 
 pub off-requires : goal.off-requires
-off-requires c = let h = has (goal.at.off-requires c).Start in let x = runs (goal.at.off-requires c).In-Run in record { needs_value = c.requires.needs_value; sound = still_sound (held (goal.at.off-requires c).Start) (entry (goal.at.off-requires c).Start) (lists (goal.at.off-requires c).After-off-d) (same_lists (goal.at.off-requires c).After-off-d) c.requires.sound; at_in_bounds = omega (arith, x.above, x.below); sheet_bound = omega (arith, h.within); lines_le_most_words = omega (arith, c.off-d.ensures.lines_bound, there_inside (goal.at.off-requires c).In-Run, x.below, h.within); most_line_in_bounds = omega (arith, c.off-d.auto.carry, same_carry (goal.at.off-requires c).In-Run, h.line) }
+off-requires c = let h = has (goal.at.off-requires c).Start in let x = runs (goal.at.off-requires c).In-Run in record { sound = still_sound (held (goal.at.off-requires c).Start) (entry (goal.at.off-requires c).Start) (lists (goal.at.off-requires c).After-off-d) (same_lists (goal.at.off-requires c).After-off-d) c.requires.sound; at_in_bounds = omega (arith, x.above, x.below); sheet_bound = omega (arith, h.within); lines_le_most_words = omega (arith, c.off-d.ensures.lines_bound, there_inside (goal.at.off-requires c).In-Run, x.below, h.within); most_line_in_bounds = omega (arith, c.off-d.auto.carry, same_carry (goal.at.off-requires c).In-Run, h.line) }
 
 pub returns-in-Settled : goal.returns-in-Settled
 returns-in-Settled c = begins_settled (held (goal.at.returns-in-Settled c).Start) c.args.c (entry (goal.at.returns-in-Settled c).Start) refl c.args.words.now c.args.carry.now c.first-begins.new.carry c.first-begins.new.line (has (goal.at.returns-in-Settled c).Start).there (has (goal.at.returns-in-Settled c).Start).waiting c.first-begins.result c.first-begins.ensures c.in-Settled.is

@@ -1,5 +1,6 @@
 -- `feed_arriving::feed_arriving` meets its contract. The invariant: what was fed so far, with the piece that is still to be fed, is what the blocks so far
--- come to, and no list has changed its length. The measure is the turns left. Assumes nothing.
+-- come to, and no list has changed its length. Assumes nothing.
+use mathlib.Core.Bool.{true}
 use mathlib.Core.List.{List}
 use mathlib.Core.Path.{◌≡◌}
 use Prim.Native.Nat.{ℕ}
@@ -31,15 +32,13 @@ pub record Same (block₀ block : List ℕ) (words₀ words : List ℤ) (carry�
   pub ty_long : length ty ≡ length ty₀
   pub tflags_long : length tflags ≡ length tflags₀
 
-pub record Inv (f : Fixed) (first : GraphicsState → Arrived) (c₀ : Fed) (next : Next) (block : List ℕ) (words : List ℤ) (lines turns : ℕ) (l : Left) (same : Type 0) : Type 0 where
-  pub arriving : (s : GraphicsState) → c₀ ≡ fresh s → Arriving f (first s) next block words lines turns l
+pub record Inv (f : Fixed) (first : GraphicsState → Arrived) (c₀ : Fed) (next : Next) (block : List ℕ) (words : List ℤ) (lines : ℕ) (l : Left) (same : Type 0) : Type 0 where
+  pub arriving : (s : GraphicsState) → c₀ ≡ fresh s → Arriving f (first s) next block words lines l
+  pub pending : next.more ≡ true
   pub kept_long : same
 
-abbrev pub invariant-loop-turns : goal.invariant-loop-turns
-invariant-loop-turns l = let g = fixed FreeType l.controls l.gux l.guy l.gox l.goy l.contours in
-    Inv (under l.rules g) (λ (s : GraphicsState). at_first (under l.rules g) l.initial.carry (held g (take l.first l.initial.words) (world s l.initial.gx l.initial.gy l.initial.gflags l.initial.tox l.initial.toy l.initial.tx l.initial.ty l.initial.tflags))) l.initial.c l.next l.block l.words l.lines l.turns
+abbrev pub invariant-loop : goal.invariant-loop
+invariant-loop l = let g = fixed FreeType l.controls l.gux l.guy l.gox l.goy l.contours in
+    Inv (under l.rules g) (λ (s : GraphicsState). at_first (under l.rules g) l.initial.carry (held g (take l.first l.initial.words) (world s l.initial.gx l.initial.gy l.initial.gflags l.initial.tox l.initial.toy l.initial.tx l.initial.ty l.initial.tflags))) l.initial.c l.next l.block l.words l.lines
     (left l.c l.carry l.gx l.gy l.gflags l.tox l.toy l.tx l.ty l.tflags)
     (Same l.initial.block l.block l.initial.words l.words l.initial.carry l.carry l.initial.gx l.gx l.initial.gy l.gy l.initial.gflags l.gflags l.initial.tox l.tox l.initial.toy l.toy l.initial.tx l.tx l.initial.ty l.ty l.initial.tflags l.tflags)
-
-abbrev pub decreases-loop-turns : goal.decreases-loop-turns
-decreases-loop-turns l = l.turns

@@ -20,16 +20,16 @@ returns-then-not-is_open c = let a = c.args in
 pub returns-then-not-is_state : goal.returns-then-not-is_state
 returns-then-not-is_state c = let a = c.args in
     unstated (lent (goal.at.returns-then-not-is_state c).Start) (drop a.at a.piece.now) a.state.now a.numbers.now a.carry.now a.gx.now a.gy.now a.gflags.now a.tox.now a.toy.now a.tx.now a.ty.now a.tflags.now _ _ (sym c.is_open.ensures ∙ not-false _ c.if-not-is_open.false-raw) _ _
-    (sym c.by_number-named.ensures ∙ c.in-Known.is) (sym c.is_state.ensures ∙ not-true _ c.if-not-is_state.true-raw) c.refuse_feed-then-not-is_state.ensures.value c.refuse_feed-then-not-is_state.ensures.numbers_after
+    (sym c.by_number-named.ensures ∙ c.in-Some.is) (sym c.is_state.ensures ∙ not-true _ c.if-not-is_state.true-raw) c.refuse_feed-then-not-is_state.ensures.value c.refuse_feed-then-not-is_state.ensures.numbers_after
 
-pub returns-in-Unknown : goal.returns-in-Unknown
-returns-in-Unknown c = let a = c.args in
-    unnamed (lent (goal.at.returns-in-Unknown c).Start) (drop a.at a.piece.now) a.state.now a.numbers.now a.carry.now a.gx.now a.gy.now a.gflags.now a.tox.now a.toy.now a.tx.now a.ty.now a.tflags.now _ _ (sym c.is_open.ensures ∙ not-false _ c.if-not-is_open.false-raw) _
-    (sym c.by_number-named.ensures ∙ c.in-Unknown.is) c.refuse_feed.ensures.value c.refuse_feed.ensures.numbers_after
+pub returns-in-None : goal.returns-in-None
+returns-in-None c = let a = c.args in
+    unnamed (lent (goal.at.returns-in-None c).Start) (drop a.at a.piece.now) a.state.now a.numbers.now a.carry.now a.gx.now a.gy.now a.gflags.now a.tox.now a.toy.now a.tx.now a.ty.now a.tflags.now _ _ (sym c.is_open.ensures ∙ not-false _ c.if-not-is_open.false-raw) _
+    (sym c.by_number-named.ensures ∙ c.in-None.is) c.refuse_feed.ensures.value c.refuse_feed.ensures.numbers_after
 
 pub returns-else-not-is_state : goal.returns-else-not-is_state
 returns-else-not-is_state c = let a = c.args in
     taken (lent (goal.at.returns-else-not-is_state c).Start) (drop a.at a.piece.now) a.state.now a.numbers.now a.carry.now a.gx.now a.gy.now a.gflags.now a.tox.now a.toy.now a.tx.now a.ty.now a.tflags.now _ _ (sym c.is_open.ensures ∙ not-false _ c.if-not-is_open.false-raw) c.say_fed.new.numbers
     _ c.read_state-s.result c.fed_of-c.result c.feed-fed.result c.write_state.new.words _ _ _ _ _ _ _ _ _
-    (sym c.by_number-named.ensures ∙ c.in-Known.is) (sym c.is_state.ensures ∙ not-false _ c.if-not-is_state.false-raw) c.read_state-s.ensures c.fed_of-c.ensures c.feed-fed.ensures
+    (sym c.by_number-named.ensures ∙ c.in-Some.is) (sym c.is_state.ensures ∙ not-false _ c.if-not-is_state.false-raw) c.read_state-s.ensures c.fed_of-c.ensures c.feed-fed.ensures
     c.say_fed.ensures.value c.write_state.ensures c.say_fed.ensures.numbers_after

@@ -8,11 +8,10 @@ use mir.Syntax.{w32}
 use mir.Val.{to_z, of_z}
 use Rattle.int.proofs.Words.{back32}
 use Rattle.int.specs.Word.{index_of}
-use Rattle.opcodes.proofs.Entries.{entry_in, in_table}
 use Rattle.opcodes.specs.Table.{need_of, unknown}
 use Rattle.feed_look.proofs.Looks.{all, by_both, by_opcode, no_count, no_opcode, no_word, not_all, not_known, too_long}
 use Rattle.feed_look.proofs.look.Goals as goal
-use Rattle.feed_look.proofs.look.Goals.{After-as_index-count, After-as_index-opcode, After-shared_slice_known-2-1, Else-wants}
+use Rattle.feed_look.proofs.look.Goals.{After-as_index-count, After-as_index-opcode, Else-wants}
 
 -- an element as an index, read back
 read : (z : ℤ) (n : ℕ) → mag z < 2 ^ 31 → n ≡ index_of (to_z w32 (of_z w32 z)) → n ≡ index_of z
@@ -24,13 +23,8 @@ op_is o = read (get_or o.args.words.now 0 (pos 0)) _ o.as_index-arg-1.given o.as
 count_is : (k : After-as_index-count) → k.as_index-count.result ≡ index_of (get_or k.args.words.now 1 (pos 0))
 count_is k = read (get_or k.args.words.now 1 (pos 0)) _ k.as_index-arg-2-1.given k.as_index-count.ensures
 
-entry_is : (c : After-shared_slice_known-2-1) → get_or c.args.needs.now c.as_index-opcode.result 0 ≡ need_of c.as_index-opcode.result
-entry_is c = let c = c in entry_in c.as_index-opcode.result c.if-opcode-gt255.false c.requires
-
 known : (c : Else-wants) → need_of c.as_index-opcode.result ≡ unknown → ⊥
-known c q =
-    let entry_is : (get_or c.args.needs.now c.as_index-opcode.result 0 ≡ need_of c.as_index-opcode.result) = (entry_in c.as_index-opcode.result c.if-opcode-gt255.false c.requires) in
-    c.if-wants.false (entry_is ∙ q)
+known c q = c.if-wants.false (c.need_of-wants.ensures ∙ q)
 
 some : (o : After-as_index-opcode) → 1 ≤ length o.args.words.now
 some o = o.if-words-lt1.false
@@ -42,12 +36,9 @@ pub returns-then-opcode-gt255 : goal.returns-then-opcode-gt255
 returns-then-opcode-gt255 c = let l = c.args.words.now in
     sym (no_opcode (length l) c.as_index-opcode.result _ (some (goal.at.returns-then-opcode-gt255 c).After-as_index-opcode) c.if-opcode-gt255.true) ∙ by_opcode l (op_is (goal.at.returns-then-opcode-gt255 c).After-as_index-opcode)
 
-pub bounds-needs-opcode : goal.bounds-needs-opcode
-bounds-needs-opcode c = in_table c.as_index-opcode.result c.if-opcode-gt255.false c.requires
-
 pub returns-then-wants : goal.returns-then-wants
 returns-then-wants c = let l = c.args.words.now in
-    sym (not_known (length l) c.as_index-opcode.result _ (some (goal.at.returns-then-wants c).After-as_index-opcode) c.if-opcode-gt255.false (sym (entry_is (goal.at.returns-then-wants c).After-shared_slice_known-2-1) ∙ c.if-wants.true)) ∙ by_opcode l (op_is (goal.at.returns-then-wants c).After-as_index-opcode)
+    sym (not_known (length l) c.as_index-opcode.result _ (some (goal.at.returns-then-wants c).After-as_index-opcode) c.if-opcode-gt255.false (sym c.need_of-wants.ensures ∙ c.if-wants.true)) ∙ by_opcode l (op_is (goal.at.returns-then-wants c).After-as_index-opcode)
 
 pub returns-then-words-lt2 : goal.returns-then-words-lt2
 returns-then-words-lt2 c = let l = c.args.words.now in

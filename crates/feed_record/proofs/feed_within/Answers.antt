@@ -7,15 +7,15 @@ use Rattle.feed_record.proofs.feed_within.Goals as goal
 
 pub feed_whole-requires : goal.feed_whole-requires
 feed_whole-requires c =
-    let all = within c.args.bytes.now _ (sym c.open-opened.ensures ∙ c.in-Whole.is) in
+    let all = within c.args.bytes.now _ (sym c.open-opened.ensures ∙ c.in-Ok.is) in
     record { points_le_point_room = all.0; contours_le_list_room = all.1.0; twilight_le_twilight_room = all.1.1.0; controls_le_list_room = all.1.1.1.0; words_le_list_room = all.1.1.1.1 }
 
-pub returns-in-Damaged : goal.returns-in-Damaged
-returns-in-Damaged c e =
+pub returns-in-Err : goal.returns-in-Err
+returns-in-Err c e =
     let a = c.args in
-    damaged a.rules a.most a.bytes.now a.out.now _ (sym c.open-opened.ensures ∙ c.in-Damaged.is) (c.told.ensures ∙ c.refuse.ensures ∙ ap refused_as c.number.ensures)
+    damaged a.rules a.most a.bytes.now a.out.now _ (sym c.open-opened.ensures ∙ c.in-Err.is) (c.told.ensures ∙ c.refuse.ensures ∙ ap refused_as c.number.ensures)
 
-pub returns-in-Whole : goal.returns-in-Whole
-returns-in-Whole c e =
+pub returns-in-Ok : goal.returns-in-Ok
+returns-in-Ok c e =
     let a = c.args in
-    opened a.rules a.most a.bytes.now a.out.now _ (sym c.open-opened.ensures ∙ c.in-Whole.is) (c.feed_whole.ensures e)
+    opened a.rules a.most a.bytes.now a.out.now _ (sym c.open-opened.ensures ∙ c.in-Ok.is) (c.feed_whole.ensures e)

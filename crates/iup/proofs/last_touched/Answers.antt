@@ -1,13 +1,15 @@
--- `iup::last_touched` meets its contract. The invariant: the last touched point of all is that of the first n. Assumes nothing.
-use mathlib.Core.Path.{sym, ◌∙◌}
-use borrow.Author.Rules.{rules}
+-- `iup::last_touched` meets its contract. The invariant: the last touched point of all is that of the first i. Assumes nothing.
+use mathlib.Core.Path.{◌≡◌, sym, ◌∙◌}
+use Prim.Native.Nat.{◌+◌, ◌-◌}
+use native.Mathlib.Omega.{arith}
 use Rattle.iup.proofs.Search.{last_hit, last_miss}
 use Rattle.iup.proofs.last_touched.Goals as goal
 
 pub returns-then-has_any : goal.returns-then-has_any
-returns-then-has_any c = let v = c.loop-n in let a = c.args in
-    last_hit a.mask a.flags.now v.n c.loop-n-test.true v.invariant.0 (sym c.has_any.ensures ∙ c.if-has_any.true) ∙ v.invariant.1
+returns-then-has_any c = let v = c.loop-i in let a = c.args in
+    let here : v.i - 1 + 1 ≡ v.i = omega arith in
+    here ∙ last_hit a.mask a.flags.now v.i (omega arith) (omega arith) (sym c.has_any.ensures ∙ c.if-has_any.true) ∙ v.invariant
 
-pub loop-n-preserved : goal.loop-n-preserved
-loop-n-preserved c = let v = c.loop-n in let a = c.args in
-    (search rules, last_miss a.mask a.flags.now v.n c.loop-n-test.true v.invariant.0 (sym c.has_any.ensures ∙ c.if-has_any.false) ∙ v.invariant.1)
+pub loop-i-preserved : goal.loop-i-preserved
+loop-i-preserved c = let v = c.loop-i in let a = c.args in
+    last_miss a.mask a.flags.now v.i (omega arith) (omega arith) (sym c.has_any.ensures ∙ c.if-has_any.false) ∙ v.invariant

@@ -2,7 +2,6 @@
 -- Assumes nothing.
 use Prim.Native.Nat.{◌-◌}
 use lib.ListN.{length}
-use Rattle.iup.proofs.Spans.{before}
 use Rattle.iup.proofs.Spread.{Spreading}
 use Rattle.iup.specs.Contour.{spread, points_of}
 use Rattle.iup.proofs.spread_out.Given as goal

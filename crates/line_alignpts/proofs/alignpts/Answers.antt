@@ -28,10 +28,10 @@ fetch_in-here-requires c = (c.requires.0, c.requires.2)
 pub move_both-call-requires : goal.move_both-call-requires
 move_both-call-requires c = c.requires
 
-pub returns-in-Refused : goal.returns-in-Refused
-returns-in-Refused c = λ f opcode tox toy. alignpts_out f opcode c.args.operands.now (entry (goal.at.returns-in-Refused c).Start tox toy) c.if-operands-lt2.false c.index_at-first.ensures c.index_at-second.ensures c.fetch_in-there.ensures c.fetch_in-here.ensures
-    c.half_apart-apart.ensures c.in-Refused.is (ap (into (entry (goal.at.returns-in-Refused c).Start tox toy)) c.refused-in-Refused.ensures)
+pub returns-in-Err : goal.returns-in-Err
+returns-in-Err c = λ f opcode tox toy. alignpts_out f opcode c.args.operands.now (entry (goal.at.returns-in-Err c).Start tox toy) c.if-operands-lt2.false c.index_at-first.ensures c.index_at-second.ensures c.fetch_in-there.ensures c.fetch_in-here.ensures
+    c.half_apart-apart.ensures c.in-Err.is (ap (into (entry (goal.at.returns-in-Err c).Start tox toy)) c.refused-in-Err.ensures)
 
-pub returns-in-Distance : goal.returns-in-Distance
-returns-in-Distance c = λ f opcode tox toy. in_words c.by_words.ensures (alignpts_moved f opcode c.args.operands.now (entry (goal.at.returns-in-Distance c).Start tox toy) c.if-operands-lt2.false c.index_at-first.ensures c.index_at-second.ensures c.fetch_in-there.ensures c.fetch_in-here.ensures
-    c.half_apart-apart.ensures c.in-Distance.is (back32 _ (omega (arith, c.in-Distance.known_told-in-Distance-1-own.given))) (c.move_both-call.ensures tox toy))
+pub returns-in-Ok : goal.returns-in-Ok
+returns-in-Ok c = λ f opcode tox toy. in_words c.by_words.ensures (alignpts_moved f opcode c.args.operands.now (entry (goal.at.returns-in-Ok c).Start tox toy) c.if-operands-lt2.false c.index_at-first.ensures c.index_at-second.ensures c.fetch_in-there.ensures c.fetch_in-here.ensures
+    c.half_apart-apart.ensures c.in-Ok.is (back32 _ (omega (arith, c.in-Ok.known_told-in-Ok-1-own.given))) (c.move_both-call.ensures tox toy))

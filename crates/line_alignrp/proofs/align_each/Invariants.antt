@@ -1,14 +1,8 @@
 -- `line_alignrp::align_each` meets its contract. The invariant: what is left to do from k on is the whole (`Left`). Assumes nothing.
-use mathlib.Core.Path.{◌≡◌}
-use Prim.Native.Nat.{◌-◌}
-use lib.ListN.{length}
 use Rattle.line_alignrp.specs.Loop.{align_at}
 use Rattle.line_steps.proofs.Walk.{Left}
 use Rattle.line_steps.specs.Loop.{zones}
 use Rattle.line_alignrp.proofs.align_each.Given as goal
 
 abbrev pub invariant-loop-k : goal.invariant-loop-k
-invariant-loop-k l = Left (align_at l.s) l.count l.operands (zones l.initial.gx l.initial.gy l.initial.gflags l.initial.tx l.initial.ty l.initial.tflags) l.k (zones l.gx l.gy l.gflags l.tx l.ty l.tflags) × (length l.gx ≡ length l.initial.gx) × (length l.gy ≡ length l.initial.gy) × (length l.gflags ≡ length l.initial.gflags) × (length l.tx ≡ length l.initial.tx) × (length l.ty ≡ length l.initial.ty) × (length l.tflags ≡ length l.initial.tflags)
-
-abbrev pub decreases-loop-k : goal.decreases-loop-k
-decreases-loop-k l = l.count - l.k
+invariant-loop-k l = Left (align_at l.s) l.count l.operands (zones l.initial.gx l.initial.gy l.initial.gflags l.initial.tx l.initial.ty l.initial.tflags) l.k (zones l.gx l.gy l.gflags l.tx l.ty l.tflags)

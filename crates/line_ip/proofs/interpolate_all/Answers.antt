@@ -24,13 +24,13 @@ fetch_in-near-requires c = (c.requires.0, c.requires.2)
 pub fetch_in-far-requires : goal.fetch_in-far-requires
 fetch_in-far-requires c = (c.requires.0, c.requires.2)
 
-pub returns-in-Refused : goal.returns-in-Refused
-returns-in-Refused c = near_out c.args.s (outline_of (goal.at.returns-in-Refused c).Start (any_twilight c.args.s.pointers)) c.args.operands.now (lent (goal.at.returns-in-Refused c).Start) c.fetch_in-near.ensures c.in-Refused.is c.let_pass.ensures
+pub returns-in-Err : goal.returns-in-Err
+returns-in-Err c = near_out c.args.s (outline_of (goal.at.returns-in-Err c).Start (any_twilight c.args.s.pointers)) c.args.operands.now (lent (goal.at.returns-in-Err c).Start) c.fetch_in-near.ensures c.in-Err.is c.let_pass.ensures
 
-pub returns-in-Refused-far : goal.returns-in-Refused-far
-returns-in-Refused-far c = far_out c.args.s (outline_of (goal.at.returns-in-Refused-far c).Start (any_twilight c.args.s.pointers)) c.args.operands.now (lent (goal.at.returns-in-Refused-far c).Start) c.fetch_in-near.ensures c.in-At.is c.fetch_in-far.ensures c.in-Refused-far.is c.let_pass-in-Refused-far.ensures
+pub returns-in-Err-far : goal.returns-in-Err-far
+returns-in-Err-far c = far_out c.args.s (outline_of (goal.at.returns-in-Err-far c).Start (any_twilight c.args.s.pointers)) c.args.operands.now (lent (goal.at.returns-in-Err-far c).Start) c.fetch_in-near.ensures c.in-Ok.is c.fetch_in-far.ensures c.in-Err-far.is c.let_pass-in-Err-far.ensures
 
-pub returns-in-At-far : goal.returns-in-At-far
-returns-in-At-far c = both_there c.args.s (outline_of (goal.at.returns-in-At-far c).Start c.any_twilight-twilight.result) c.args.operands.now (lent (goal.at.returns-in-At-far c).Start) c.fetch_in-near.ensures c.in-At.is c.fetch_in-far.ensures c.in-At-far.is
+pub returns-in-Ok-far : goal.returns-in-Ok-far
+returns-in-Ok-far c = both_there c.args.s (outline_of (goal.at.returns-in-Ok-far c).Start c.any_twilight-twilight.result) c.args.operands.now (lent (goal.at.returns-in-Ok-far c).Start) c.fetch_in-near.ensures c.in-Ok.is c.fetch_in-far.ensures c.in-Ok-far.is
     c.outline_place-original.ensures c.outline_place-far_original.ensures c.stretch_of-t.ensures c.interpolate_each.ensures
-    ∙ ap (λ (twilight : Bool). interpolate_all c.args.s (outline_of (goal.at.returns-in-At-far c).Start twilight) c.args.operands.now (lent (goal.at.returns-in-At-far c).Start)) c.any_twilight-twilight.ensures
+    ∙ ap (λ (twilight : Bool). interpolate_all c.args.s (outline_of (goal.at.returns-in-Ok-far c).Start twilight) c.args.operands.now (lent (goal.at.returns-in-Ok-far c).Start)) c.any_twilight-twilight.ensures

@@ -17,14 +17,14 @@ entry s tox toy = let a = s.args in
 pub returns-then-operands-lt5 : goal.returns-then-operands-lt5
 returns-then-operands-lt5 c = λ f opcode tox toy. isect_missing f opcode c.args.operands.now (entry (goal.at.returns-then-operands-lt5 c).Start tox toy) c.if-operands-lt5.true (ap (into (entry (goal.at.returns-then-operands-lt5 c).Start tox toy)) c.refused.ensures)
 
-pub returns-in-Refused : goal.returns-in-Refused
-returns-in-Refused c = λ f opcode tox toy. isect_out f opcode c.args.operands.now (entry (goal.at.returns-in-Refused c).Start tox toy) c.if-operands-lt5.false c.index_at-b1.ensures c.index_at-b0.ensures c.index_at-a1.ensures c.index_at-a0.ensures c.index_at-at.ensures
+pub returns-in-Err : goal.returns-in-Err
+returns-in-Err c = λ f opcode tox toy. isect_out f opcode c.args.operands.now (entry (goal.at.returns-in-Err c).Start tox toy) c.if-operands-lt5.false c.index_at-b1.ensures c.index_at-b0.ensures c.index_at-a1.ensures c.index_at-a0.ensures c.index_at-at.ensures
     (c.meeting-met.ensures c.args.s c.args.gflags.now tox toy c.args.tflags.now)
-    c.in-Refused.is
-    (ap (into (entry (goal.at.returns-in-Refused c).Start tox toy)) c.refused-in-Refused.ensures)
+    c.in-Err.is
+    (ap (into (entry (goal.at.returns-in-Err c).Start tox toy)) c.refused-in-Err.ensures)
 
-pub returns-in-At : goal.returns-in-At
-returns-in-At c = λ f opcode tox toy. in_words c.by_words.ensures (isect_put f opcode c.args.operands.now (entry (goal.at.returns-in-At c).Start tox toy) c.if-operands-lt5.false c.index_at-b1.ensures c.index_at-b0.ensures c.index_at-a1.ensures c.index_at-a0.ensures c.index_at-at.ensures
+pub returns-in-Ok : goal.returns-in-Ok
+returns-in-Ok c = λ f opcode tox toy. in_words c.by_words.ensures (isect_put f opcode c.args.operands.now (entry (goal.at.returns-in-Ok c).Start tox toy) c.if-operands-lt5.false c.index_at-b1.ensures c.index_at-b0.ensures c.index_at-a1.ensures c.index_at-a0.ensures c.index_at-at.ensures
     (c.meeting-met.ensures c.args.s c.args.gflags.now tox toy c.args.tflags.now)
-    c.in-At.is
+    c.in-Ok.is
     c.put_in-call.ensures)

@@ -18,16 +18,16 @@ returns-in_default c = let a = c.args in
 
 pub returns-in_default-two : goal.returns-in_default-two
 returns-in_default-two c = let a = c.args in
-    λ s gflags tox toy tflags rest. a1_out a.zone_a a.a0 a.a1 a.zone_b a.b0 a.b1 (entry (goal.at.returns-in_default-two c).Start s gflags tox toy tflags) rest c.fetch_in-one.ensures c.in-At.is c.fetch_in-two.ensures c.in_default-two.is
+    λ s gflags tox toy tflags rest. a1_out a.zone_a a.a0 a.a1 a.zone_b a.b0 a.b1 (entry (goal.at.returns-in_default-two c).Start s gflags tox toy tflags) rest c.fetch_in-one.ensures c.in-Ok.is c.fetch_in-two.ensures c.in_default-two.is
 
 pub returns-in_default-three : goal.returns-in_default-three
 returns-in_default-three c = let a = c.args in
-    λ s gflags tox toy tflags rest. b0_out a.zone_a a.a0 a.a1 a.zone_b a.b0 a.b1 (entry (goal.at.returns-in_default-three c).Start s gflags tox toy tflags) rest c.fetch_in-one.ensures c.in-At.is c.fetch_in-two.ensures c.in-At-two.is c.fetch_in-three.ensures c.in_default-three.is
+    λ s gflags tox toy tflags rest. b0_out a.zone_a a.a0 a.a1 a.zone_b a.b0 a.b1 (entry (goal.at.returns-in_default-three c).Start s gflags tox toy tflags) rest c.fetch_in-one.ensures c.in-Ok.is c.fetch_in-two.ensures c.in-Ok-two.is c.fetch_in-three.ensures c.in_default-three.is
 
 pub returns-in_default-four : goal.returns-in_default-four
 returns-in_default-four c = let a = c.args in
-    λ s gflags tox toy tflags rest. b1_out a.zone_a a.a0 a.a1 a.zone_b a.b0 a.b1 (entry (goal.at.returns-in_default-four c).Start s gflags tox toy tflags) rest c.fetch_in-one.ensures c.in-At.is c.fetch_in-two.ensures c.in-At-two.is c.fetch_in-three.ensures c.in-At-three.is c.fetch_in-four.ensures c.in_default-four.is
+    λ s gflags tox toy tflags rest. b1_out a.zone_a a.a0 a.a1 a.zone_b a.b0 a.b1 (entry (goal.at.returns-in_default-four c).Start s gflags tox toy tflags) rest c.fetch_in-one.ensures c.in-Ok.is c.fetch_in-two.ensures c.in-Ok-two.is c.fetch_in-three.ensures c.in-Ok-three.is c.fetch_in-four.ensures c.in_default-four.is
 
 pub returns : goal.returns
 returns c = let a = c.args in
-    λ s gflags tox toy tflags rest. lines_meet a.zone_a a.a0 a.a1 a.zone_b a.b0 a.b1 (entry (goal.at.returns c).Start s gflags tox toy tflags) rest c.fetch_in-one.ensures c.in-At.is c.fetch_in-two.ensures c.in-At-two.is c.fetch_in-three.ensures c.in-At-three.is c.fetch_in-four.ensures c.in-At-four.is c.crossing.ensures
+    λ s gflags tox toy tflags rest. lines_meet a.zone_a a.a0 a.a1 a.zone_b a.b0 a.b1 (entry (goal.at.returns c).Start s gflags tox toy tflags) rest c.fetch_in-one.ensures c.in-Ok.is c.fetch_in-two.ensures c.in-Ok-two.is c.fetch_in-three.ensures c.in-Ok-three.is c.fetch_in-four.ensures c.in-Ok-four.is c.crossing.ensures

@@ -22,14 +22,14 @@ returns-then-operands-lt1 c = λ f tox toy. mdap_missing f c.args.opcode c.args.
 pub apply_in-call-requires : goal.apply_in-call-requires
 apply_in-call-requires c = c.requires
 
-pub returns-in-Refused : goal.returns-in-Refused
-returns-in-Refused c = λ f tox toy. mdap_outside f c.args.opcode c.args.operands.now (entry (goal.at.returns-in-Refused c).Start tox toy) c.if-operands-lt1.false c.index_at-at.ensures (c.fetch_in-here.ensures ∙ ap (fetch_in _ _ _ _ _) c.zp0-zp0.ensures) c.in-Refused.is
-    (c.outside_mdap.ensures (entry (goal.at.returns-in-Refused c).Start tox toy))
+pub returns-in-Err : goal.returns-in-Err
+returns-in-Err c = λ f tox toy. mdap_outside f c.args.opcode c.args.operands.now (entry (goal.at.returns-in-Err c).Start tox toy) c.if-operands-lt1.false c.index_at-at.ensures (c.fetch_in-here.ensures ∙ ap (fetch_in _ _ _ _ _) c.zp0-zp0.ensures) c.in-Err.is
+    (c.outside_mdap.ensures (entry (goal.at.returns-in-Err c).Start tox toy))
 
-pub returns-in-At : goal.returns-in-At
-returns-in-At c = λ f tox toy. mdap_moved f c.args.opcode c.args.operands.now (entry (goal.at.returns-in-At c).Start tox toy) c.if-operands-lt1.false c.index_at-at.ensures (c.fetch_in-here.ensures ∙ ap (fetch_in _ _ _ _ _) c.zp0-zp0.ensures) c.in-At.is
+pub returns-in-Ok : goal.returns-in-Ok
+returns-in-Ok c = λ f tox toy. mdap_moved f c.args.opcode c.args.operands.now (entry (goal.at.returns-in-Ok c).Start tox toy) c.if-operands-lt1.false c.index_at-at.ensures (c.fetch_in-here.ensures ∙ ap (fetch_in _ _ _ _ _) c.zp0-zp0.ensures) c.in-Ok.is
     c.is_odd.ensures
     c.mdap_distance-distance.ensures (back32 c.mdap_distance-distance.result.word (omega (arith, c.struct_told-1.given)))
     c.move_of-m.ensures
     (c.apply_in-call.ensures ∙ ap (apply_in _ _ _ _ _ _ _ _) c.zp0-zp0.ensures)
-    (c.settle.ensures (with_points (entry (goal.at.returns-in-At c).Start tox toy) (both_moved c.apply_in-call.result _ _ _ _ _ _)))
+    (c.settle.ensures (with_points (entry (goal.at.returns-in-Ok c).Start tox toy) (both_moved c.apply_in-call.result _ _ _ _ _ _)))

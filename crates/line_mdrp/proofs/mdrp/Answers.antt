@@ -24,8 +24,8 @@ held s rules controls contours = let a = s.args in fixed rules controls a.gux.no
 pub returns-then-operands-lt1 : goal.returns-then-operands-lt1
 returns-then-operands-lt1 c = λ rules controls contours. mdrp_missing (held (goal.at.returns-then-operands-lt1 c).Start rules controls contours) c.args.opcode c.args.operands.now (entry (goal.at.returns-then-operands-lt1 c).Start) c.if-operands-lt1.true (ap (into (entry (goal.at.returns-then-operands-lt1 c).Start)) c.refused.ensures)
 
-pub returns-in-Refused : goal.returns-in-Refused
-returns-in-Refused c = λ rules controls contours. mdrp_outside (held (goal.at.returns-in-Refused c).Start rules controls contours) c.args.opcode c.args.operands.now (entry (goal.at.returns-in-Refused c).Start) c.if-operands-lt1.false
+pub returns-in-Err : goal.returns-in-Err
+returns-in-Err c = λ rules controls contours. mdrp_outside (held (goal.at.returns-in-Err c).Start rules controls contours) c.args.opcode c.args.operands.now (entry (goal.at.returns-in-Err c).Start) c.if-operands-lt1.false
     c.index_at-at.ensures
     c.zp0-zp0.ensures
     c.zp1-zp1.ensures
@@ -33,11 +33,11 @@ returns-in-Refused c = λ rules controls contours. mdrp_outside (held (goal.at.r
     c.size_of-firsts.ensures
     c.size_of-seconds.ensures
     c.both_inside-there.ensures
-    c.in-Refused.is
-    (c.relate_or.ensures (entry (goal.at.returns-in-Refused c).Start))
+    c.in-Err.is
+    (c.relate_or.ensures (entry (goal.at.returns-in-Err c).Start))
 
-pub returns-in-Done : goal.returns-in-Done
-returns-in-Done c = λ rules controls contours. mdrp_moved (held (goal.at.returns-in-Done c).Start rules controls contours) c.args.opcode c.args.operands.now (entry (goal.at.returns-in-Done c).Start) c.if-operands-lt1.false
+pub returns-in-Ok : goal.returns-in-Ok
+returns-in-Ok c = λ rules controls contours. mdrp_moved (held (goal.at.returns-in-Ok c).Start rules controls contours) c.args.opcode c.args.operands.now (entry (goal.at.returns-in-Ok c).Start) c.if-operands-lt1.false
     c.index_at-at.ensures
     c.zp0-zp0.ensures
     c.zp1-zp1.ensures
@@ -45,7 +45,7 @@ returns-in-Done c = λ rules controls contours. mdrp_moved (held (goal.at.return
     c.size_of-firsts.ensures
     c.size_of-seconds.ensures
     c.both_inside-there.ensures
-    c.in-Done.is
+    c.in-Ok.is
     (back32 c.args.s.measures.scale (omega (arith, c.struct_told-1.given)))
     (back32 c.outline_apart-outline.result c.outline_apart-outline.type_inv ∙ c.outline_apart-outline.ensures)
     c.mdrp_distance-distance.ensures
@@ -53,7 +53,7 @@ returns-in-Done c = λ rules controls contours. mdrp_moved (held (goal.at.return
     c.place_alike_in-reference.ensures
     (back32 c.project.result c.project.type_inv ∙ c.project.ensures)
     c.step_from-by.ensures
-    (back32 c.step_from-by.result.word (omega (arith, c.struct_told-in-Done-1.given)))
+    (back32 c.step_from-by.result.word (omega (arith, c.struct_told-in-Ok-1.given)))
     c.move_of-m.ensures
     c.apply_in-call.ensures
-    (c.settle_relative.ensures (with_points (entry (goal.at.returns-in-Done c).Start) (both_moved c.apply_in-call.result _ _ _ _ _ _)))
+    (c.settle_relative.ensures (with_points (entry (goal.at.returns-in-Ok c).Start) (both_moved c.apply_in-call.result _ _ _ _ _ _)))

@@ -1,17 +1,18 @@
 -- `line_measure::apart` meets its contract: by where the two points were found, the first first. Assumes nothing.
 use mathlib.Core.Path.{◌∙◌}
+use Rattle.answer.proofs.Passed.{passed_on}
 use Rattle.int.proofs.Words.{back32}
 use Rattle.line_measure.proofs.Cases.{both_there, first_out, second_out}
 use Rattle.line_measure.proofs.apart.Goals as goal
 
-pub returns-in-Refused : goal.returns-in-Refused
-returns-in-Refused c = let a = c.args in
-    first_out a.v a.second c.in-Refused.is
+pub returns-in_err-here : goal.returns-in_err-here
+returns-in_err-here c = let a = c.args in
+    passed_on _ c.from_residual.ensures.1 ∙ first_out a.v a.second c.in_err-here.was
 
-pub returns-in-Refused-second : goal.returns-in-Refused-second
-returns-in-Refused-second c = let a = c.args in
-    second_out a.v c.in-At.is c.in-Refused-second.is
+pub returns-in_err-there : goal.returns-in_err-there
+returns-in_err-there c = let a = c.args in
+    passed_on _ c.from_residual-in_err-there.ensures.1 ∙ second_out a.v c.in_ok-here.was c.in_err-there.was
 
-pub returns-in-At-second : goal.returns-in-At-second
-returns-in-At-second c = let a = c.args in
-    both_there a.v c.in-At.is c.in-At-second.is (back32 c.along.result c.along.type_inv ∙ c.along.ensures)
+pub returns : goal.returns
+returns c = let a = c.args in
+    both_there a.v c.in_ok-here.was c.in_ok-there.was (back32 c.along.result c.along.type_inv ∙ c.along.ensures)

@@ -8,10 +8,10 @@ use Rattle.line_measure.specs.Steps.{by_measured}
 use Rattle.line_measure.proofs.Cases.{pushed_read}
 use Rattle.line_measure.proofs.settle_measured.Goals as goal
 
-pub returns-in-Distance : goal.returns-in-Distance
-returns-in-Distance c = let a = c.args in
-    λ w. pushed_read (in_state w a.s) c.in-Distance.is (back32 _ (omega (arith, c.in-Distance.known_told-1-own.given))) (ap (into w) (c.done.ensures ∙ ap done_with c.with_push.ensures))
+pub returns-in-Ok : goal.returns-in-Ok
+returns-in-Ok c = let a = c.args in
+    λ w. pushed_read (in_state w a.s) c.in-Ok.is (back32 _ (omega (arith, c.in-Ok.known_told-1-own.given))) (ap (into w) (c.done.ensures ∙ ap done_with c.with_push.ensures))
 
-pub returns-in-Refused : goal.returns-in-Refused
-returns-in-Refused c = let a = c.args in
-    λ w. c.zero_or.ensures w ∙ sym (ap (by_measured (in_state w a.s)) c.in-Refused.is)
+pub returns-in-Err : goal.returns-in-Err
+returns-in-Err c = let a = c.args in
+    λ w. c.zero_or.ensures w ∙ sym (ap (by_measured (in_state w a.s)) c.in-Err.is)

@@ -28,20 +28,20 @@ returns-then-operands-lt2 c = λ rules gux guy gox goy contours. miap_missing (f
 pub returns-then-controls-i : goal.returns-then-controls-i
 returns-then-controls-i c = λ rules gux guy gox goy contours. miap_no_control (fixed rules c.args.controls.now gux guy gox goy contours) c.args.opcode c.args.operands.now (entry (goal.at.returns-then-controls-i c).Start) c.if-operands-lt2.false c.index_at-entry.ensures c.if-controls-i.true (ap (into (entry (goal.at.returns-then-controls-i c).Start)) c.refused-then-controls-i.ensures)
 
-pub returns-in-Refused : goal.returns-in-Refused
-returns-in-Refused c = λ rules gux guy gox goy contours. miap_outside (fixed rules c.args.controls.now gux guy gox goy contours) c.args.opcode c.args.operands.now (entry (goal.at.returns-in-Refused c).Start) c.if-operands-lt2.false c.index_at-entry.ensures c.index_at-at.ensures c.if-controls-i.false
-    (back32 (get_or c.args.controls.now c.index_at-entry.result (pos 0)) c.control-1.given) (made (goal.at.returns-in-Refused c).After-fetch_in-here) (c.make_in.ensures c.args.s c.args.gx.now c.args.gy.now c.args.gflags.now c.args.tflags.now ∙ ap (made_in _ _ _) c.zp0-zp0.ensures)
-    (c.fetch_in-here.ensures ∙ ap (fetch_in _ _ _ _ _) c.zp0-zp0.ensures) c.in-Refused.is
-    (ap (into (made (goal.at.returns-in-Refused c).After-fetch_in-here)) c.refused-in-Refused.ensures)
+pub returns-in-Err : goal.returns-in-Err
+returns-in-Err c = λ rules gux guy gox goy contours. miap_outside (fixed rules c.args.controls.now gux guy gox goy contours) c.args.opcode c.args.operands.now (entry (goal.at.returns-in-Err c).Start) c.if-operands-lt2.false c.index_at-entry.ensures c.index_at-at.ensures c.if-controls-i.false
+    (back32 (get_or c.args.controls.now c.index_at-entry.result (pos 0)) c.control-1.given) (made (goal.at.returns-in-Err c).After-fetch_in-here) (c.make_in.ensures c.args.s c.args.gx.now c.args.gy.now c.args.gflags.now c.args.tflags.now ∙ ap (made_in _ _ _) c.zp0-zp0.ensures)
+    (c.fetch_in-here.ensures ∙ ap (fetch_in _ _ _ _ _) c.zp0-zp0.ensures) c.in-Err.is
+    (ap (into (made (goal.at.returns-in-Err c).After-fetch_in-here)) c.refused-in-Err.ensures)
 
-pub returns-in-At : goal.returns-in-At
-returns-in-At c = λ rules gux guy gox goy contours. miap_moved (fixed rules c.args.controls.now gux guy gox goy contours) c.args.opcode c.args.operands.now (entry (goal.at.returns-in-At c).Start) c.if-operands-lt2.false c.index_at-entry.ensures c.index_at-at.ensures c.if-controls-i.false
-    (back32 (get_or c.args.controls.now c.index_at-entry.result (pos 0)) c.control-1.given) (made (goal.at.returns-in-At c).After-fetch_in-here) (c.make_in.ensures c.args.s c.args.gx.now c.args.gy.now c.args.gflags.now c.args.tflags.now ∙ ap (made_in _ _ _) c.zp0-zp0.ensures)
-    (c.fetch_in-here.ensures ∙ ap (fetch_in _ _ _ _ _) c.zp0-zp0.ensures) c.in-At.is
+pub returns-in-Ok : goal.returns-in-Ok
+returns-in-Ok c = λ rules gux guy gox goy contours. miap_moved (fixed rules c.args.controls.now gux guy gox goy contours) c.args.opcode c.args.operands.now (entry (goal.at.returns-in-Ok c).Start) c.if-operands-lt2.false c.index_at-entry.ensures c.index_at-at.ensures c.if-controls-i.false
+    (back32 (get_or c.args.controls.now c.index_at-entry.result (pos 0)) c.control-1.given) (made (goal.at.returns-in-Ok c).After-fetch_in-here) (c.make_in.ensures c.args.s c.args.gx.now c.args.gy.now c.args.gflags.now c.args.tflags.now ∙ ap (made_in _ _ _) c.zp0-zp0.ensures)
+    (c.fetch_in-here.ensures ∙ ap (fetch_in _ _ _ _ _) c.zp0-zp0.ensures) c.in-Ok.is
     (back32 c.from_origin-own.result c.from_origin-own.type_inv ∙ c.from_origin-own.ensures)
     c.is_odd.ensures
     (back32 c.args.s.measures.cut_in (omega (arith, c.struct_told-1.given)))
-    c.miap_distance-distance.ensures (back32 c.miap_distance-distance.result.word (omega (arith, c.struct_told-in-At-1.given)))
+    c.miap_distance-distance.ensures (back32 c.miap_distance-distance.result.word (omega (arith, c.struct_told-in-Ok-1.given)))
     c.move_of-m.ensures
     (c.apply_in-call.ensures ∙ ap (apply_in _ _ _ _ _ _ _ _) c.zp0-zp0.ensures)
-    (c.settle.ensures (with_points (made (goal.at.returns-in-At c).After-fetch_in-here) (both_moved c.apply_in-call.result _ _ _ _ _ _)))
+    (c.settle.ensures (with_points (made (goal.at.returns-in-Ok c).After-fetch_in-here) (both_moved c.apply_in-call.result _ _ _ _ _ _)))

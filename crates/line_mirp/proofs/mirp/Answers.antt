@@ -39,28 +39,28 @@ apply_in-call-requires c = let p = c.requires in
     let tx = c.make_in.auto.tx in
     (p.0, p.1, c.make_in.auto.ty ∙ p.2 ∙ sym tx, p.3 ∙ sym tx)
 
-pub returns-in-Refused : goal.returns-in-Refused
-returns-in-Refused c = λ rules gux guy contours. mirp_outside (held (goal.at.returns-in-Refused c).Start rules gux guy contours) c.args.opcode c.args.operands.now (entry (goal.at.returns-in-Refused c).Start) c.if-operands-lt2.false
+pub returns-in-Err : goal.returns-in-Err
+returns-in-Err c = λ rules gux guy contours. mirp_outside (held (goal.at.returns-in-Err c).Start rules gux guy contours) c.args.opcode c.args.operands.now (entry (goal.at.returns-in-Err c).Start) c.if-operands-lt2.false
     c.next_at-next.ensures
     c.index_at-at.ensures
     c.zp0-zp0.ensures
     c.zp1-zp1.ensures
     c.sets_rp0-sets.ensures
     c.mirp_found-found.ensures
-    c.in-Refused.is
-    (c.relate_or.ensures (entry (goal.at.returns-in-Refused c).Start))
+    c.in-Err.is
+    (c.relate_or.ensures (entry (goal.at.returns-in-Err c).Start))
 
-pub returns-in-Distance : goal.returns-in-Distance
-returns-in-Distance c = λ rules gux guy contours. mirp_moved (held (goal.at.returns-in-Distance c).Start rules gux guy contours) c.args.opcode c.args.operands.now (entry (goal.at.returns-in-Distance c).Start) c.if-operands-lt2.false
+pub returns-in-Ok : goal.returns-in-Ok
+returns-in-Ok c = λ rules gux guy contours. mirp_moved (held (goal.at.returns-in-Ok c).Start rules gux guy contours) c.args.opcode c.args.operands.now (entry (goal.at.returns-in-Ok c).Start) c.if-operands-lt2.false
     c.next_at-next.ensures
     c.index_at-at.ensures
     c.zp0-zp0.ensures
     c.zp1-zp1.ensures
     c.sets_rp0-sets.ensures
     c.mirp_found-found.ensures
-    (made_world (goal.at.returns-in-Distance c).After-make_in)
-    c.in-Distance.is
-    (back32 c.in-Distance.control (omega (arith, c.in-Distance.known_told-in-Distance-1-own.given)))
+    (made_world (goal.at.returns-in-Ok c).After-make_in)
+    c.in-Ok.is
+    (back32 c.in-Ok.control (omega (arith, c.in-Ok.known_told-in-Ok-1-own.given)))
     (c.make_in.ensures c.args.s c.args.gx.now c.args.gy.now c.args.gflags.now c.args.tflags.now)
     (back32 c.currents_apart-own.result c.currents_apart-own.type_inv ∙ c.currents_apart-own.ensures)
     (back32 c.originals_apart-original.result c.originals_apart-original.type_inv ∙ c.originals_apart-original.ensures)
@@ -70,4 +70,4 @@ returns-in-Distance c = λ rules gux guy contours. mirp_moved (held (goal.at.ret
     (back32 c.step_from-by.result.word (omega (arith, c.struct_told-1.given)))
     c.move_of-m.ensures
     c.apply_in-call.ensures
-    (c.settle_relative.ensures (with_points (made_world (goal.at.returns-in-Distance c).After-make_in) (both_moved c.apply_in-call.result _ _ _ _ _ _)))
+    (c.settle_relative.ensures (with_points (made_world (goal.at.returns-in-Ok c).After-make_in) (both_moved c.apply_in-call.result _ _ _ _ _ _)))

@@ -42,21 +42,21 @@ apply_in-call-requires c = let p = c.requires in
     let tx = c.make_in.auto.tx in
     (p.0, p.1, c.make_in.auto.ty ∙ p.2 ∙ sym tx, p.3 ∙ sym tx)
 
-pub returns-in-Refused : goal.returns-in-Refused
-returns-in-Refused c = λ controls gux guy contours. msirp_passed (held (goal.at.returns-in-Refused c).Start controls gux guy contours) c.args.opcode c.args.operands.now (entry (goal.at.returns-in-Refused c).Start) c.if-operands-lt2.false
+pub returns-in-Err : goal.returns-in-Err
+returns-in-Err c = λ controls gux guy contours. msirp_passed (held (goal.at.returns-in-Err c).Start controls gux guy contours) c.args.opcode c.args.operands.now (entry (goal.at.returns-in-Err c).Start) c.if-operands-lt2.false
     (back32 c.coordinate_or_0-distance.result c.coordinate_or_0-distance.type_inv ∙ c.coordinate_or_0-distance.ensures)
     c.index_at-at.ensures
     c.reach-there.ensures
-    c.in-Refused.is
-    (c.pass_over.ensures (entry (goal.at.returns-in-Refused c).Start))
+    c.in-Err.is
+    (c.pass_over.ensures (entry (goal.at.returns-in-Err c).Start))
 
-pub returns-in-Done : goal.returns-in-Done
-returns-in-Done c = λ controls gux guy contours. msirp_moved (held (goal.at.returns-in-Done c).Start controls gux guy contours) c.args.opcode c.args.operands.now (entry (goal.at.returns-in-Done c).Start) c.if-operands-lt2.false
+pub returns-in-Ok : goal.returns-in-Ok
+returns-in-Ok c = λ controls gux guy contours. msirp_moved (held (goal.at.returns-in-Ok c).Start controls gux guy contours) c.args.opcode c.args.operands.now (entry (goal.at.returns-in-Ok c).Start) c.if-operands-lt2.false
     (back32 c.coordinate_or_0-distance.result c.coordinate_or_0-distance.type_inv ∙ c.coordinate_or_0-distance.ensures)
     c.index_at-at.ensures
     c.reach-there.ensures
-    (made_world (goal.at.returns-in-Done c).After-make_in)
-    c.in-Done.is
+    (made_world (goal.at.returns-in-Ok c).After-make_in)
+    c.in-Ok.is
     (c.make_in.ensures c.args.s c.args.gx.now c.args.gy.now c.args.gflags.now c.args.tflags.now)
     c.place_alike_in-place.ensures
     c.place_alike_in-reference.ensures
@@ -64,4 +64,4 @@ returns-in-Done c = λ controls gux guy contours. msirp_moved (held (goal.at.ret
     c.move_of-m.ensures
     c.apply_in-call.ensures
     c.is_odd.ensures
-    (c.settle_relative.ensures (with_points (made_world (goal.at.returns-in-Done c).After-make_in) (both_moved c.apply_in-call.result _ _ _ _ _ _)))
+    (c.settle_relative.ensures (with_points (made_world (goal.at.returns-in-Ok c).After-make_in) (both_moved c.apply_in-call.result _ _ _ _ _ _)))

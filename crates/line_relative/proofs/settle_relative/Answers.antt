@@ -1,6 +1,7 @@
 -- `line_relative::settle_relative` meets its contract: by what the move said, in any world. Assumes nothing.
+use Rattle.std.specs.Prelude.{⊤, Result}
+use Rattle.answer.specs.declared.Refusal.{Refusal}
 use mathlib.Core.Path.{sym, ap, ◌∙◌}
-use Rattle.answer.specs.declared.Call.{Call}
 use Rattle.line.specs.Line.{done_with}
 use Rattle.line.specs.World.{Lined, World}
 use Rattle.line_steps.specs.Steps.{by_call, done_in, in_state, into, rounded_in}
@@ -9,12 +10,12 @@ use Rattle.line_relative.proofs.settle_relative.Goals as goal
 use Rattle.line_relative.proofs.settle_relative.Goals.{Start}
 
 -- what the line comes to, by what the move said
-abbrev settled : Start → World → Call → Lined
+abbrev settled : Start → World → Result ⊤ Refusal → Lined
 settled s w = let a = s.args in by_call (in_state w a.s) (λ (v : World). done_in (related a.sets a.at (rounded_in a.wrapped v)))
 
-pub returns-in-Done : goal.returns-in-Done
-returns-in-Done c = λ w. ap (into w) (c.done.ensures ∙ ap done_with (c.relate.ensures ∙ ap (related_by c.args.sets c.args.at) c.with_rounding.ensures))
-    ∙ sym (ap (settled (goal.at.returns-in-Done c).Start w) c.in-Done.is)
+pub returns-in-Ok : goal.returns-in-Ok
+returns-in-Ok c = λ w. ap (into w) (c.done.ensures ∙ ap done_with (c.relate.ensures ∙ ap (related_by c.args.sets c.args.at) c.with_rounding.ensures))
+    ∙ sym (ap (settled (goal.at.returns-in-Ok c).Start w) c.in-Ok.is)
 
-pub returns-in-Refused : goal.returns-in-Refused
-returns-in-Refused c = λ w. ap (into w) c.refused.ensures ∙ sym (ap (settled (goal.at.returns-in-Refused c).Start w) c.in-Refused.is)
+pub returns-in-Err : goal.returns-in-Err
+returns-in-Err c = λ w. ap (into w) c.refused.ensures ∙ sym (ap (settled (goal.at.returns-in-Err c).Start w) c.in-Err.is)

@@ -34,26 +34,26 @@ shift_one_in-call-requires c = let p = c.requires in (p.1, p.2, p.4, p.5)
 pub returns-then-count-eq1 : goal.returns-then-count-eq1
 returns-then-count-eq1 c = let s = c in
     λ rules controls gux guy contours. shp_shifted (held (goal.at.returns-then-count-eq1 c).Start rules controls gux guy contours) s.args.opcode s.args.operands.now (entry (goal.at.returns-then-count-eq1 c).Start) c.reference_of-reference.ensures c.displaced-by.ensures
-    c.in-By.is
+    c.in-Ok.is
     c.zp2_move_of-m.ensures
     (back32 _ (omega (arith, c.struct_told-1.given.1.1.0)))
-    (back32 _ (omega (arith, c.struct_told-in-By-1.given.1.1.1.0)))
+    (back32 _ (omega (arith, c.struct_told-in-Ok-1.given.1.1.1.0)))
     (ap (λ (s : GraphicsState). record { call = c.shift_one_in-call.result; state = s }) (c.by_words.ensures ∙ c.reset_loop_counter.ensures))
     (c.shift_one_in-call.ensures ∙ counted c.zp2_move_of-m.result s.args.operands.now (zones_of (entry (goal.at.returns-then-count-eq1 c).Start)) c.if-count-eq1.true c.zp2-zp2.ensures)
 
 pub shift_in-call-requires : goal.shift_in-call-requires
 shift_in-call-requires c = let p = c.requires in (p.1, p.2, p.4, p.5)
 
-pub returns-in-Refused : goal.returns-in-Refused
-returns-in-Refused c = λ rules controls gux guy contours. shp_refused (held (goal.at.returns-in-Refused c).Start rules controls gux guy contours) c.args.opcode c.args.operands.now (entry (goal.at.returns-in-Refused c).Start) c.reference_of-reference.ensures c.displaced-by.ensures
-    c.in-Refused.is (ap (into (entry (goal.at.returns-in-Refused c).Start)) c.refused.ensures)
+pub returns-in-Err : goal.returns-in-Err
+returns-in-Err c = λ rules controls gux guy contours. shp_refused (held (goal.at.returns-in-Err c).Start rules controls gux guy contours) c.args.opcode c.args.operands.now (entry (goal.at.returns-in-Err c).Start) c.reference_of-reference.ensures c.displaced-by.ensures
+    c.in-Err.is (ap (into (entry (goal.at.returns-in-Err c).Start)) c.refused.ensures)
 
 pub returns-else-count-eq1 : goal.returns-else-count-eq1
 returns-else-count-eq1 c = let s = c in
     λ rules controls gux guy contours. shp_shifted (held (goal.at.returns-else-count-eq1 c).Start rules controls gux guy contours) s.args.opcode s.args.operands.now (entry (goal.at.returns-else-count-eq1 c).Start) c.reference_of-reference.ensures c.displaced-by.ensures
-    c.in-By.is
+    c.in-Ok.is
     c.zp2_move_of-m.ensures
     (back32 _ (omega (arith, c.struct_told-1.given.1.1.0)))
-    (back32 _ (omega (arith, c.struct_told-in-By-1.given.1.1.1.0)))
-    (ap (λ (s : GraphicsState). record { call = c.shift_in-call.result; state = s }) (c.by_words-in-By.ensures ∙ c.reset_loop_counter-in-By.ensures))
+    (back32 _ (omega (arith, c.struct_told-in-Ok-1.given.1.1.1.0)))
+    (ap (λ (s : GraphicsState). record { call = c.shift_in-call.result; state = s }) (c.by_words-in-Ok.ensures ∙ c.reset_loop_counter-in-Ok.ensures))
     (c.shift_in-call.ensures ∙ ap (in_zone _ _) c.zp2-zp2.ensures)

@@ -6,13 +6,13 @@ use Rattle.line_span.proofs.Walk.{list_after_list}
 use Rattle.line_span.proofs.shift_there.Goals as goal
 
 pub move_run-requires : goal.move_run-requires
-move_run-requires c = c.requires.2
+move_run-requires c = (c.requires.2, c.requires.3)
 
 pub move_run-requires-2 : goal.move_run-requires-2
-move_run-requires-2 c = let p = c.requires in omega (arith, p.0, p.2)
+move_run-requires-2 c = let p = c.requires in (p.2, omega (arith, p.0, p.3))
 
 pub touch_run-requires : goal.touch_run-requires
-touch_run-requires c = let p = c.requires in omega (arith, p.1, p.2)
+touch_run-requires c = let p = c.requires in (p.2, omega (arith, p.1, p.3))
 
 pub returns : goal.returns
 returns c = let a = c.args in

@@ -1,12 +1,9 @@
--- `line_span::touch_run` meets its contract. The invariant: what is left to touch from i on is the whole. Assumes nothing.
-use Prim.Native.Nat.{◌-◌}
+-- `line_span::touch_run` meets its contract. The invariant: what is left to touch of the flags, the part put back, is the whole. Assumes nothing.
+use Prim.Native.Nat.{◌+◌, ◌-◌}
 use mathlib.Core.Path.{◌≡◌}
-use lib.ListN.{length}
+use borrow.Rule.Slice.PartMut.{put_mid}
 use Rattle.line_span.specs.Steps.{touched_run}
 use Rattle.line_span.proofs.touch_run.Given as goal
 
-abbrev pub invariant-loop-i : goal.invariant-loop-i
-invariant-loop-i l = (touched_run l.bits l.i l.end l.flags ≡ touched_run l.bits l.start l.end l.initial.flags) × (length l.flags ≡ length l.initial.flags)
-
-abbrev pub decreases-loop-i : goal.decreases-loop-i
-decreases-loop-i l = l.end - l.i
+abbrev pub invariant-loop-flag : goal.invariant-loop-flag
+invariant-loop-flag l = touched_run l.bits (l.start + l.flag-index) l.end (put_mid l.start (l.end - l.start) l.fn.flags l.flag-items) ≡ touched_run l.bits l.start l.end l.fn.flags

@@ -5,10 +5,10 @@ use Rattle.line_steps.specs.Steps.{both_at, by_call, done_in, in_state, into, on
 use Rattle.line.specs.World.{World}
 use Rattle.line_steps.proofs.settle.Goals as goal
 
-pub returns-in-Done : goal.returns-in-Done
-returns-in-Done c =
-    λ w. ap (into w) (c.done.ensures ∙ ap done_with (c.on_both.ensures ∙ ap (both_at c.args.at) c.with_rounding.ensures)) ∙ sym (ap (by_call (in_state w c.args.s) (λ (v : World). done_in (on_both c.args.at (rounded_in c.args.wrapped v)))) c.in-Done.is)
+pub returns-in-Ok : goal.returns-in-Ok
+returns-in-Ok c =
+    λ w. ap (into w) (c.done.ensures ∙ ap done_with (c.on_both.ensures ∙ ap (both_at c.args.at) c.with_rounding.ensures)) ∙ sym (ap (by_call (in_state w c.args.s) (λ (v : World). done_in (on_both c.args.at (rounded_in c.args.wrapped v)))) c.in-Ok.is)
 
-pub returns-in-Refused : goal.returns-in-Refused
-returns-in-Refused c =
-    λ w. ap (into w) c.refused.ensures ∙ sym (ap (by_call (in_state w c.args.s) (λ (v : World). done_in (on_both c.args.at (rounded_in c.args.wrapped v)))) c.in-Refused.is)
+pub returns-in-Err : goal.returns-in-Err
+returns-in-Err c =
+    λ w. ap (into w) c.refused.ensures ∙ sym (ap (by_call (in_state w c.args.s) (λ (v : World). done_in (on_both c.args.at (rounded_in c.args.wrapped v)))) c.in-Err.is)

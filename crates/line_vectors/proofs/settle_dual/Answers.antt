@@ -2,11 +2,11 @@
 use Rattle.line_vectors.proofs.Cases.{old_out, now_out, dual_there}
 use Rattle.line_vectors.proofs.settle_dual.Goals as goal
 
-pub returns-in-Refused : goal.returns-in-Refused
-returns-in-Refused c = let a = c.args in old_out a.s a.now c.in-Refused.is c.refused.ensures
+pub returns-in-Err : goal.returns-in-Err
+returns-in-Err c = let a = c.args in old_out a.s a.now c.in-Err.is c.refused.ensures
 
-pub returns-in-Refused-now : goal.returns-in-Refused-now
-returns-in-Refused-now c = let a = c.args in now_out a.s c.in-At.is c.in-Refused-now.is c.refused-in-Refused-now.ensures
+pub returns-in-Err-now : goal.returns-in-Err-now
+returns-in-Err-now c = let a = c.args in now_out a.s c.in-Ok.is c.in-Err-now.is c.refused-in-Err-now.ensures
 
-pub returns-in-At-now : goal.returns-in-At-now
-returns-in-At-now c = let a = c.args in dual_there a.s c.in-At.is c.in-At-now.is c.set_dual.ensures c.done.ensures
+pub returns-in-Ok-now : goal.returns-in-Ok-now
+returns-in-Ok-now c = let a = c.args in dual_there a.s c.in-Ok.is c.in-Ok-now.is c.set_dual.ensures c.done.ensures

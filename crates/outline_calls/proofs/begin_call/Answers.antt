@@ -4,14 +4,14 @@ use Rattle.outline_calls.proofs.Cases.{starts, refuses, no_pen}
 use Rattle.outline_calls.proofs.begin_call.Goals as goal
 
 -- src/lib.rt:268:1
-pub returns-in-Ready : goal.returns-in-Ready
-returns-in-Ready c = let a = c.args in
-    starts (glyph a.xs.now a.ys.now a.flags.now a.contours.now) a.words.now c.if-words-eq-PEN_WORDS.true c.begin-begun.ensures c.in-Ready.is c.write_pen.ensures
+pub returns-in-Ok : goal.returns-in-Ok
+returns-in-Ok c = let a = c.args in
+    starts (glyph a.xs.now a.ys.now a.flags.now a.contours.now) a.words.now c.if-words-eq-PEN_WORDS.true c.begin-begun.ensures c.in-Ok.is c.write_pen.ensures
 
 -- src/lib.rt:268:1
-pub returns-in-Refused : goal.returns-in-Refused
-returns-in-Refused c = let a = c.args in
-    refuses (glyph a.xs.now a.ys.now a.flags.now a.contours.now) a.words.now c.if-words-eq-PEN_WORDS.true c.begin-begun.ensures c.in-Refused.is c.number.ensures
+pub returns-in-Err : goal.returns-in-Err
+returns-in-Err c = let a = c.args in
+    refuses (glyph a.xs.now a.ys.now a.flags.now a.contours.now) a.words.now c.if-words-eq-PEN_WORDS.true c.begin-begun.ensures c.in-Err.is c.number.ensures
 
 -- src/lib.rt:268:1
 pub returns-else-words-eq-PEN_WORDS : goal.returns-else-words-eq-PEN_WORDS

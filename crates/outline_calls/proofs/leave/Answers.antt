@@ -1,4 +1,6 @@
 -- `outline_calls::leave` meets its contract: by what was told. Assumes nothing.
+use Rattle.std.specs.Prelude.{Ok}
+use mathlib.Core.Path.{ap, ◌∙◌}
 use native.Mathlib.Omega.{arith}
 use Rattle.outline_calls.proofs.Cases.{one_set, nine_words, four_edges, one_step, four_numbers, left_none, left_drawn, left_refused}
 use Rattle.outline_calls.proofs.leave.Goals as goal
@@ -29,16 +31,16 @@ write_numbers-requires c = let a = c.args in
     four_numbers a.words.now a.edges.now a.step.now a.numbers.now c.requires
 
 -- src/lib.rt:216:1
-pub returns-in-NoMore : goal.returns-in-NoMore
-returns-in-NoMore c = let a = c.args in
-    left_none a.words.now a.edges.now a.step.now a.numbers.now a.asked c.in-NoMore.is (one_set a.step.now 0 (one_step a.words.now a.edges.now a.step.now a.numbers.now c.requires))
+pub returns-in-None : goal.returns-in-None
+returns-in-None c = let a = c.args in
+    left_none a.words.now a.edges.now a.step.now a.numbers.now a.asked (c.in-Ok.is ∙ ap Ok c.in-None.is) (one_set a.step.now 0 (one_step a.words.now a.edges.now a.step.now a.numbers.now c.requires))
 
 -- src/lib.rt:216:1
-pub returns-in-Step : goal.returns-in-Step
-returns-in-Step c = let a = c.args in
-    left_drawn a.words.now a.edges.now a.step.now a.numbers.now a.asked c.in-Step.is c.write_pen.ensures c.write_edges.ensures c.write_step.ensures c.write_numbers.ensures
+pub returns-in-Some : goal.returns-in-Some
+returns-in-Some c = let a = c.args in
+    left_drawn a.words.now a.edges.now a.step.now a.numbers.now a.asked (c.in-Ok.is ∙ ap Ok c.in-Some.is) c.write_pen.ensures c.write_edges.ensures c.write_step.ensures c.write_numbers.ensures
 
 -- src/lib.rt:216:1
-pub returns-in-Refused : goal.returns-in-Refused
-returns-in-Refused c = let a = c.args in
-    left_refused a.words.now a.edges.now a.step.now a.numbers.now a.asked c.in-Refused.is c.number.ensures
+pub returns-in-Err : goal.returns-in-Err
+returns-in-Err c = let a = c.args in
+    left_refused a.words.now a.edges.now a.step.now a.numbers.now a.asked c.in-Err.is c.number.ensures

@@ -4,6 +4,6 @@ use Rattle.outline_calls.specs.Slots.{edges_left}
 use Rattle.outline_calls.proofs.write_edges.Goals as goal
 
 -- src/lib.rt:185:1
-pub returns-in-Around : goal.returns-in-Around
-returns-in-Around c = let a = c.args in
-    c.write_four.ensures ∙ sym (ap (edges_left a.edges.now) c.in-Around.is)
+pub returns-in-Some : goal.returns-in-Some
+returns-in-Some c = let a = c.args in
+    c.write_four.ensures ∙ sym (ap (edges_left a.edges.now) c.in-Some.is)

@@ -10,19 +10,19 @@ loop-s-init c = let a = c.args in
 
 pub put_stroke-next-requires : goal.put_stroke-next-requires
 put_stroke-next-requires c = let a = c.args in let l = c.loop-s in let x = c.walk_on-walked.ensures in
-    record { d_value = step_near (close_of (glyph a.xs.now a.ys.now a.flags.now a.contours.now) c.requires.contours_value) l.invariant x c.in-Went.is; d_in_bounds = step_fits (close_of (glyph a.xs.now a.ys.now a.flags.now a.contours.now) c.requires.contours_value) l.invariant x c.in-Went.is }
+    record { d_value = step_near (close_of (glyph a.xs.now a.ys.now a.flags.now a.contours.now) c.requires.contours_value) l.invariant x c.in-Some.is; d_in_bounds = step_fits (close_of (glyph a.xs.now a.ys.now a.flags.now a.contours.now) c.requires.contours_value) l.invariant x c.in-Some.is }
 
 pub loop-s-smaller : goal.loop-s-smaller
 loop-s-smaller c = let a = c.args in let l = c.loop-s in let x = c.walk_on-walked.ensures in
-    less (close_of (glyph a.xs.now a.ys.now a.flags.now a.contours.now) c.requires.contours_value) l.invariant x c.in-Went.is
+    less (close_of (glyph a.xs.now a.ys.now a.flags.now a.contours.now) c.requires.contours_value) l.invariant x c.in-Some.is
 
 pub loop-s-preserved : goal.loop-s-preserved
 loop-s-preserved c = let a = c.args in let l = c.loop-s in let x = c.walk_on-walked.ensures in
-    draw_on (close_of (glyph a.xs.now a.ys.now a.flags.now a.contours.now) c.requires.contours_value) l.invariant x c.in-Went.is c.put_stroke-next.ensures c.with_stroke-framed.ensures
+    draw_on (close_of (glyph a.xs.now a.ys.now a.flags.now a.contours.now) c.requires.contours_value) l.invariant x c.in-Some.is c.put_stroke-next.ensures c.with_stroke-framed.ensures
 
 pub put_box-requires : goal.put_box-requires
-put_box-requires c = let a = c.args in let l = c.loop-s in let x = c.walk_on-walked.ensures in record { all_near = l.invariant.near; f_in_bounds = box_fits (close_of (glyph a.xs.now a.ys.now a.flags.now a.contours.now) c.requires.contours_value) l.invariant x c.in-Ended.is }
+put_box-requires c = let a = c.args in let l = c.loop-s in let x = c.walk_on-walked.ensures in record { all_near = l.invariant.near; f_in_bounds = box_fits (close_of (glyph a.xs.now a.ys.now a.flags.now a.contours.now) c.requires.contours_value) l.invariant x c.in-None.is }
 
-pub returns-in-Ended : goal.returns-in-Ended
-returns-in-Ended c = let a = c.args in let l = c.loop-s in let x = c.walk_on-walked.ensures in
-    draw_end (close_of (glyph a.xs.now a.ys.now a.flags.now a.contours.now) c.requires.contours_value) l.invariant x c.in-Ended.is c.put_box.ensures
+pub returns-in-None : goal.returns-in-None
+returns-in-None c = let a = c.args in let l = c.loop-s in let x = c.walk_on-walked.ensures in
+    draw_end (close_of (glyph a.xs.now a.ys.now a.flags.now a.contours.now) c.requires.contours_value) l.invariant x c.in-None.is c.put_box.ensures

@@ -1,29 +1,20 @@
--- `outline_print::put_word` meets its contract: what is left of the word makes the whole. Assumes nothing.
-use mathlib.Core.Path.{◌≡◌}
-use Prim.Native.Nat.{ℕ, ◌-◌, ◌<◌, ◌+◌}
-use mathlib.Core.List.{List, ◌∷◌}
-use native.Mathlib.Numerals.{add-one}
+-- `outline_print::put_word` meets its contract: the word was copied to its place. Assumes nothing.
+use mathlib.Core.List.{List, ◌++◌, append_assoc}
+use mathlib.Core.Path.{ap, refl, sym, ◌∙◌}
+use Prim.Native.Nat.{ℕ, ◌+◌, ◌-◌}
 use native.Mathlib.Omega.{arith}
-use lib.ListN.{length, drop, drop_of_length-le, get_or}
-use lib.Seq.{drop-cons}
-use Rattle.outline_print.proofs.Putting.{put_start, put_one, one_fits, put_end}
+use borrow.Rule.Slice.PartMut.{put_mid, Post-is}
+use lib.ListN.{drop, length, take}
+use Rattle.std.proofs.lemmas.List.Edits.{sets-eq}
 use Rattle.outline_print.proofs.put_word.Goals as goal
 
-next_byte : (l : List ℕ) (i : ℕ) → i < length l → drop i l ≡ get_or l i 0 ∷ drop (i + 1) l
-next_byte l i h = rw (add-one i) (drop-cons l i 0 h)
-
-pub loop-i-init : goal.loop-i-init
-loop-i-init c = let a = c.args in put_start a.word.now a.at a.text.now c.requires
-
-pub bounds-text-next : goal.bounds-text-next
-bounds-text-next c = one_fits c.loop-i.invariant (next_byte c.args.word.now c.loop-i.i c.loop-i-test.true)
-
-pub overflow_add-next : goal.overflow_add-next
-overflow_add-next c = let h = one_fits c.loop-i.invariant (next_byte c.args.word.now c.loop-i.i c.loop-i-test.true) in
-    omega (arith, h, c.loop-i.invariant.size, c.well_formed)
-
-pub loop-i-preserved : goal.loop-i-preserved
-loop-i-preserved c = put_one c.loop-i.invariant (next_byte c.args.word.now c.loop-i.i c.loop-i-test.true)
-
 pub returns : goal.returns
-returns c = put_end c.loop-i.invariant (drop_of_length-le c.args.word.now {i = c.loop-i.i} c.loop-i-test.false)
+returns c = let w = c.args.word.now in let l = c.args.text.now in let at = c.args.at in let next = at + length w in
+    record {
+      behind = refl;
+      there =
+          ap (put_mid at (next - at) l) c.copy_from_slice.ensures.after
+          ∙ ap (λ (t : List ℕ). take at l ++ (w ++ t)) (Post-is at next l (omega arith))
+          ∙ sym (append_assoc (take at l) w (drop next l))
+          ∙ sym (sets-eq w l at c.requires);
+    }

@@ -4,15 +4,15 @@ use Rattle.outline_steps.specs.Pen.{handed, next_of}
 use Rattle.outline_steps.proofs.next.Goals as goal
 
 -- src/lib.rt:305:1
-pub returns-in-Went : goal.returns-in-Went
+pub returns-in-Some : goal.returns-in-Some
 unfolding next_of
-returns-in-Went c = let s = c in let a = s.args in
+returns-in-Some c = let s = c in let a = s.args in
     let w = c in
-    c.hand_over.ensures ∙ sym (ap (handed a.pen) (sym w.walk_on-walked.ensures ∙ c.in-Went.is))
+    c.hand_over.ensures ∙ sym (ap (handed a.pen) (sym w.walk_on-walked.ensures ∙ c.in-Some.is))
 
 -- src/lib.rt:305:1
-pub returns-in-Ended : goal.returns-in-Ended
+pub returns-in-None : goal.returns-in-None
 unfolding next_of
-returns-in-Ended c = let s = c in let a = s.args in
+returns-in-None c = let s = c in let a = s.args in
     let w = c in
-    sym (ap (handed a.pen) (sym w.walk_on-walked.ensures ∙ c.in-Ended.is))
+    sym (ap (handed a.pen) (sym w.walk_on-walked.ensures ∙ c.in-None.is))

@@ -1,8 +1,8 @@
 -- `outline_steps::walk_on` meets its contract: by the stage. Assumes nothing.
+use Rattle.std.specs.Prelude.{Some}
 use mathlib.Core.Path.{sym, ap, ◌∙◌}
 use Rattle.outline_steps.specs.Outline.{glyph}
 use Rattle.outline_steps.specs.Pen.{walk_by}
-use Rattle.outline_steps.specs.declared.Walked.TheVariants.{Went}
 use Rattle.outline_steps.proofs.walk_on.Goals as goal
 
 -- src/lib.rt:270:1
@@ -13,9 +13,9 @@ returns-in-Between c = let s = c in let a = s.args in
 -- src/lib.rt:270:1
 pub returns-in-Onward : goal.returns-in-Onward
 returns-in-Onward c = let s = c in let a = s.args in
-    ap Went (c.onward.ensures a.contours.now) ∙ sym (ap (walk_by (glyph a.xs.now a.ys.now a.flags.now a.contours.now) a.w) c.in-Onward.is)
+    ap Some (c.onward.ensures a.contours.now) ∙ sym (ap (walk_by (glyph a.xs.now a.ys.now a.flags.now a.contours.now) a.w) c.in-Onward.is)
 
 -- src/lib.rt:270:1
 pub returns-in-Waiting : goal.returns-in-Waiting
 returns-in-Waiting c = let s = c in let a = s.args in
-    ap Went (c.curve_from.ensures a.contours.now) ∙ sym (ap (walk_by (glyph a.xs.now a.ys.now a.flags.now a.contours.now) a.w) c.in-Waiting.is)
+    ap Some (c.curve_from.ensures a.contours.now) ∙ sym (ap (walk_by (glyph a.xs.now a.ys.now a.flags.now a.contours.now) a.w) c.in-Waiting.is)

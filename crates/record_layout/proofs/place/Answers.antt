@@ -1,5 +1,4 @@
 -- `record_layout::place` meets its contract. The invariant: the counts so far are summed (`Summed`). Assumes nothing.
-use Prim.Native.Nat.{◌-◌}
 use Rattle.record_layout.proofs.Places.{last_place}
 use Rattle.record_layout.proofs.place.Goals as goal
 

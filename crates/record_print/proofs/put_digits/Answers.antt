@@ -1,38 +1,32 @@
--- `record_print::put_digits` meets its contract: with the rest's digits put before them, those that stand there make the number's. Assumes nothing.
-use mathlib.Core.Path.{ap, refl}
-use Prim.Native.Nat.{◌+◌, ◌/◌, ℕ}
+-- `record_print::put_digits` meets its contract: the library's digits are the number's, and they were copied to their place. Assumes nothing.
+use mathlib.Core.List.{List, ◌++◌, append_assoc}
+use mathlib.Core.Path.{◌≡◌, ap, sym, ◌∙◌}
+use Prim.Native.Nat.{ℕ, ◌+◌, ◌-◌, ◌≤◌}
 use native.Mathlib.Omega.{arith}
-use Rattle.record_print.proofs.Decimal.{one_longer, some_digit}
-use Rattle.record_print.proofs.Puts.{spell_end, spell_start, spell_turn}
+use borrow.Rule.Slice.PartMut.{put_mid, Post-is}
+use lib.ListN.{drop, length, take}
+use lib.Seq.{sets}
+use Rattle.std.proofs.lemmas.List.Edits.{sets-eq}
+use Rattle.record_print.proofs.Decimal.{as_library}
+use Rattle.record_print.specs.Text.{decimal}
 use Rattle.record_print.proofs.put_digits.Goals as goal
 
-pub overflow_add-next : goal.overflow_add-next
-overflow_add-next c = omega (arith, c.count_digits.ensures, c.requires)
-
-pub overflow_sub-i : goal.overflow_sub-i
-overflow_sub-i c = omega (arith, c.count_digits.ensures, some_digit c.args.n)
-
-pub loop-rest-init : goal.loop-rest-init
-loop-rest-init c = spell_start c.args.n c.args.at c.args.text.now c.count_digits.ensures c.requires
-
-pub bounds-text-i : goal.bounds-text-i
-bounds-text-i c = omega (arith, c.loop-rest.invariant.room, c.loop-rest.invariant.size)
-
-pub overflow_sub-i-in-loop-rest : goal.overflow_sub-i-in-loop-rest
-overflow_sub-i-in-loop-rest c = let v = c.loop-rest in omega (arith, v.invariant.last, one_longer v.rest c.loop-rest-test.true, some_digit (v.rest / 10))
-
-pub loop-rest-smaller : goal.loop-rest-smaller
-loop-rest-smaller c = omega arith
-
-pub loop-rest-preserved : goal.loop-rest-preserved
-loop-rest-preserved c = let v = c.loop-rest in spell_turn v.invariant c.loop-rest-test.true c.last_digit.ensures refl
-
-pub bounds-text-i-2 : goal.bounds-text-i-2
-bounds-text-i-2 c = omega (arith, c.loop-rest.invariant.room, c.loop-rest.invariant.size)
+pub slice_bounds-copy_from_slice-end : goal.slice_bounds-copy_from_slice-end
+slice_bounds-copy_from_slice-end c =
+    let e : c.as_bytes-digits.result.now ≡ decimal c.args.n = c.as_bytes-digits.ensures.value ∙ c.format.ensures.text ∙ as_library c.args.n c.ranges.n.fits in
+    omega (arith, ap length e, c.requires)
 
 pub returns : goal.returns
 returns c =
+    let d = c.as_bytes-digits.result.now in let l = c.args.text.now in let at = c.args.at in let next = at + length d in
+    let e : d ≡ decimal c.args.n = c.as_bytes-digits.ensures.value ∙ c.format.ensures.text ∙ as_library c.args.n c.ranges.n.fits in
+    let room : at + length d ≤ length l = omega (arith, ap length e, c.requires) in
     record {
-      behind = ap (λ (k : ℕ). c.args.at + k) c.count_digits.ensures;
-      there = spell_end c.loop-rest.invariant c.loop-rest-test.false c.last_digit-2.ensures;
+      behind = ap (λ (t : List ℕ). at + length t) e;
+      there =
+          ap (put_mid at (next - at) l) c.copy_from_slice.ensures.after
+          ∙ ap (λ (t : List ℕ). take at l ++ (d ++ t)) (Post-is at next l (omega arith))
+          ∙ sym (append_assoc (take at l) d (drop next l))
+          ∙ sym (sets-eq d l at room)
+          ∙ ap (sets l at) e;
     }

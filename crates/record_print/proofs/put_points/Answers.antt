@@ -1,5 +1,5 @@
 -- `record_print::put_points` meets its contract: the lines put so far and those that are left make the whole. Assumes nothing.
-use Prim.Native.Nat.{◌+◌, ◌-◌, ◌<◌, ◌≤◌}
+use Prim.Native.Nat.{◌+◌, ◌<◌, ◌≤◌}
 use native.Mathlib.Omega.{arith}
 use Rattle.record_print.proofs.Lines.{all_left, lines_left, next_left, next_line, none_left, print_end, print_room, print_start, print_turn}
 use Rattle.record_print.proofs.put_points.Goals as goal
@@ -12,12 +12,6 @@ put_point-next-requires c =
     let v = c.loop-i in
     let more : v.i < c.args.l.points = omega (arith, c.loop-i-test.true, c.wide-points.ensures) in
     print_room (next_line c.args.out.now c.args.l v.i) (lines_left c.args.out.now c.args.l (v.i + 1)) v.invariant (next_left c.args.out.now c.args.l v.i more) c.requires
-
-pub overflow_add-i : goal.overflow_add-i
-overflow_add-i c = omega arith
-
-pub loop-i-smaller : goal.loop-i-smaller
-loop-i-smaller c = omega arith
 
 pub loop-i-preserved : goal.loop-i-preserved
 loop-i-preserved c =

@@ -1,8 +1,8 @@
 -- `record_read::open` meets its contract: each way out is a case of `open_of`. Assumes nothing.
+use Rattle.std.specs.Prelude.{Ok}
 use mathlib.Core.Path.{◌∙◌, ap, sym}
 use borrow.Author.Tests.{not-false, not-true}
 use Rattle.record_read.specs.Read.{words_fit}
-use Rattle.record_read.specs.declared.Opened.TheVariants.{Whole}
 use Rattle.record_read.proofs.Verdict.{no_fit, no_frame, no_sum, too_long, whole}
 use Rattle.record_read.proofs.open.Goals as goal
 
@@ -28,7 +28,7 @@ returns-then-not-sum_fits c =
 pub returns : goal.returns
 returns c =
     let b = c.args.bytes.now in
-    ap Whole c.layout_of-l.ensures
+    ap Ok c.layout_of-l.ensures
     ∙ whole b c.if-bytes-gt-MOST_BYTES.false (sym c.is_framed.ensures ∙ not-false _ c.if-not-is_framed.false-raw)
     (sym (c.words_fit_layout.ensures ∙ ap (words_fit b) c.layout_of-l.ensures) ∙ not-false _ c.if-not-words_fit_layout.false-raw)
     (sym c.sum_fits.ensures ∙ not-false _ c.if-not-sum_fits.false-raw)

@@ -7,16 +7,16 @@ use Rattle.record_replay.proofs.replay_within.Goals as goal
 
 pub replay_whole-requires : goal.replay_whole-requires
 replay_whole-requires c =
-    let all = within c.args.bytes.now _ (sym c.open-opened.ensures ∙ c.in-Whole.is) in
+    let all = within c.args.bytes.now _ (sym c.open-opened.ensures ∙ c.in-Ok.is) in
     record { points_le_point_room = all.0; contours_le_list_room = all.1.0; twilight_le_twilight_room = all.1.1.0; controls_le_list_room = all.1.1.1.0; words_le_list_room = all.1.1.1.1 }
 
-pub returns-in-Damaged : goal.returns-in-Damaged
-returns-in-Damaged c =
+pub returns-in-Err : goal.returns-in-Err
+returns-in-Err c =
     let a = c.args in
     ap (λ r. shelved r a.out.now) (c.refuse.ensures ∙ ap refused_as c.number.ensures)
-    ∙ damaged a.rules a.most a.bytes.now a.out.now _ (sym c.open-opened.ensures ∙ c.in-Damaged.is)
+    ∙ damaged a.rules a.most a.bytes.now a.out.now _ (sym c.open-opened.ensures ∙ c.in-Err.is)
 
-pub returns-in-Whole : goal.returns-in-Whole
-returns-in-Whole c =
+pub returns-in-Ok : goal.returns-in-Ok
+returns-in-Ok c =
     let a = c.args in
-    c.replay_whole.ensures ∙ opened a.rules a.most a.bytes.now a.out.now _ (sym c.open-opened.ensures ∙ c.in-Whole.is)
+    c.replay_whole.ensures ∙ opened a.rules a.most a.bytes.now a.out.now _ (sym c.open-opened.ensures ∙ c.in-Ok.is)

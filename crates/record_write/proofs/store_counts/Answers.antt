@@ -4,4 +4,4 @@ use Rattle.record_write.proofs.store_counts.Goals as goal
 
 pub returns : goal.returns
 returns c =
-    counts_stored c.args.l c.args.out.now c.way_back-back.ensures c.at_trailer.ensures c.store_words.ensures
+    counts_stored c.args.l c.args.out.now c.way_back-back.ensures c.at_trailer.ensures c.store.ensures

@@ -7,7 +7,7 @@ use Rattle.record_write.proofs.store_originals.Goals as goal
 pub returns : goal.returns
 unfolding with_originals
 returns c =
-    stored _ c.place-4.ensures c.store_numbers-4.ensures
-    (stored _ c.place-3.ensures c.store_numbers-3.ensures
-    (stored _ c.place-2.ensures c.store_numbers-2.ensures
-    (stored _ c.place.ensures c.store_numbers.ensures refl)))
+    stored _ c.place-4.ensures c.store-4.ensures
+    (stored _ c.place-3.ensures c.store-3.ensures
+    (stored _ c.place-2.ensures c.store-2.ensures
+    (stored _ c.place.ensures c.store.ensures refl)))

@@ -7,5 +7,5 @@ use Rattle.record_write.proofs.store_sources.Goals as goal
 pub returns : goal.returns
 unfolding with_sources
 returns c =
-    stored _ c.place-2.ensures c.store_numbers-2.ensures
-    (stored _ c.place.ensures c.store_numbers.ensures refl)
+    stored _ c.place-2.ensures c.store-2.ensures
+    (stored _ c.place.ensures c.store.ensures refl)

@@ -4,4 +4,4 @@ use Rattle.record_write.proofs.store_sum.Goals as goal
 
 pub returns : goal.returns
 returns c =
-    sum_stored c.args.l c.args.out.now c.sum_place-at.ensures c.sum.ensures c.store_words.ensures
+    sum_stored c.args.l c.args.out.now c.sum_place-at.ensures c.sum.ensures c.store.ensures

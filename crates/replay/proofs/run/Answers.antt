@@ -27,11 +27,11 @@ tests k =
     entry_is held k.args.sheet.now k.args.start entry k.enter-begun.ensures (k.sizes_fit-sized.ensures k.args.rules) k.ends_rise-rising.ensures k.is_usable.ensures
 
 pub onward-requires : goal.onward-requires
-onward-requires c = record { needs_value = c.needs_table-needs.ensures; sound = entered_sound (held (goal.at.onward-requires c).Start) c.args.sheet.now c.args.start (entry (goal.at.onward-requires c).Start) (tests (goal.at.onward-requires c).After-enter-begun) c.in-Done.is }
+onward-requires c = entered_sound (held (goal.at.onward-requires c).Start) c.args.sheet.now c.args.start (entry (goal.at.onward-requires c).Start) (tests (goal.at.onward-requires c).After-enter-begun) c.in-Ok.is
 
-pub returns-in-Refused : goal.returns-in-Refused
-returns-in-Refused c = ap (λ (o : Outcome). ran o c.args.gx.now c.args.gy.now c.args.gflags.now c.args.tox.now c.args.toy.now c.args.tx.now c.args.ty.now c.args.tflags.now) c.at_entry.ensures
-    ∙ not_entered (held (goal.at.returns-in-Refused c).Start) c.args.sheet.now c.args.budget c.args.start (entry (goal.at.returns-in-Refused c).Start) (tests (goal.at.returns-in-Refused c).After-enter-begun) c.in-Refused.is
+pub returns-in-Err : goal.returns-in-Err
+returns-in-Err c = ap (λ (o : Outcome). ran o c.args.gx.now c.args.gy.now c.args.gflags.now c.args.tox.now c.args.toy.now c.args.tx.now c.args.ty.now c.args.tflags.now) c.at_entry.ensures
+    ∙ not_entered (held (goal.at.returns-in-Err c).Start) c.args.sheet.now c.args.budget c.args.start (entry (goal.at.returns-in-Err c).Start) (tests (goal.at.returns-in-Err c).After-enter-begun) c.in-Err.is
 
-pub returns-in-Done : goal.returns-in-Done
-returns-in-Done c = c.onward.ensures ∙ run_entered (held (goal.at.returns-in-Done c).Start) c.args.sheet.now c.args.budget c.args.start (entry (goal.at.returns-in-Done c).Start) (tests (goal.at.returns-in-Done c).After-enter-begun) c.in-Done.is
+pub returns-in-Ok : goal.returns-in-Ok
+returns-in-Ok c = c.onward.ensures ∙ run_entered (held (goal.at.returns-in-Ok c).Start) c.args.sheet.now c.args.budget c.args.start (entry (goal.at.returns-in-Ok c).Start) (tests (goal.at.returns-in-Ok c).After-enter-begun) c.in-Ok.is

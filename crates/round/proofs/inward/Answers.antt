@@ -13,4 +13,4 @@ returns-then-non_negative c = let e = c in let t = e in let s = t in
 pub returns-else-non_negative : goal.returns-else-non_negative
 returns-else-non_negative c = let n = c in let e = n in let t = e in let s = t in
     down_in s.args.d s.args.r (to_z-of_z s.ranges.d) t.non_negative.ensures e.if-non_negative.false n.negated-back.ensures
-    (back32 c.min.result c.min.type_inv) c.min.ensures (back32 n.negated-back.result.word (omega (arith, c.struct_told-else-non_negative-1.given)))
+    (back32 c.min.result c.min.type_inv) c.min.ensures (back32 n.negated-back.result.word (omega arith))

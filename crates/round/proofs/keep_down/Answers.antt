@@ -10,7 +10,7 @@ use Rattle.round.proofs.keep_down.Goals as goal
 pub returns-then-less : goal.returns-then-less
 returns-then-less c = let n = c in let g = n in let e = g in let t = e in let s = t in
     phase_down s.args.phase s.args.v t.less.ensures e.if-less.true (back32 s.args.v.word (omega arith)) (g.given.ensures ∙ ap given (to_z-of_z s.ranges.phase)) n.negated-other.ensures
-    (back32 n.negated-other.result.word (omega (arith, c.struct_told-then-less-1.given)))
+    (back32 n.negated-other.result.word (omega arith))
 
 pub returns-else-less : goal.returns-else-less
 returns-else-less c = let t = c in let s = t in

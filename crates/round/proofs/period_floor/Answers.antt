@@ -14,4 +14,4 @@ returns-then-divides c = let o = c in let e = o in let s = e in
 pub returns-else-divides : goal.returns-else-divides
 returns-else-divides c = let b = c in let n = b in let g = n in let e = g in let s = e in
     by_mask s.args.x s.args.period e.if-divides.false (g.given.ensures ∙ ap given (to_z-of_z s.ranges.period)) n.negated-mask.ensures
-    (back32 b.bit_and.result b.bit_and.type_inv) b.bit_and.ensures (back32 s.args.x.word (omega arith)) (back32 n.negated-mask.result.word (omega (arith, b.struct_told-else-divides-1.given)))
+    (back32 b.bit_and.result b.bit_and.type_inv) b.bit_and.ensures (back32 s.args.x.word (omega arith)) (back32 n.negated-mask.result.word (omega arith))

@@ -16,5 +16,5 @@ returns c = let f = c in let p = f in let g = p in let o = g in let d = to_z-of_
     let sum = p.plus-sum.ensures ∙ ap₂ plus (o.outward.ensures ∙ ap outward d) g.given.ensures in
     c.inward.ensures
     ∙ ap₂ inward d
-    (ap (λ (z : ℤ). tracked z p.plus-sum.result.wrapped) (back32 f.floor_pad.result f.floor_pad.type_inv ∙ f.floor_pad.ensures ∙ ap (λ (z : ℤ). pad_floor z (pos 32)) (back32 p.plus-sum.result.word (omega (arith, f.struct_told-1.given))))
+    (ap (λ (z : ℤ). tracked z p.plus-sum.result.wrapped) (back32 f.floor_pad.result f.floor_pad.type_inv ∙ f.floor_pad.ensures ∙ ap (λ (z : ℤ). pad_floor z (pos 32)) (back32 p.plus-sum.result.word (omega arith)))
     ∙ ap (on (λ z. pad_floor z (pos 32))) sum)

@@ -1,22 +1,22 @@
 -- `rules::by_name` meets its contract: name by name. Assumes nothing.
+use Rattle.std.specs.Prelude.{Some, None}
 use mathlib.Core.Bool.{false, true}
 use mathlib.Core.List.{List}
 use mathlib.Core.Path.{◌≡◌, sym, ◌∙◌}
 use Prim.Native.Nat.{ℕ}
 use Rattle.rules.specs.Rules.{by_name, name_of_rules, same_bytes}
-use Rattle.rules.specs.declared.Named.TheVariants.{Known, Unknown}
 use Rattle.rules.specs.declared.Rules.TheVariants.{FreeType, Skrifa}
 use Rattle.rules.proofs.by_name.Goals as goal
 
-is_skrifa : (name : List ℕ) → same_bytes name (name_of_rules Skrifa) ≡ true → Known Skrifa ≡ by_name name
+is_skrifa : (name : List ℕ) → same_bytes name (name_of_rules Skrifa) ≡ true → Some Skrifa ≡ by_name name
 unfolding by_name
 is_skrifa name e = rw e
 
-is_freetype : (name : List ℕ) → same_bytes name (name_of_rules Skrifa) ≡ false → same_bytes name (name_of_rules FreeType) ≡ true → Known FreeType ≡ by_name name
+is_freetype : (name : List ℕ) → same_bytes name (name_of_rules Skrifa) ≡ false → same_bytes name (name_of_rules FreeType) ≡ true → Some FreeType ≡ by_name name
 unfolding by_name
 is_freetype name n e = rw (n, e)
 
-is_none : (name : List ℕ) → same_bytes name (name_of_rules Skrifa) ≡ false → same_bytes name (name_of_rules FreeType) ≡ false → Unknown ≡ by_name name
+is_none : (name : List ℕ) → same_bytes name (name_of_rules Skrifa) ≡ false → same_bytes name (name_of_rules FreeType) ≡ false → None ≡ by_name name
 unfolding by_name
 is_none name n e = rw (n, e)
 

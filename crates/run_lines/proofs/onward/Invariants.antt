@@ -1,7 +1,7 @@
--- `run_lines::onward` meets its contract. The invariant: the rest of the run, from here with the lines so far, is the whole run; no list has changed
--- its length; and the lines so far and the budget left make the budget. The measure is the budget left. Assumes nothing.
+-- `run_lines::onward` meets its contract. The invariant: the rest of the run, from here with the lines so far, is the whole run, and no list has changed
+-- its length. Assumes nothing.
 use mathlib.Core.List.{List}
-use Prim.Native.Nat.{◌+◌, ℕ}
+use Prim.Native.Nat.{◌-◌, ℕ}
 use mathlib.Core.Path.{◌≡◌}
 use lib.IntN.{ℤ}
 use Rattle.line.specs.World.{Fixed, World, fixed, world}
@@ -9,13 +9,9 @@ use Rattle.run_lines.specs.Onward.{replay_of}
 use Rattle.run_lines.proofs.Loop.{sizes}
 use Rattle.run_lines.proofs.onward.Given as goal
 
-pub record Inv (f : Fixed) (sheet : List ℤ) (budget start : ℕ) (w₀ : World) (left lines at : ℕ) (w : World) : Type 0 where
-  pub run : replay_of f sheet left lines at w ≡ replay_of f sheet budget 0 start w₀
+pub record Inv (f : Fixed) (sheet : List ℤ) (budget start : ℕ) (w₀ : World) (lines at : ℕ) (w : World) : Type 0 where
+  pub run : replay_of f sheet (budget - lines) lines at w ≡ replay_of f sheet budget 0 start w₀
   pub same : sizes w ≡ sizes w₀
-  pub sum : lines + left ≡ budget
 
-abbrev pub invariant-loop-at : goal.invariant-loop-at
-invariant-loop-at l = Inv (fixed l.rules l.controls l.gux l.guy l.gox l.goy l.contours) l.sheet l.budget l.start (world l.initial.state l.initial.gx l.initial.gy l.initial.gflags l.initial.tox l.initial.toy l.initial.tx l.initial.ty l.initial.tflags) l.left l.lines l.at (world l.state l.gx l.gy l.gflags l.tox l.toy l.tx l.ty l.tflags)
-
-abbrev pub decreases-loop-at : goal.decreases-loop-at
-decreases-loop-at l = l.left
+abbrev pub invariant-loop-lines : goal.invariant-loop-lines
+invariant-loop-lines l = Inv (fixed l.rules l.controls l.gux l.guy l.gox l.goy l.contours) l.sheet l.budget l.start (world l.initial.state l.initial.gx l.initial.gy l.initial.gflags l.initial.tox l.initial.toy l.initial.tx l.initial.ty l.initial.tflags) l.lines l.at (world l.state l.gx l.gy l.gflags l.tox l.toy l.tx l.ty l.tflags)

@@ -1,5 +1,5 @@
 -- `words::all_at_most` meets its contract: the answer for all is that for what is left. Assumes nothing.
-use Rattle.std.proofs.Common.{◌-◌, ◌∙◌, arith}
+use Rattle.std.proofs.Common.{◌∙◌, arith}
 use Rattle.words.proofs.Parts.{next_within}
 use Rattle.words.proofs.all_at_most.Goals as goal
 

@@ -6,12 +6,9 @@ use lib.Signed.{mag}
 use Rattle.int.proofs.Words.{back32}
 use Rattle.graphics.specs.State.{pushed_on, with_push, with_tallies}
 use Rattle.graphics.proofs.GraphicsState.with_push.Goals as goal
-use Rattle.graphics.proofs.GraphicsState.with_push.Goals.{Start}
-
-told : (s : Start) → mag s.args.value < 2 ^ 31
-told s = omega arith
 
 pub returns : goal.returns
 unfolding with_push
 returns c = let a = c.args in
-    ap (with_tallies a.self) (c.with_push-self.ensures ∙ ap (λ v. pushed_on v a.self.tallies) (back32 a.value (told (goal.at.returns c).Start)))
+    let fits : mag a.value < 2 ^ 31 = omega arith in
+    ap (with_tallies a.self) (c.with_push-self.ensures ∙ ap (λ v. pushed_on v a.self.tallies) (back32 a.value fits))

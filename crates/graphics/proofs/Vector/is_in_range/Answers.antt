@@ -5,12 +5,9 @@ use lib.Signed.{mag}
 use Rattle.int.proofs.Words.{back32}
 use Rattle.graphics.proofs.Seen.{vector}
 use Rattle.graphics.proofs.Vector.is_in_range.Goals as goal
-use Rattle.graphics.proofs.Vector.is_in_range.Goals.{Start}
-
--- both components fit
-told : (s : Start) → let v = s.args.self in (mag v.x < 2 ^ 31) × (mag v.y < 2 ^ 31)
-told s = omega arith
 
 pub returns : goal.returns
-returns c = let s = c in let v = s.args.self in
-    vector v (back32 v.x (told (goal.at.returns c).Start).0) (back32 v.y (told (goal.at.returns c).Start).1) c.within.ensures c.within-2.ensures
+returns c = let v = c.args.self in
+    let x_fits : mag v.x < 2 ^ 31 = omega arith in
+    let y_fits : mag v.y < 2 ^ 31 = omega arith in
+    vector v (back32 v.x x_fits) (back32 v.y y_fits) c.within.ensures c.within-2.ensures

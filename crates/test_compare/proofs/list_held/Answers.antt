@@ -1,7 +1,0 @@
--- `test_compare::list_held` is safe and ends: each turn passes one element. Assumes nothing.
-use Prim.Native.Nat.{◌-◌}
-use native.Mathlib.Omega.{arith}
-use Rattle.test_compare.proofs.list_held.Goals as goal
-
-pub loop-k-smaller : goal.loop-k-smaller
-loop-k-smaller c = omega arith
