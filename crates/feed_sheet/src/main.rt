@@ -15,6 +15,7 @@ use record_frames::{LENGTH_SIZE, RECORD_ROOM, kept_of, length_in};
 use record_io::{chosen_rules, read_input, say_no_such_rules, say_unread, write_output};
 use record_print::TEXT_ROOM;
 use rules::Rules;
+use std::io;
 use std::io::Stdin;
 
 fn print_sheet(rt: &(impl Print + Eprint), stdin: Stdin, rules: Rules, record: &[u8]) {
@@ -46,28 +47,23 @@ fn whole_of(read: usize, wanted: usize) -> usize
     if read == wanted { wanted } else { 0 }
 }
 
-fn feed_sheet(rt: &(impl Print + Eprint), stdin: Stdin, rules: Rules) {
+fn feed_sheet(rt: &(impl Print + Eprint), stdin: Stdin, rules: Rules) -> io::Result<()> {
     let mut head = [0u8; LENGTH_SIZE];
-    let front = read_input(stdin, &mut head);
-    if front.failed {
-        say_unread(rt);
-        return;
-    }
-    let wanted = bytes_of(front.size, &head);
+    let wanted = bytes_of(read_input(stdin, &mut head)?, &head);
     let mut bytes = [0u8; RECORD_ROOM];
-    let input = read_input(stdin, &mut bytes[..wanted]);
-    if input.failed {
-        say_unread(rt);
-        return;
-    }
-    let size = whole_of(input.size, wanted);
+    let size = whole_of(read_input(stdin, &mut bytes[..wanted])?, wanted);
     print_sheet(rt, stdin, rules, &bytes[..size]);
+    Ok(())
 }
 
 fn main(rt: HostRuntime) {
     let named = chosen_rules(&rt);
     match named {
-        Some(rules) => feed_sheet(&rt, rt.stdin(), rules),
+        Some(rules) => {
+            if feed_sheet(&rt, rt.stdin(), rules).is_err() {
+                say_unread(&rt);
+            }
+        }
         None => say_no_such_rules(&rt),
     }
 }

@@ -4,10 +4,11 @@
 // What is written is written at once, and what is not written whole is said on standard error.
 #![tactic(auto)]
 
-ghost use Rattle.std.specs.Prelude.{◌≡◌, ◌≤◌, length, take};
+ghost use Rattle.std.specs.Prelude.{◌≡◌, ◌≤◌, IfOk, length, take};
 
 use rules::{Rules, by_name};
 use std::env::FillError;
+use std::io;
 use std::io::{Read, Stdin};
 use std::rt::Env;
 
@@ -42,36 +43,21 @@ pub fn say_no_such_rules(rt: &impl Eprint) {
     );
 }
 
-// How many bytes were read, and whether a read failed.
-#[derive(Clone, Copy)]
-pub struct Input {
-    pub size: usize,
-    pub failed: bool,
-}
-
-// Standard input to the front of `bytes`, until it ends or they are full.
-pub fn read_input(mut stdin: Stdin, bytes: &mut [u8]) -> Input
-    ensures in_bounds { result.size ≤ length bytes.new }
-    ensures prefix { result.size ≡ length (take result.size bytes.new) }
+// Standard input to the front of `bytes`, until it ends or they are full; how many bytes were read.
+pub fn read_input(mut stdin: Stdin, bytes: &mut [u8]) -> io::Result<usize>
+    ensures in_bounds { IfOk result (λ size. size ≤ length bytes.new) }
+    ensures prefix { IfOk result (λ size. size ≡ length (take size bytes.new)) }
 {
     let mut size = 0;
     // Counted by hand: a read brings any number of bytes.
     while size < bytes.len() {
-        let Ok(more) = stdin.read(&mut bytes[size..]) else {
-            return Input {
-                size: 0,
-                failed: true,
-            };
-        };
+        let more = stdin.read(&mut bytes[size..])?;
         if more == 0 {
             break;
         }
         size += more;
     }
-    Input {
-        size,
-        failed: false,
-    }
+    Ok(size)
 }
 
 pub fn say_unread(rt: &impl Eprint) {

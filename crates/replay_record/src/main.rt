@@ -20,13 +20,10 @@ fn print_record(rt: &(impl Print + Eprint), rules: Rules, bytes: &[u8]) {
 
 fn print_input(rt: &(impl Print + Eprint), stdin: Stdin, rules: Rules) {
     let mut bytes = [0u8; INPUT_ROOM];
-    let input = read_input(stdin, &mut bytes);
-    if input.failed {
-        say_unread(rt);
-        return;
+    match read_input(stdin, &mut bytes) {
+        Ok(size) => print_record(rt, rules, &bytes[..size]),
+        Err(_) => say_unread(rt),
     }
-    let size = input.size;
-    print_record(rt, rules, &bytes[..size]);
 }
 
 fn main(rt: HostRuntime) {

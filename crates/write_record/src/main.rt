@@ -26,13 +26,10 @@ fn write_replayed(rt: &(impl Print + Eprint), rules: Rules, bytes: &[u8]) {
 
 fn write_input(rt: &(impl Print + Eprint), stdin: Stdin, rules: Rules) {
     let mut bytes = [0u8; INPUT_ROOM];
-    let input = read_input(stdin, &mut bytes);
-    if input.failed {
-        say_unread(rt);
-        return;
+    match read_input(stdin, &mut bytes) {
+        Ok(size) => write_replayed(rt, rules, &bytes[..size]),
+        Err(_) => say_unread(rt),
     }
-    let size = input.size;
-    write_replayed(rt, rules, &bytes[..size]);
 }
 
 fn main(rt: HostRuntime) {
