@@ -9,7 +9,7 @@
 // Not here: IUP's two marks, the other axis and the flags.
 #![tactic(auto)]
 
-ghost use Rattle.std.specs.Prelude.{◌≡◌, cond, true, map, ◌+◌, length, drop};
+ghost use Rattle.std.specs.Prelude.{◌≡◌, ◌≤◌, cond, true, map, ◌+◌, length, drop};
 ghost use Rattle.std.specs.Int.Signed.{le_z};
 ghost use Rattle.contour_ends.specs.Ends.{ends_rise};
 ghost use Rattle.int.specs.Word.{add32};
@@ -34,14 +34,15 @@ pub struct Place {
 
 // The first touched point from `from` on, or the end.
 fn next_touched(flags: &[u8], mask: u8, from: usize) -> usize
+    requires { from ≤ length flags.now }
     ensures { result ≡ from + ahead (marks mask (drop from flags.now)) }
 {
-    for i in from..flags.len() {
-        if has_any(flags[i], mask) {
-            return i;
+    for (ahead, flag) in flags[from..].iter().enumerate() {
+        if has_any(*flag, mask) {
+            return from + ahead;
         }
     }
-    from.max(flags.len())
+    flags.len()
 }
 
 // How many points there are up to the last touched one, with it; 0 where none is touched.

@@ -13,7 +13,7 @@ ghost use Rattle.record_print.specs.Text.{decimal, signed_decimal};
 ghost use Rattle.record_print.specs.Steps.{ended_by, Put};
 
 use int::{from_bits, magnitude, non_negative};
-use itoa::Buffer;
+use itoa::write_digits;
 use record_layout::{CURRENT_X, CURRENT_Y, FLAGS, Layout, place, wide};
 use record_replay::replay_within;
 use record_run::Replayed;
@@ -28,14 +28,26 @@ pub const RECORD_ROOM: usize = 24608;
 
 // ---- a number
 // Below, `at` is the place where a piece of the text begins, and the answer the place behind it.
+fn count_digits(n: u64) -> usize
+    ensures { result ≡ length (decimal n) }
+{
+    let mut count = 1;
+    let mut rest = n;
+    // Counted by hand: a turn takes a digit off, until one is left.
+    while rest >= 10 {
+        rest /= 10;
+        count += 1;
+    }
+    count
+}
+
+// The digits are laid down in their place, and not copied there: most numbers have few.
 pub fn put_digits(n: u64, text: &mut [u8], at: usize) -> usize
     requires { at + length (decimal n) ≤ length text.old }
     ensures { Put (decimal n) at result text.old text.new }
 {
-    let mut buffer = Buffer::new();
-    let digits = buffer.format(n).as_bytes();
-    let next = at + digits.len();
-    text[at..next].copy_from_slice(digits);
+    let next = at + count_digits(n);
+    write_digits(n, text, next);
     next
 }
 

@@ -17,5 +17,5 @@ each [] = refl
 each (z ∷ l) = ap (λ (b : Bool). is_close z && b) (each l)
 
 pub returns : goal.returns
-returns c = let l = c.args.list.now in
-    all_from_yields_List is_close _ _ c.all.result c.all.ensures.ran (YieldsList-from_slice l cc) (λ x b q k. search (rules, tests)) ∙ each l
+returns c = let l = c.iter.result.rest.now in
+    all_from_yields_List is_close _ _ c.all.result c.all.ensures.ran (YieldsList-from_slice l cc) (λ x b q k. search (rules, tests)) ∙ each l ∙ ap all_close c.iter.ensures.rest
